@@ -1,4 +1,6 @@
 -- The lemmas that more than one function of the crate uses.
+pub mod Laid
+pub mod Carried
 pub mod Origins
 pub mod Heard
 pub mod Lengths

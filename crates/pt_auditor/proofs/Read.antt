@@ -14,7 +14,7 @@ use Rattle.pt_auditor.specs.declared.fault.Why.TheVariants.{Unread, Event, Lette
 use Rattle.pt_auditor.specs.declared.hearing.Hearing.{Hearing}
 use Rattle.pt_auditor.specs.declared.hearing.Verdict.{Verdict}
 use Rattle.pt_auditor.specs.Hearings.{Heard, IsHeard, MayHear, with_event, with_letter}
-use Rattle.pt_auditor.specs.Reading.{without_return, IsEventLine, HistoryLines, IsPlain, joined_lines, OneMore, IsFault, IsRead, LineIsOver, LineGoesOn, IsWhy, IsFaulty, IsWholeText, Concludes, ClosesText}
+use Rattle.pt_auditor.specs.Reading.{without_return, IsEventLine, HistoryLines, IsPlain, joined_lines, OneMore, IsFault, IsRead, LineIsOver, LineGoesOn, IsWhy, IsFaulty, IsWholeText, Concludes, ClosesText, Grows}
 
 -- the line tells an event, or a letter ----------------------------------------------------
 
@@ -130,6 +130,15 @@ why_is t line rest (Letter l x) o f = (o, f)
 why_is t line rest (Over x) o f = (o, f)
 why_is t line rest Long o f = absurd f
 why_is t line rest Memory o f = absurd f
+
+-- the byte by which a line is too long
+pub why_grown : (t : Heard) (line : List ℕ) (b : ℕ) (new rest : List ℕ) (why : Why) → Grows line b new (Err why) → LineGoesOn rest → IsWhy t line rest why
+why_grown t line b new rest Long g o = (g, o)
+why_grown t line b new rest Memory g o = tt
+why_grown t line b new rest (Unread n) g o = absurd g
+why_grown t line b new rest (Event s x) g o = absurd g
+why_grown t line b new rest (Letter l x) g o = absurd g
+why_grown t line b new rest (Over x) g o = absurd g
 
 -- the bytes before and behind a place -----------------------------------------------------
 

@@ -1,19 +1,29 @@
--- Histories that a node can have: each event is of its desk's own processes, over the whole printed history.
-use Rattle.std.specs.Prelude.{◌≡◌, ℕ, ◌+◌, ◌-◌, ◌^◌, ◌<◌, ◌≤◌, ◌==◌, min, nat_lt, nat_le, Bool, true, false, cond, not}
-use Rattle.std.specs.Prelude.{◌&&◌, ◌||◌, ◌⊎◌, Option, Some, None, is_some, List, [], ◌∷◌, length, ⊤}
+-- Histories that a node can have: each event is of its desk's own processes and has the stamp that its desk gives next,
+-- and letters from desk to desk come in order, over the whole printed history.
+use Rattle.std.specs.Prelude.{◌≡◌, ℕ, ◌+◌, ◌-◌, ◌^◌, ◌<◌, ◌≤◌, ◌==◌, min, max, nat_lt, nat_le, Bool, true, false, cond}
+use Rattle.std.specs.Prelude.{not, ◌&&◌, ◌||◌, ◌⊎◌, Option, Some, None, is_some, List, [], ◌∷◌, ◌++◌, drop, length, map}
+use Rattle.std.specs.Prelude.{slice_get, ⊤}
 use Rattle.pt_signal.specs.declared.pid.Pid.{Pid}
 use Rattle.pt_signal.specs.declared.ids.LinkId.{LinkId}
+use Rattle.pt_signal.specs.declared.letter.Letter.{Letter}
 use Rattle.pt_signal.specs.declared.signal.Signal.TheVariants.{Link, Monitor, AliveAsk}
+use Rattle.pt_signal.specs.Process.{Sent}
 use Rattle.pt_events.specs.declared.event.Event.{Event}
 use Rattle.pt_events.specs.declared.event.Event.TheVariants.{Born, Said, Came, Took, Flag, Left, Refused}
 use Rattle.pt_events.specs.declared.event.Stamped.{Stamped}
-use Rattle.pt_signal.specs.declared.config.TheConstants.{MAX_STAMP}
-use Rattle.pt_events.specs.History.{Past, is_living, reason_of}
-use Rattle.pt_events.specs.Journal.{events, IsHome, IsNewAt, IsKnown}
-use Rattle.pt_judge.specs.Judging.{JudgeState, now_is}
+use Rattle.pt_signal.specs.declared.config.TheConstants.{MAX_SLOTS, MAX_STAMP}
+use Rattle.pt_events.specs.History.{Past, flying, is_living, reason_of}
+use Rattle.pt_events.specs.Journal.{events, letter, IsHome, IsNewAt, IsKnown}
+use Rattle.pt_events.specs.Refusals.{stamped_below}
+use Rattle.pt_judge.specs.Judging.{JudgeState, now_is, judge_sends}
+use Rattle.pt_texts.specs.declared.left_over.LeftOver.{LeftOver}
+use Rattle.pt_auditor.specs.declared.desks.Desks.{Desks}
 use Rattle.pt_auditor.specs.declared.foreign.Foreign.{Foreign}
 use Rattle.pt_auditor.specs.declared.foreign.NoNode.{NoNode}
-use Rattle.pt_auditor.specs.declared.foreign.NoNode.TheVariants.{Desk, Stamp, OtherDesk, OtherId, Version, Unborn}
+use Rattle.pt_auditor.specs.declared.foreign.NoNode.TheVariants.{Desk, Stamp, Slot, OtherDesk, OtherId, Version, Unborn}
+use Rattle.pt_auditor.specs.declared.foreign.NoNode.TheVariants.{Overtakes, OtherStamp}
+use Rattle.pt_auditor.specs.Lanes.{Laid, letters_laid, is_lane, stamp_noted, goes_between, letters_flying}
+use Rattle.pt_auditor.specs.Lanes.{letters_still, lane, IsFirstInLane, clock_of}
 
 -- what a node's journals promise of an event ------------------------------------------------
 
@@ -28,6 +38,11 @@ IsNodeDesk s = (s.desk < 64) × IsToDesk s.event
 abbrev pub IsNodeStamp : ℕ → Type 0
 IsNodeStamp n = (0 < n) × (n ≤ MAX_STAMP)
 
+-- a node's slots are from 0 on
+abbrev pub IsNodeSlot : Event → Type 0
+IsNodeSlot (Born p parent link) = p.slot < MAX_SLOTS
+IsNodeSlot _ = ⊤
+
 -- how many versions a slot may have is not printed: a newborn's own is not too high
 abbrev pub top_of : Event → ℕ
 top_of (Born p parent link) = p.version
@@ -41,51 +56,123 @@ abbrev pub is_newborn : Event → Bool
 is_newborn (Born p parent link) = true
 is_newborn _ = false
 
--- a node can print the event next
-pub record IsFromNode (past : Past) (s : Stamped) : Type 0 where
+-- letters come from desk to desk in the order of their sending
+abbrev pub ComesInOrder : List Stamped → Event → Type 0
+ComesInOrder past (Came a b x) = IsFirstInLane a b (letters_flying past)
+ComesInOrder past _ = ⊤
+
+-- the stamp is next to the greatest one, if there is one
+abbrev pub IsNextStamp : List Stamped → ℕ → Type 0
+IsNextStamp [] n = ⊤
+IsNextStamp (s ∷ past) n = n ≡ s.stamp + 1
+
+-- all clocks may have stood just below stamp n, where these are the events with lower stamps: the node was opened there,
+-- or it was resumed there at the greatest stamp, with nothing on its way
+pub record IsStillBelow (low : List Stamped) (n : ℕ) : Type 0 where
+  pub still : flying [] (events low) ≡ []
+  pub next : IsNextStamp low n
+
+abbrev pub MayBegin : List Stamped → ℕ → Type 0
+MayBegin past n = IsStillBelow (stamped_below n past) n
+
+-- The stamp is the one that the desk gives: a receipt's is above the clock and the letter's, and any other's is next to
+-- the clock, but for a refused call's, which is above the stamp of an end as well.
+abbrev pub IsInTime : List Stamped → ℕ → ℕ → Event → Type 0
+IsInTime past d n (Came a b x) =
+    (l : Letter) → slice_get (lane a.shard b.shard (letters_flying past)) 0 ≡ Some l
+    → n ≡ max (clock_of d past) l.stamp + 1
+IsInTime past d n (Refused a b) = ⊤
+IsInTime past d n _ = (n ≡ clock_of d past + 1) ⊎ MayBegin past n
+
+-- what an event is alone
+pub record IsNamedByNode (s : Stamped) : Type 0 where
   pub desk : IsNodeDesk s
   pub stamp : IsNodeStamp s.stamp
+  pub slot : IsNodeSlot s.event
   pub home : IsHome s.desk s.event
   pub new_at : IsNewAt s.desk s.stamp s.event
-  pub known : IsKnownHere past s
+
+-- a node can print the event next
+pub record IsFromNode (past : List Stamped) (s : Stamped) : Type 0 where
+  pub named : IsNamedByNode s
+  pub known : IsKnownHere (events past) s
+  pub order : ComesInOrder past s.event
+  pub time : IsInTime past s.desk s.stamp s.event
 
 -- why it cannot: the first of these that holds, in this order
-abbrev pub IsNoNode : Past → Stamped → NoNode → Type 0
+abbrev pub IsNoNode : List Stamped → Stamped → NoNode → Type 0
 IsNoNode past s Desk = ¬ IsNodeDesk s
 IsNoNode past s Stamp = IsNodeDesk s × ¬ IsNodeStamp s.stamp
-IsNoNode past s OtherDesk = IsNodeDesk s × IsNodeStamp s.stamp × ¬ IsHome s.desk s.event
+IsNoNode past s Slot = IsNodeDesk s × IsNodeStamp s.stamp × ¬ IsNodeSlot s.event
+IsNoNode past s OtherDesk = IsNodeDesk s × IsNodeStamp s.stamp × IsNodeSlot s.event × ¬ IsHome s.desk s.event
 IsNoNode past s OtherId =
-    IsNodeDesk s × IsNodeStamp s.stamp × IsHome s.desk s.event × ¬ IsNewAt s.desk s.stamp s.event
-IsNoNode past s Version =
-    IsNodeDesk s × IsNodeStamp s.stamp × IsHome s.desk s.event × IsNewAt s.desk s.stamp s.event
-    × (is_newborn s.event ≡ true) × ¬ IsKnownHere past s
-IsNoNode past s Unborn =
-    IsNodeDesk s × IsNodeStamp s.stamp × IsHome s.desk s.event × IsNewAt s.desk s.stamp s.event
-    × (is_newborn s.event ≡ false) × ¬ IsKnownHere past s
+    IsNodeDesk s × IsNodeStamp s.stamp × IsNodeSlot s.event × IsHome s.desk s.event
+    × ¬ IsNewAt s.desk s.stamp s.event
+IsNoNode past s Version = IsNamedByNode s × (is_newborn s.event ≡ true) × ¬ IsKnownHere (events past) s
+IsNoNode past s Unborn = IsNamedByNode s × (is_newborn s.event ≡ false) × ¬ IsKnownHere (events past) s
+IsNoNode past s Overtakes = IsNamedByNode s × IsKnownHere (events past) s × ¬ ComesInOrder past s.event
+IsNoNode past s OtherStamp =
+    IsNamedByNode s × IsKnownHere (events past) s × ComesInOrder past s.event
+    × ¬ IsInTime past s.desk s.stamp s.event
 
-abbrev pub IsJudgedForeign : Past → Stamped → Option NoNode → Type 0
+abbrev pub IsJudgedForeign : List Stamped → Stamped → Option NoNode → Type 0
 IsJudgedForeign past s None = IsFromNode past s
 IsJudgedForeign past s (Some why) = IsNoNode past s why
 
--- of a whole history, the newest event first ------------------------------------------------
+-- a letter left over has the stamp of its sending, and is the oldest of those from its one desk to the other
+abbrev pub HasItsStamp : List Letter → LeftOver → Type 0
+HasItsStamp letters l =
+    (m : Letter) → slice_get (lane l.letter.from.shard l.letter.to.shard letters) 0 ≡ Some m
+    → l.letter.stamp ≡ m.stamp
+
+pub record IsLeftByNode (letters : List Letter) (l : LeftOver) : Type 0 where
+  pub order : IsFirstInLane l.letter.from l.letter.to letters
+  pub stamp : HasItsStamp letters l
+
+abbrev pub IsNoLeft : List Letter → LeftOver → NoNode → Type 0
+IsNoLeft letters l Overtakes = ¬ IsFirstInLane l.letter.from l.letter.to letters
+IsNoLeft letters l OtherStamp = IsFirstInLane l.letter.from l.letter.to letters × ¬ HasItsStamp letters l
+IsNoLeft letters l _ = ⊥
+
+abbrev pub IsJudgedLeft : List Letter → LeftOver → Option NoNode → Type 0
+IsJudgedLeft letters l None = IsLeftByNode letters l
+IsJudgedLeft letters l (Some why) = IsNoLeft letters l why
+
+-- of a whole history, the newest event and the last letter first ------------------------------
 
 abbrev pub AllFromNode : List Stamped → Type 0
 AllFromNode [] = ⊤
-AllFromNode (s ∷ past) = IsFromNode (events past) s × AllFromNode past
+AllFromNode (s ∷ past) = IsFromNode past s × AllFromNode past
+
+abbrev pub AllLeftByNode : List Letter → List LeftOver → Type 0
+AllLeftByNode letters [] = ⊤
+AllLeftByNode letters (l ∷ left) = IsLeftByNode (letters_still letters left) l × AllLeftByNode letters left
 
 -- this is its first event that no node prints
 abbrev pub IsFirstForeign : List Stamped → Foreign → Type 0
 IsFirstForeign [] f = ⊥
 IsFirstForeign (s ∷ past) f =
-    IsFirstForeign past f
-    ⊎ (AllFromNode past × (f.line ≡ min (length past + 1) (2 ^ 64 - 1)) × IsNoNode (events past) s f.why)
+    IsFirstForeign past f ⊎ (AllFromNode past × (f.line ≡ min (length past + 1) (2 ^ 64 - 1)) × IsNoNode past s f.why)
 
--- a node can have printed the history, or the first event is named that none prints
-abbrev pub IsOrigin : List Stamped → Option Foreign → Type 0
-IsOrigin past None = AllFromNode past
-IsOrigin past (Some f) = IsFirstForeign past f
+-- this is its first letter left over that no node prints
+abbrev pub IsFirstLeft : List Stamped → List LeftOver → Foreign → Type 0
+IsFirstLeft past [] f = ⊥
+IsFirstLeft past (l ∷ left) f =
+    IsFirstLeft past left f
+    ⊎ (AllLeftByNode (letters_flying past) left × (f.line ≡ min (length past + length left + 1) (2 ^ 64 - 1))
+    × IsNoLeft (letters_still (letters_flying past) left) l f.why)
+
+-- a node can have printed the history, or the first line is named that none prints
+abbrev pub IsOrigin : List Stamped → List LeftOver → Option Foreign → Type 0
+IsOrigin past left None = AllFromNode past × AllLeftByNode (letters_flying past) left
+IsOrigin past left (Some f) = IsFirstForeign past f ⊎ (AllFromNode past × IsFirstLeft past left f)
 
 -- by tests ------------------------------------------------------------------------------------
+
+-- a test tells whether a fact holds
+abbrev pub Decides : Bool → Type 0 → Type 0
+Decides true P = P
+Decides false P = ¬ P
 
 abbrev pub is_to_desk : Event → Bool
 is_to_desk (Said a b x) = nat_lt b.shard 64
@@ -96,6 +183,10 @@ is_node_desk s = nat_lt s.desk 64 && is_to_desk s.event
 
 abbrev pub is_node_stamp : ℕ → Bool
 is_node_stamp n = nat_lt 0 n && nat_le n MAX_STAMP
+
+abbrev pub is_node_slot : Event → Bool
+is_node_slot (Born p parent link) = nat_lt p.slot MAX_SLOTS
+is_node_slot _ = true
 
 abbrev pub is_home : ℕ → Event → Bool
 is_home d (Born p None link) = p.shard == d
@@ -142,13 +233,83 @@ first_foreign (Some f) why n = Some f
 first_foreign None (Some why) n = Some (record { line = n; why = why })
 first_foreign None None n = None
 
-abbrev pub no_node : JudgeState → Stamped → Option NoNode
-no_node k s =
+-- the desks' first letter in the lane
+abbrev pub first_laid : Desks → Pid → Pid → Option Letter
+first_laid k a b = slice_get (letters_laid k.lanes a.shard b.shard) 0
+
+abbrev pub is_between_them : Pid → Pid → Option Letter → Bool
+is_between_them a b None = false
+is_between_them a b (Some l) = goes_between a b l
+
+abbrev pub is_in_order : Desks → Event → Bool
+is_in_order k (Came a b x) = is_between_them a b (first_laid k a b)
+is_in_order k _ = true
+
+abbrev pub is_begin : ℕ → ℕ → Bool
+is_begin newest n = (newest == 0) || (newest + 1 == n)
+
+abbrev pub may_begin : Desks → JudgeState → ℕ → Bool
+may_begin k j n = cond (n == k.newest) k.begun ((length j.flights == 0) && is_begin k.newest n)
+
+abbrev pub is_above_both : ℕ → ℕ → Option Letter → Bool
+is_above_both clock n None = true
+is_above_both clock n (Some l) = n == max clock l.stamp + 1
+
+abbrev pub is_in_time : Desks → JudgeState → ℕ → ℕ → Event → Bool
+is_in_time k j d n (Came a b x) = is_above_both (stamp_noted k.clocks d) n (first_laid k a b)
+is_in_time k j d n (Refused a b) = true
+is_in_time k j d n _ = (n == stamp_noted k.clocks d + 1) || may_begin k j n
+
+abbrev pub no_place : Desks → JudgeState → Stamped → Option NoNode
+no_place k j s =
+    cond (is_in_turn j s.event)
+    (cond (is_known j s.desk s.event)
+    (cond (is_in_order k s.event)
+    (cond (is_in_time k j s.desk s.stamp s.event) None (Some OtherStamp)) (Some Overtakes))
+    (Some Unborn))
+    (Some Version)
+
+abbrev pub no_name : Stamped → Option NoNode
+no_name s =
     cond (is_node_desk s)
     (cond (is_node_stamp s.stamp)
-    (cond (is_home s.desk s.event)
-    (cond (is_new_at s.desk s.stamp s.event)
-    (cond (is_in_turn k s.event) (cond (is_known k s.desk s.event) None (Some Unborn)) (Some Version)) (Some OtherId))
-    (Some OtherDesk))
+    (cond (is_node_slot s.event)
+    (cond (is_home s.desk s.event) (cond (is_new_at s.desk s.stamp s.event) None (Some OtherId)) (Some OtherDesk))
+    (Some Slot))
     (Some Stamp))
     (Some Desk)
+
+abbrev pub first_reason : Option NoNode → Option NoNode → Option NoNode
+first_reason None why = why
+first_reason (Some why) _ = Some why
+
+abbrev pub no_node : Desks → JudgeState → Stamped → Option NoNode
+no_node k j s = first_reason (no_name s) (no_place k j s)
+
+abbrev pub has_its_stamp : ℕ → Option Letter → Bool
+has_its_stamp n None = true
+has_its_stamp n (Some l) = n == l.stamp
+
+abbrev pub no_left : Desks → LeftOver → Option NoNode
+no_left k l =
+    cond (is_between_them l.letter.from l.letter.to (first_laid k l.letter.from l.letter.to))
+    (cond (has_its_stamp l.letter.stamp (first_laid k l.letter.from l.letter.to)) None (Some OtherStamp))
+    (Some Overtakes)
+
+-- what the desks have after one event more ------------------------------------------------------
+
+abbrev pub landed_laid : Event → Laid → ℕ → ℕ → List Letter
+landed_laid (Came a b x) laid d e =
+    cond (is_lane a.shard b.shard (d, e)) (drop 1 (letters_laid laid a.shard b.shard)) (letters_laid laid d e)
+landed_laid _ laid d e = letters_laid laid d e
+
+-- what came is on its way no more, and what the event sends is
+abbrev pub IsCarried : ℕ → Event → List Sent → Laid → Laid → Type 0
+IsCarried n event sent old new =
+    (d e : ℕ) → letters_laid new d e ≡ landed_laid event old d e ++ lane d e (map (letter n) sent)
+
+pub record IsMovedOn (j : JudgeState) (lived begun : Bool) (s : Stamped) (old new : Desks) : Type 0 where
+  pub lanes : IsCarried s.stamp s.event (judge_sends j.lives lived s.event) old.lanes new.lanes
+  pub clocks : (d : ℕ) → stamp_noted new.clocks d ≡ cond (s.desk == d) s.stamp (stamp_noted old.clocks d)
+  pub newest : new.newest ≡ s.stamp
+  pub begun_is : new.begun ≡ begun

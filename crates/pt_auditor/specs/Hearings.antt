@@ -1,15 +1,15 @@
 -- What was heard of a history, and what may be heard next.
 use Rattle.std.specs.Prelude.{◌≡◌, ℕ, ◌+◌, ◌-◌, ◌^◌, ◌==◌, min, max, nat_lt, Bool, true, false, ◌&&◌, ◌||◌, Option}
-use Rattle.std.specs.Prelude.{Some, None, List, [], ◌∷◌, length, slice_get, Result, Ok, Err, ⊤}
+use Rattle.std.specs.Prelude.{Some, None, List, [], ◌∷◌, drop, length, slice_get, Result, Ok, Err, ⊤}
 use Rattle.std.specs.List.{find}
 use Rattle.std.specs.Option.{option_map}
 use Rattle.pt_signal.specs.declared.pid.Pid.{Pid}
 use Rattle.pt_signal.specs.Values.{without_first}
 use Rattle.pt_signal.specs.Process.{Sent, sent}
 use Rattle.pt_events.specs.declared.event.Stamped.{Stamped}
-use Rattle.pt_events.specs.Journal.{events}
-use Rattle.pt_events.specs.History.{May, IsLegal, flying, is_between}
-use Rattle.pt_judge.specs.Judging.{known_after}
+use Rattle.pt_events.specs.Journal.{events, clock}
+use Rattle.pt_events.specs.History.{Past, May, IsLegal, flying, is_between}
+use Rattle.pt_judge.specs.Judging.{JudgeState, IsStep, known_after, lived}
 use Rattle.pt_judge.specs.Judge.{IsCause, IsAfter}
 use Rattle.pt_texts.specs.declared.left_over.LeftOver.{LeftOver}
 use Rattle.pt_auditor.specs.declared.objection.Objection.{Objection}
@@ -18,7 +18,10 @@ use Rattle.pt_auditor.specs.declared.objection.Objection.TheVariants.{Untold, Me
 use Rattle.pt_auditor.specs.declared.hearing.Hearing.{Hearing}
 use Rattle.pt_auditor.specs.declared.hearing.Verdict.{Verdict}
 use Rattle.pt_auditor.specs.Objecting.{contradiction}
-use Rattle.pt_auditor.specs.Foreigners.{IsOrigin}
+use Rattle.pt_auditor.specs.declared.desks.Desks.{Desks}
+use Rattle.pt_auditor.specs.declared.foreign.Foreign.{Foreign}
+use Rattle.pt_auditor.specs.Lanes.{IsLaid, letters_laid, letters_flying, letters_still, lane, clock_of, stamp_noted}
+use Rattle.pt_auditor.specs.Foreigners.{IsOrigin, MayBegin, Decides, IsMovedOn, first_foreign, no_left, may_begin}
 
 -- the events, the newest first, and the letters left over, the last told first
 pub record Heard : Type 0 where
@@ -79,6 +82,18 @@ pub record IsStanding (t : Heard) : Type 0 where
   pub rising : EventsAreRising t.events
   pub told : LettersAreTold (left_flying t.events) t.left
 
+-- the test tells whether all clocks may have stood just below the newest event's stamp before its first event
+abbrev pub TellsBegin : List Stamped → Bool → Type 0
+TellsBegin [] b = ⊤
+TellsBegin (s ∷ past) b = Decides b (MayBegin past s.stamp)
+
+-- the desks of a node have this after the events, where these letters left over were told of
+pub record IsNodeAfter (past : List Stamped) (left : List LeftOver) (k : Desks) : Type 0 where
+  pub lanes : (d e : ℕ) → letters_laid k.lanes d e ≡ lane d e (letters_still (letters_flying past) left)
+  pub clocks : (d : ℕ) → stamp_noted k.clocks d ≡ clock_of d past
+  pub newest : k.newest ≡ clock 0 past
+  pub begun : TellsBegin past k.begun
+
 -- the hearing heard this, and it may be as it is
 pub record IsHeard (t : Heard) (h : Hearing) : Type 0 where
   pub stands : IsStanding t
@@ -89,7 +104,8 @@ pub record IsHeard (t : Heard) (h : Hearing) : Type 0 where
   pub count : h.events ≡ capped_count (length t.events)
   pub desks : h.desks ≡ desks_of t.events
   pub letters : h.letters ≡ capped_count (length t.left)
-  pub origin : IsOrigin t.events h.foreign
+  pub origin : IsOrigin t.events t.left h.foreign
+  pub node : h.foreign ≡ None → IsNodeAfter t.events t.left h.node
 
 -- the event may be heard next: no letter was told of, it is above the event before, and it may come
 abbrev pub MayHear : Heard → Stamped → Type 0
@@ -131,12 +147,12 @@ abbrev pub TellsLetter : Heard → LeftOver → Result Hearing Objection → Typ
 TellsLetter t l (Ok h) = IsHeard (with_letter l t) h
 TellsLetter t l (Err o) = IsMisfit t l o
 
--- the counts of what was heard, and the first event that no node prints, if there is one
+-- the counts of what was heard, and the first line that no node prints, if there is one
 pub record IsVerdict (t : Heard) (v : Verdict) : Type 0 where
   pub events : v.events ≡ capped_count (length t.events)
   pub desks : v.desks ≡ desks_of t.events
   pub letters : v.letters ≡ capped_count (length t.left)
-  pub origin : IsOrigin t.events v.foreign
+  pub origin : IsOrigin t.events t.left v.foreign
 
 -- the letters told of are all that is on its way
 abbrev pub AllTold : Heard → Type 0
@@ -160,10 +176,22 @@ abbrev pub Objects : Heard → Stamped → Option Objection → Type 0
 Objects t s None = MayHear t s
 Objects t s (Some o) = IsObjection t s o
 
-pub record IsWithout (a b : Pid) (old new : Hearing) : Type 0 where
-  pub state : new.state ≡ record old.state { flights = without_first (is_between a b) old.state.flights }
+pub record IsWithout (l : LeftOver) (old new : Hearing) : Type 0 where
+  pub state : new.state
+      ≡ record old.state { flights = without_first (is_between l.letter.from l.letter.to) old.state.flights }
   pub last : new.last ≡ old.last
   pub count : new.events ≡ old.events
   pub desks : new.desks ≡ old.desks
   pub letters : new.letters ≡ min (old.letters + 1) (2 ^ 64 - 1)
-  pub foreign : new.foreign ≡ old.foreign
+  pub lanes : IsLaid l.letter.from.shard l.letter.to.shard
+      (drop 1 (letters_laid old.node.lanes l.letter.from.shard l.letter.to.shard)) old.node.lanes new.node.lanes
+  pub node : new.node ≡ record old.node { lanes = new.node.lanes }
+  pub foreign : new.foreign
+      ≡ first_foreign old.foreign (no_left old.node l) (min (min (old.events + old.letters) (2 ^ 64 - 1) + 1) (2 ^ 64 - 1))
+
+-- the state and the desks after an event that may come; of the desks only where a node prints it
+pub record IsAfterEvent (is_of_node : Bool) (s : Stamped) (old : JudgeState) (k : Desks) (new : JudgeState) (m : Desks)
+    : Type 0 where
+  pub step : IsStep old s.event new
+  pub goes_on : (past : Past) → IsAfter [] past old → IsAfter [] (s.event ∷ past) new
+  pub node : is_of_node ≡ true → IsMovedOn new (lived old.lives s.event) (may_begin k old s.stamp) s k m

@@ -1,5 +1,6 @@
 pub mod Foreigners
 pub mod Hearings
+pub mod Lanes
 pub mod Laws
 pub mod Objecting
 pub mod Reading

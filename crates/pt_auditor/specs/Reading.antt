@@ -123,6 +123,13 @@ pub record IsFaulty (text : List ℕ) (f : Fault) : Type 0 where
   pub stands : IsStanding heard
   pub why : IsWhy heard line rest f.why
 
+-- the open line has the byte behind it; or it has the most bytes, or memory is wanting
+abbrev pub Grows : List ℕ → ℕ → List ℕ → Result (Unit {0}) Why → Type 0
+Grows old byte new (Ok u) = new ≡ old ++ byte ∷ []
+Grows old byte new (Err Long) = length old ≡ MOST_LINE
+Grows old byte new (Err Memory) = ⊤
+Grows old byte new (Err why) = ⊥
+
 abbrev pub AuditReads : List ℕ → List ℕ → Result Audit Fault → Type 0
 AuditReads text bytes (Ok a) = (u : Heard) × IsRead (text ++ bytes) u a.hearing a.line.items a.lines
 AuditReads text bytes (Err f) = IsFaulty (text ++ bytes) f

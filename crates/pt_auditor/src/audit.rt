@@ -2,7 +2,7 @@
 
 ghost use Rattle.std.specs.Prelude.{◌≡◌, ℕ, ◌+◌, ◌-◌, ◌^◌, [], List, min};
 ghost use Rattle.pt_auditor.specs.Hearings.{Heard, IsHeard};
-ghost use Rattle.pt_auditor.specs.Reading.{IsRead, AuditReads, ClosesText, Concludes};
+ghost use Rattle.pt_auditor.specs.Reading.{IsRead, AuditReads, ClosesText, Concludes, Grows};
 
 use crate::line::hear_line;
 use crate::{Fault, Hearing, MOST_LINE, Verdict, Why};
@@ -37,6 +37,20 @@ fn conclude(hearing: Hearing, lines: u64) -> Result<Verdict, Fault>
             why: Why::Over(objection),
         }),
     }
+}
+
+/// The open line has one byte more.
+fn grow(line: &mut Vec<u8>, byte: u8) -> Result<(), Why>
+    ensures { Grows line.old.items byte line.new.items result }
+{
+    let open = line.as_slice();
+    if open.len() == MOST_LINE {
+        return Err(Why::Long);
+    }
+    if line.push(byte).is_err() {
+        return Err(Why::Memory);
+    }
+    Ok(())
 }
 
 /// The fault of the line after so many lines. The hearing is dropped.
@@ -88,12 +102,8 @@ impl Audit {
                 lines = one_more(lines);
                 continue;
             }
-            let open = line.as_slice();
-            if open.len() == MOST_LINE {
-                return Err(stop(hearing, lines, Why::Long));
-            }
-            if line.push(byte).is_err() {
-                return Err(stop(hearing, lines, Why::Memory));
+            if let Err(why) = grow(&mut line, byte) {
+                return Err(stop(hearing, lines, why));
             }
         }
         Ok(Audit {

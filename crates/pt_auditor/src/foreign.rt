@@ -1,21 +1,27 @@
-//! Why no node prints an event that a history may have.
+//! Why no node prints an event, or a letter left over, that a history may have.
 
-ghost use Rattle.std.specs.Prelude.{◌≡◌};
-ghost use Rattle.pt_auditor.specs.Foreigners.{is_node_desk, is_node_stamp, is_home, is_new_at, is_next_version};
-ghost use Rattle.pt_auditor.specs.Foreigners.{is_in_turn, is_known, no_node, was_born};
+ghost use Rattle.std.specs.Prelude.{◌≡◌, ◌+◌, ◌==◌};
+ghost use Rattle.pt_auditor.specs.Foreigners.{is_node_desk, is_node_stamp, is_node_slot, is_home, is_new_at};
+ghost use Rattle.pt_auditor.specs.Foreigners.{is_next_version, is_in_turn, is_known, no_node, was_born, no_name, no_place};
+ghost use Rattle.pt_auditor.specs.Foreigners.{is_between_them, is_in_order, is_above_both, is_in_time, has_its_stamp, no_left};
 
+use crate::desks::Desks;
 use pt_events::{Event, MAX_STAMP, Stamped};
 use pt_judge::State;
-use pt_signal::{LinkId, Pid, Ref, Signal};
+use pt_signal::{Letter, LinkId, MAX_SLOTS, Pid, Ref, Signal};
+use pt_texts::LeftOver;
 
-/// Why no node prints an event that may come next. A node's desks write only the events of their own processes, with
-/// ids and references that are their desk and their stamp.
+/// Why no node prints an event that may come next, or a letter left over. A node's desks write only the events of their
+/// own processes, with ids and references that are their desk and their stamp. Letters from one desk to another come in
+/// order.
 #[derive(Clone, Copy, Debug, PartialEq, Eq)]
 pub enum NoNode {
     /// The desk of the event, or of a receiver, is above 63.
     Desk,
     /// The stamp is 0, or above [`MAX_STAMP`].
     Stamp,
+    /// The slot of the new process is above 65,535.
+    Slot,
     /// The process of the event, or its parent, is of another desk than the event.
     OtherDesk,
     /// The new id of a link, or the new reference, is not the desk and the stamp of the event.
@@ -24,6 +30,10 @@ pub enum NoNode {
     Version,
     /// The receiver is of the sender's desk, and was never spawned.
     Unborn,
+    /// The letter is not the oldest in flight from its sender's desk to its receiver's.
+    Overtakes,
+    /// The event has another stamp than its desk gives next, or the letter left over has another one than its sending.
+    OtherStamp,
 }
 
 /// The first line that no node prints.
@@ -49,6 +59,16 @@ fn is_node_stamp(stamp: u64) -> bool
     ensures { result ≡ is_node_stamp stamp }
 {
     0 < stamp && stamp <= MAX_STAMP
+}
+
+/// Whether the new process's slot is among those that a node may have.
+fn is_node_slot(event: Event) -> bool
+    ensures { result ≡ is_node_slot event }
+{
+    match event {
+        Event::Born(pid, _, _) => pid.slot < MAX_SLOTS,
+        _ => true,
+    }
 }
 
 /// Whether the process of the event, and its parent, are of the desk.
@@ -120,9 +140,60 @@ fn is_in_turn(state: &State, event: Event) -> bool
     }
 }
 
-/// Why no node prints this event next, if none does: the first reason that holds.
-pub(crate) fn no_node(state: &State, stamped: Stamped) -> Option<NoNode>
-    ensures { result ≡ no_node state.now stamped }
+/// Whether the letter is from the one to the other.
+fn is_between_them(from: Pid, to: Pid, letter: Option<Letter>) -> bool
+    ensures { result ≡ is_between_them from to letter }
+{
+    match letter {
+        Some(letter) => from == letter.from && to == letter.to,
+        None => false,
+    }
+}
+
+/// Whether what came is the oldest letter from the one desk to the other.
+fn is_in_order(desks: &Desks, event: Event) -> bool
+    ensures { result ≡ is_in_order desks.now event }
+{
+    match event {
+        Event::Came(from, to, _) => is_between_them(from, to, desks.first(from, to)),
+        _ => true,
+    }
+}
+
+/// Whether the stamp of a receipt is next to the greater one of the clock and the letter's stamp.
+fn is_above_both(clock: u64, stamp: u64, letter: Option<Letter>) -> bool
+    ensures { result ≡ is_above_both clock stamp letter }
+{
+    match letter {
+        Some(letter) => is_next(clock.max(letter.stamp), stamp),
+        None => true,
+    }
+}
+
+/// Whether the one stamp is next to the other.
+fn is_next(stamp: u64, next: u64) -> bool
+    ensures { result ≡ (next == stamp + 1) }
+{
+    stamp < next && next - stamp == 1
+}
+
+/// Whether the event has a stamp that its desk can give.
+fn is_in_time(desks: &Desks, state: &State, stamped: Stamped) -> bool
+    ensures { result ≡ is_in_time desks.now state.now stamped.desk stamped.stamp stamped.event }
+{
+    let Stamped { stamp, desk, event } = stamped;
+    match event {
+        Event::Came(from, to, _) => {
+            is_above_both(desks.clock(desk), stamp, desks.first(from, to))
+        }
+        Event::Refused(_, _) => true,
+        _ => is_next(desks.clock(desk), stamp) || desks.may_begin(state, stamp),
+    }
+}
+
+/// Why no node prints the event anywhere, if none does: the first reason that holds.
+fn no_name(stamped: Stamped) -> Option<NoNode>
+    ensures { result ≡ no_name stamped }
 {
     let Stamped { stamp, desk, event } = stamped;
     if !is_node_desk(stamped) {
@@ -131,17 +202,69 @@ pub(crate) fn no_node(state: &State, stamped: Stamped) -> Option<NoNode>
     if !is_node_stamp(stamp) {
         return Some(NoNode::Stamp);
     }
+    if !is_node_slot(event) {
+        return Some(NoNode::Slot);
+    }
     if !is_home(desk, event) {
         return Some(NoNode::OtherDesk);
     }
     if !is_new_at(desk, stamp, event) {
         return Some(NoNode::OtherId);
     }
+    None
+}
+
+/// Why no node prints the event next, if none does: the first reason of those about the events before it.
+fn no_place(desks: &Desks, state: &State, stamped: Stamped) -> Option<NoNode>
+    ensures { result ≡ no_place desks.now state.now stamped }
+{
+    let Stamped { desk, event, .. } = stamped;
     if !is_in_turn(state, event) {
         return Some(NoNode::Version);
     }
     if !is_known(state, desk, event) {
         return Some(NoNode::Unborn);
+    }
+    if !is_in_order(desks, event) {
+        return Some(NoNode::Overtakes);
+    }
+    if !is_in_time(desks, state, stamped) {
+        return Some(NoNode::OtherStamp);
+    }
+    None
+}
+
+/// Why no node prints the event next, if none does: the first reason that holds.
+pub(crate) fn no_node(desks: &Desks, state: &State, stamped: Stamped) -> Option<NoNode>
+    ensures { result ≡ no_node desks.now state.now stamped }
+{
+    match no_name(stamped) {
+        Some(why) => Some(why),
+        None => no_place(desks, state, stamped),
+    }
+}
+
+/// Whether the stamp is the letter's.
+fn has_its_stamp(stamp: u64, letter: Option<Letter>) -> bool
+    ensures { result ≡ has_its_stamp stamp letter }
+{
+    match letter {
+        Some(letter) => stamp == letter.stamp,
+        None => true,
+    }
+}
+
+/// Why no node prints the letter left over next, if none does: the first reason that holds.
+pub(crate) fn no_left(desks: &Desks, left: LeftOver) -> Option<NoNode>
+    ensures { result ≡ no_left desks.now left }
+{
+    let letter = left.letter;
+    let first = desks.first(letter.from, letter.to);
+    if !is_between_them(letter.from, letter.to, first) {
+        return Some(NoNode::Overtakes);
+    }
+    if !has_its_stamp(letter.stamp, first) {
+        return Some(NoNode::OtherStamp);
     }
     None
 }

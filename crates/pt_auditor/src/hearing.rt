@@ -1,21 +1,23 @@
 //! A history read event by event.
 
-ghost use Rattle.std.specs.Prelude.{◌≡◌, ◌+◌, ◌-◌, ◌^◌, [], None, min, max, slice_get};
+ghost use Rattle.std.specs.Prelude.{◌≡◌, ◌+◌, ◌-◌, ◌^◌, [], None, IfOk, min, max, slice_get};
 ghost use Rattle.std.specs.Map.{keys_of};
 ghost use Rattle.std.specs.Option.{option_map};
 ghost use Rattle.pt_judge.specs.Judging.{cause, known_state, now_is};
 ghost use Rattle.pt_auditor.specs.Hearings.{Heard, IsHeard, Hears, TellsLetter, EndsHearing, IsSunk, IsWithout, Objects, follows};
-ghost use Rattle.pt_auditor.specs.Foreigners.{first_foreign, no_node, IsOrigin};
+ghost use Rattle.pt_auditor.specs.Hearings.{IsAfterEvent};
+ghost use Rattle.pt_auditor.specs.Foreigners.{first_foreign, no_node, no_left, IsOrigin};
 ghost use Rattle.pt_auditor.specs.Standings.{StandingIsTrue, standing_of, waiting_of};
 
 use crate::against::contradiction;
-use crate::foreign::no_node;
-use crate::{Foreign, Objection, Standing};
+use crate::desks::{Desks, lived};
+use crate::foreign::{no_left, no_node};
+use crate::{Foreign, NoNode, Objection, Standing};
 use pt_events::{Event, Stamped};
 use pt_judge::State;
 use pt_signal::{Letter, Pid};
 use pt_texts::LeftOver;
-use std::alloc::Global;
+use std::alloc::{AllocError, Global};
 
 /// A history as far as it was read: its events, and then the letters left over.
 ///
@@ -30,7 +32,9 @@ pub struct Hearing {
     /// One more than the greatest desk of an event.
     desks: u16,
     letters: u64,
-    /// The first event that no node prints.
+    /// What the desks of a node have, as long as a node prints the lines.
+    node: Desks,
+    /// The first line that no node prints.
     foreign: Option<Foreign>,
 }
 
@@ -42,7 +46,7 @@ pub struct Verdict {
     pub desks: u16,
     /// The number of letters in flight at the end.
     pub letters: u64,
-    /// The first event that no node prints, if there is one.
+    /// The first line that no node prints, if there is one.
     pub foreign: Option<Foreign>,
 }
 
@@ -104,19 +108,59 @@ fn objection(hearing: &Hearing, stamped: Stamped) -> Option<Objection>
     }
 }
 
-/// The first event that no node prints, if this one is read next.
+/// The first line that no node prints, if this event is read next.
 fn foreign_with(hearing: &Hearing, stamped: Stamped) -> Option<Foreign>
-    ensures { result ≡ first_foreign hearing.now.foreign (no_node hearing.now.state stamped)
+    ensures { result ≡ first_foreign hearing.now.foreign (no_node hearing.now.node hearing.now.state stamped)
         (min (hearing.now.events + 1) (2 ^ 64 - 1)) }
 {
-    match (hearing.foreign, no_node(&hearing.state, stamped)) {
+    let why = no_node(&hearing.node, &hearing.state, stamped);
+    first_foreign(hearing.foreign, why, one_more(hearing.events))
+}
+
+/// The first line that no node prints, if this letter left over is read next.
+fn foreign_left(hearing: &Hearing, left: LeftOver) -> Option<Foreign>
+    ensures { result ≡ first_foreign hearing.now.foreign (no_left hearing.now.node left)
+        (min (min (hearing.now.events + hearing.now.letters) (2 ^ 64 - 1) + 1) (2 ^ 64 - 1)) }
+{
+    let lines = hearing.events.saturating_add(hearing.letters);
+    first_foreign(
+        hearing.foreign,
+        no_left(&hearing.node, left),
+        one_more(lines),
+    )
+}
+
+/// The first line that no node prints, if the next one has this number and maybe a reason.
+fn first_foreign(before: Option<Foreign>, why: Option<NoNode>, line: u64) -> Option<Foreign>
+    ensures { result ≡ first_foreign before why line }
+{
+    match (before, why) {
         (Some(foreign), _) => Some(foreign),
-        (None, Some(why)) => Some(Foreign {
-            line: one_more(hearing.events),
-            why,
-        }),
+        (None, Some(why)) => Some(Foreign { line, why }),
         (None, None) => None,
     }
+}
+
+/// The state, and what the desks of a node have, after an event that may come. If no node prints it, the desks stay as
+/// they are, as nothing reads them after it.
+fn move_on(
+    alloc: Global,
+    state: State,
+    node: Desks,
+    stamped: Stamped,
+    is_of_node: bool,
+) -> Result<(State, Desks), AllocError>
+    requires { cause (known_state state) stamped.event ≡ None }
+    ensures { IfOk result (λ new. IsAfterEvent is_of_node stamped state node new.0 new.1) }
+{
+    let lived = lived(&state, stamped.event);
+    let begun = node.may_begin(&state, stamped.stamp);
+    let state = state.after(alloc, stamped.event)?;
+    if !is_of_node {
+        return Ok((state, node));
+    }
+    let node = node.after(alloc, &state, lived, begun, stamped)?;
+    Ok((state, node))
 }
 
 impl Hearing {
@@ -130,6 +174,7 @@ impl Hearing {
             events: 0,
             desks: 0,
             letters: 0,
+            node: Desks::new(alloc),
             foreign: None,
         }
     }
@@ -153,15 +198,17 @@ impl Hearing {
             state,
             events,
             desks,
+            node,
             ..
         } = self;
-        match state.after(alloc, stamped.event) {
-            Ok(state) => Ok(Hearing {
+        match move_on(alloc, state, node, stamped, foreign.is_none()) {
+            Ok((state, node)) => Ok(Hearing {
                 state,
                 last: Some(stamped),
                 events: one_more(events),
                 desks: desks_with(desks, stamped.desk),
                 letters: 0,
+                node,
                 foreign,
             }),
             Err(_) => Err(Objection::Memory),
@@ -170,7 +217,7 @@ impl Hearing {
 
     /// Reads the next letter left over. Fails with [`Objection::OtherDesks`] if its desks are not those of its sender
     /// and its receiver. Fails with [`Objection::OtherLetter`] if it is not the oldest letter in flight between the two
-    /// that was not read before. Its stamp is not compared: a state keeps none.
+    /// that was not read before.
     pub fn tell(self, left: LeftOver) -> Result<Hearing, Objection>
         ensures { (heard : Heard) → IsHeard heard self → TellsLetter heard left result }
     {
@@ -185,28 +232,33 @@ impl Hearing {
         }
         match self.state.cause(Event::Came(from, to, signal)) {
             Some(_) => Err(Objection::OtherLetter(self.state.oldest(from, to))),
-            None => Ok(self.without_oldest(from, to)),
+            None => Ok(self.without(left)),
         }
     }
 
-    /// Removes the oldest letter in flight between the two.
-    fn without_oldest(self, from: Pid, to: Pid) -> Hearing
-        ensures { IsWithout from to self result }
+    /// Removes a letter left over, the oldest in flight between its two processes.
+    fn without(self, left: LeftOver) -> Hearing
+        ensures { IsWithout left self result }
     {
+        let foreign = foreign_left(&self, left);
+        let Letter { from, to, .. } = left.letter;
         let Hearing {
             state,
             last,
             events,
             desks,
             letters,
-            foreign,
+            mut node,
+            ..
         } = self;
+        node.drop_first(from, to);
         Hearing {
             state: state.without_oldest(from, to),
             last,
             events,
             desks,
             letters: one_more(letters),
+            node,
             foreign,
         }
     }
@@ -241,9 +293,9 @@ impl Hearing {
         }
     }
 
-    /// The first event that no node prints, if one was read.
+    /// The first line that no node prints, if one was read.
     pub fn foreign(&self) -> Option<Foreign>
-        ensures { (heard : Heard) → IsHeard heard self.now → IsOrigin heard.events result }
+        ensures { (heard : Heard) → IsHeard heard self.now → IsOrigin heard.events heard.left result }
     {
         self.foreign
     }

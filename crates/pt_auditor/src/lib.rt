@@ -18,9 +18,12 @@
 //!   read before. (`Hearing::tell`)
 //! - **The verdict.** At the end each letter in flight was read, or the oldest that was not is returned.
 //!   (`Hearing::end`)
-//! - **Of a node.** A verdict names the first event that no node prints, if there is one. Such an event is on another
-//!   desk than its process, or its id is not its desk and stamp, or its version is out of turn. (`Hearing::foreign`,
-//!   `end`)
+//! - **Of a node.** A verdict names the first line that no node prints. Without such a line it names none.
+//!   (`Hearing::foreign`, `end`)
+//! - **Events of a node.** A node prints an event on the desk of its process, with a new id that is its desk and stamp,
+//!   with a slot's versions in turn, and with the stamp that the desk gives next.
+//! - **Letters of a node.** Letters from one desk to another come, and are left over, in the order of their sending.
+//!   Each letter left over has the stamp of its sending.
 //! - **Faults.** A fault names the first line at fault.
 //! - **Short lines.** Each event and each letter left over prints fewer bytes than a line may have.
 //!   (`lines_are_short`)
@@ -31,9 +34,12 @@
 
 mod against;
 mod audit;
+mod clocks;
+mod desks;
 mod fault;
 mod foreign;
 mod hearing;
+mod lanes;
 mod laws;
 mod line;
 mod objection;

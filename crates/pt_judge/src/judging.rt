@@ -10,6 +10,7 @@ mod resumed;
 mod state;
 mod trial;
 
+pub use flights::Flights;
 pub use resumed::Holding;
 pub use state::State;
 pub use trial::{replay, replay_from};

@@ -29,4 +29,4 @@ mod cause;
 mod judging;
 
 pub use cause::Cause;
-pub use judging::{Holding, State, replay, replay_from};
+pub use judging::{Flights, Holding, State, replay, replay_from};

@@ -48,12 +48,12 @@ impl Flight {
     }
 }
 
-/// All signals on their way, in the order in which they were sent.
+/// Signals on their way, in the order in which they were sent.
 ///
 /// Each has a number, above those of all that were sent before it. They stand by number, and the numbers of each two
 /// processes in a queue of their own, so that the oldest of two is found without a look at any other.
 #[derive(Drop)]
-pub(crate) struct Flights {
+pub struct Flights {
     letters: BTreeMap<u64, Flight>,
     queues: Queues,
     /// The number of the next letter.
@@ -106,7 +106,7 @@ impl Flights {
     }
 
     /// The sender, the receiver and the signal of what has been on its way for longest.
-    pub(crate) fn front(&self) -> Option<(Pid, Pid, Signal)>
+    pub fn front(&self) -> Option<(Pid, Pid, Signal)>
         ensures { option_map (λ flight. sent flight.0 flight.1 flight.2) result ≡ slice_get self.now 0 }
     {
         match self.letters.first_key_value() {
@@ -116,7 +116,7 @@ impl Flights {
     }
 
     /// The oldest signal from the one to the other is on its way no more.
-    pub(crate) fn without_oldest(self, from: Pid, to: Pid) -> Flights
+    pub fn without_oldest(self, from: Pid, to: Pid) -> Flights
         ensures { result ≡ without_first (is_between from to) self }
     {
         let Flights {

@@ -14,7 +14,7 @@ ghost use Rattle.pt_events.specs.History.{Start, Past, open_monitors, reason_of,
 ghost use Rattle.pt_events.specs.History.{is_the, is_between, makes_link, makes_ref};
 ghost use Rattle.pt_judge.specs.Judge.{IsAfter, IsJudged};
 ghost use Rattle.pt_judge.specs.Judging.{now_is, known_state, cause, may_say, lacks, unlawful_link, is_item, is_ids};
-ghost use Rattle.pt_judge.specs.Judging.{is_signal, IsHeldBy, IsStep};
+ghost use Rattle.pt_judge.specs.Judging.{is_signal, IsHeldBy, IsStep, judge_sends};
 
 use crate::Cause;
 use crate::judging::flights::Flights;
@@ -209,6 +209,14 @@ impl State {
             Some(held) => first_match(held.waiting(), pick),
             None => None,
         }
+    }
+
+    /// What the event sends, in order, if this is the state after it. `lived` says whether the receiver of what came, or
+    /// the process that exits, was alive before it.
+    pub fn sent(&self, alloc: Global, lived: bool, event: Event) -> Result<Flights, AllocError>
+        ensures { IfOk result (λ flights. flights ≡ judge_sends self.now.lives lived event) }
+    {
+        Flights::new(alloc).dispatched(&self.lives, lived, event)
     }
 
     /// The state without the oldest signal on its way from the one process to the other. So the signals that a

@@ -1,10 +1,9 @@
 -- `Audit::read`: its contract, and its loop over `place`.
-use Rattle.std.proofs.Common.{◌+◌, ◌-◌, ◌^◌, ◌++◌, ◌∙◌, min, take, drop, get_or, refl, sym, subst, ap, length}
+use Rattle.std.proofs.Common.{◌+◌, ◌-◌, ◌^◌, ◌++◌, ◌∙◌, min, take, drop, get_or, refl, sym, subst}
 use Rattle.std.proofs.lemmas.List.{take_all}
 use Rattle.pt_auditor.specs.declared.fault.Fault.{Fault}
-use Rattle.pt_auditor.specs.declared.fault.Why.TheVariants.{Long, Memory}
 use Rattle.pt_auditor.specs.Reading.{without_return, OneMore, IsFault, IsRead, IsFaulty}
-use Rattle.pt_auditor.proofs.Read.{line_over, pushed, faulty, why_is, seam, next_byte, over_at, goes_on_at, plain_byte, pushed_items}
+use Rattle.pt_auditor.proofs.Read.{line_over, pushed, faulty, why_is, why_grown, seam, next_byte, over_at, goes_on_at, plain_byte}
 use Rattle.pt_auditor.proofs.audit.Audit.read.Goals as goal
 
 pub returns-in-Err : goal.returns-in-Err
@@ -32,25 +31,18 @@ loop-place-preserved-then-byte-eq10 c text heard r =
           one.2 c.clear.ensures.items c.one_more-lines.ensures),
     )
 
-pub returns-then-open-eq-MOST_LINE : goal.returns-then-open-eq-MOST_LINE
-returns-then-open-eq-MOST_LINE c text heard r =
+pub returns-in-Err-grow : goal.returns-in-Err-grow
+returns-in-Err-grow c text heard r =
     let now = c.loop-place.invariant text heard r in
     let n = c.loop-place.place in
     let bytes = c.args.bytes.now in
     let b = get_or bytes n 0 in
-    let f : Fault = record { line = min (c.loop-place.lines + 1) (2 ^ 64 - 1); why = Long } in
+    let line = c.loop-place.line.items in
+    let f : Fault = record { line = min (c.loop-place.lines + 1) (2 ^ 64 - 1); why = c.in-Err-grow.why } in
     subst (IsFaulty (text ++ bytes)) (sym c.stop.ensures)
-    (faulty (text ++ take n bytes) now.0 c.loop-place.hearing c.loop-place.line.items c.loop-place.lines now.1 (text ++ bytes) (drop n bytes) f (seam text bytes n) refl
-    (sym (ap length c.as_slice-open.ensures.value) ∙ c.if-open-eq-MOST_LINE.true, goes_on_at text bytes n b c.loop-place-test.true refl (plain_byte b c.if-byte-eq10.false)))
-
-pub returns-then-is_err : goal.returns-then-is_err
-returns-then-is_err c text heard r =
-    let now = c.loop-place.invariant text heard r in
-    let n = c.loop-place.place in
-    let bytes = c.args.bytes.now in
-    let f : Fault = record { line = min (c.loop-place.lines + 1) (2 ^ 64 - 1); why = Memory } in
-    subst (IsFaulty (text ++ bytes)) (sym c.stop-then-is_err.ensures)
-    (faulty (text ++ take n bytes) now.0 c.loop-place.hearing c.loop-place.line.items c.loop-place.lines now.1 (text ++ bytes) (drop n bytes) f (seam text bytes n) refl tt)
+    (faulty (text ++ take n bytes) now.0 c.loop-place.hearing line c.loop-place.lines now.1 (text ++ bytes) (drop n bytes) f (seam text bytes n) refl
+    (why_grown now.0 line b c.grow.new.line.items (drop n bytes) c.in-Err-grow.why c.in-Err-grow.ensures
+    (goes_on_at text bytes n b c.loop-place-test.true refl (plain_byte b c.if-byte-eq10.false))))
 
 pub loop-place-preserved : goal.loop-place-preserved
 loop-place-preserved c text heard r =
@@ -58,11 +50,10 @@ loop-place-preserved c text heard r =
     let n = c.loop-place.place in
     let bytes = c.args.bytes.now in
     let b = get_or bytes n 0 in
-    let new = c.push.new.self.items in (
+    let new = c.grow.new.line.items in (
       now.0,
       subst (λ z. IsRead z now.0 c.loop-place.hearing new c.loop-place.lines) (sym (next_byte text bytes n b c.loop-place-test.true refl))
-          (pushed (text ++ take n bytes) now.0 c.loop-place.hearing c.loop-place.line.items c.loop-place.lines now.1 b new (plain_byte b c.if-byte-eq10.false)
-          (c.push.ensures.items ∙ pushed_items c.push.result _ _ (sym c.is_err.ensures.value ∙ c.if-is_err.false))),
+          (pushed (text ++ take n bytes) now.0 c.loop-place.hearing c.loop-place.line.items c.loop-place.lines now.1 b new (plain_byte b c.if-byte-eq10.false) c.in_default.ensures),
     )
 
 pub returns : goal.returns

@@ -12,6 +12,6 @@ returns-in-Some c heard k =
 pub returns-in-None : goal.returns-in-None
 returns-in-None c heard k =
     let l = c.args.left.letter in
-    one_letter heard c.args.self k c.args.left c.without_oldest.result (c.if-left-from.false, c.if-left-to.false)
+    one_letter heard c.args.self k c.args.left c.without.result (c.if-left-from.false, c.if-left-to.false)
     (comes_next c.args.self.state l.from l.to l.signal c.cause.result c.cause.ensures.is c.in-None.is)
-    c.without_oldest.ensures
+    c.without.ensures
