@@ -8,7 +8,7 @@ ghost use Rattle.pt_chart.specs.Text.{arrow_text, bearing_class, bearing_label, 
 ghost use Rattle.pt_chart.specs.Text.{closing_text, end_text, escape, escape_one, fit_text, ground_text};
 ghost use Rattle.pt_chart.specs.Text.{head_above_text, page_head, is_below, is_level, is_owed, last_text};
 ghost use Rattle.pt_chart.specs.Text.{letter_label_text};
-ghost use Rattle.pt_chart.specs.Text.{letter_side_text, arrow_letter_text, life_text, mark_text};
+ghost use Rattle.pt_chart.specs.Text.{letter_side_text, arrow_letter_text, life_text, line_text, mark_text};
 ghost use Rattle.pt_chart.specs.Text.{name_above_text, named_birth_text};
 ghost use Rattle.pt_chart.specs.Text.{number_spot, opening_text, part_text, pid_above_text, refusal_text};
 ghost use Rattle.pt_chart.specs.Text.{said_bearing_text, said_end_text, saying_text, side_text, tip, trapping_text};
@@ -89,12 +89,25 @@ fn write_part(
             event,
             first,
             last,
-        } => {
-            write_opening(row, event.stamp, first, text)?;
-            write_said(alloc, event, text)?;
-            write_closing(page, row, event.stamp, first, last, text)
-        }
+        } => write_line(alloc, page, row, event, first, last, text),
     }
+}
+
+/// The line of an event in the title of its row, of which it may be the first and the last.
+fn write_line(
+    alloc: Global,
+    page: &Page,
+    row: usize,
+    event: Stamped,
+    first: bool,
+    last: bool,
+    text: &mut String,
+) -> Result<(), AllocError>
+    ensures { OnOk result (string_bytes text.new ≡ string_bytes text.old ++ line_text page.now row event first last) }
+{
+    write_opening(row, event.stamp, first, text)?;
+    write_said(alloc, event, text)?;
+    write_closing(page, row, event.stamp, first, last, text)
 }
 
 /// The mark of an event, in its row.

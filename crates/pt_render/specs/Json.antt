@@ -37,6 +37,17 @@ second_link (Some i) = codes "\",\"" ++ link_id_text i ++ codes "\"]"
 unfoldable pub links_member : Ids → List ℕ
 links_member ids = codes "\"links\":[\"" ++ link_id_text ids.one ++ second_link ids.two
 
+-- of a monitor, or of the question whether a process is alive; of no other signal
+unfoldable pub asking_members : Signal → List ℕ
+asking_members (Monitor m) = codes "\"signal\":\"monitor\",\"ref\":\"" ++ ref_text m ++ codes "\""
+asking_members (Demonitor m) = codes "\"signal\":\"demonitor\",\"ref\":\"" ++ ref_text m ++ codes "\""
+asking_members (Signal.Down m r) =
+    codes "\"signal\":\"down\",\"ref\":\"" ++ ref_text m ++ codes "\",\"reason\":\"" ++ reason_text r ++ codes "\""
+asking_members (AliveAsk m) = codes "\"signal\":\"alive-ask\",\"ref\":\"" ++ ref_text m ++ codes "\""
+asking_members (AliveSay m x) =
+    codes "\"signal\":\"alive-say\",\"ref\":\"" ++ ref_text m ++ codes "\",\"alive\":" ++ truth x
+asking_members _ = codes ""
+
 unfoldable pub signal_members : Signal → List ℕ
 signal_members (Message body) = codes "\"signal\":\"message\"," ++ body_members body
 signal_members (Link i) = codes "\"signal\":\"link\",\"link\":\"" ++ link_id_text i ++ codes "\""
@@ -44,13 +55,7 @@ signal_members (Unlink ids) = codes "\"signal\":\"unlink\"," ++ links_member ids
 signal_members (Signal.Exit r) = codes "\"signal\":\"exit\",\"reason\":\"" ++ reason_text r ++ codes "\""
 signal_members (LinkExit ids r) =
     codes "\"signal\":\"link-exit\"," ++ links_member ids ++ codes ",\"reason\":\"" ++ reason_text r ++ codes "\""
-signal_members (Monitor m) = codes "\"signal\":\"monitor\",\"ref\":\"" ++ ref_text m ++ codes "\""
-signal_members (Demonitor m) = codes "\"signal\":\"demonitor\",\"ref\":\"" ++ ref_text m ++ codes "\""
-signal_members (Signal.Down m r) =
-    codes "\"signal\":\"down\",\"ref\":\"" ++ ref_text m ++ codes "\",\"reason\":\"" ++ reason_text r ++ codes "\""
-signal_members (AliveAsk m) = codes "\"signal\":\"alive-ask\",\"ref\":\"" ++ ref_text m ++ codes "\""
-signal_members (AliveSay m x) =
-    codes "\"signal\":\"alive-say\",\"ref\":\"" ++ ref_text m ++ codes "\",\"alive\":" ++ truth x
+signal_members x = asking_members x
 
 unfoldable pub item_members : Item → List ℕ
 item_members (User from body) =
@@ -83,17 +88,22 @@ birth_link_member (Some i) = codes ",\"link\":\"" ++ link_id_text i ++ codes "\"
 abbrev pub route_members : Pid → Pid → List ℕ
 route_members from to = codes "\"from\":\"" ++ pid_text from ++ codes "\",\"to\":\"" ++ pid_text to ++ codes "\""
 
-unfoldable pub event_members : Event → List ℕ
-event_members (Born p parent link) =
+-- of an event that has no signal and no item; of no other event
+unfoldable pub plain_members : Event → List ℕ
+plain_members (Born p parent link) =
     codes "\"event\":\"born\",\"pid\":\"" ++ pid_text p ++ codes "\"" ++ parent_member parent ++ birth_link_member link
+plain_members (Flag p on) = codes "\"event\":\"flag\",\"pid\":\"" ++ pid_text p ++ codes "\",\"on\":" ++ truth on
+plain_members (Left p r) =
+    codes "\"event\":\"left\",\"pid\":\"" ++ pid_text p ++ codes "\",\"reason\":\"" ++ reason_text r ++ codes "\""
+plain_members (Refused a b) = codes "\"event\":\"refused\"," ++ route_members a b
+plain_members _ = codes ""
+
+unfoldable pub event_members : Event → List ℕ
 event_members (Said a b x) = codes "\"event\":\"said\"," ++ route_members a b ++ codes "," ++ signal_members x
 event_members (Came a b x) = codes "\"event\":\"came\"," ++ route_members a b ++ codes "," ++ signal_members x
 event_members (Took p k i) =
     codes "\"event\":\"took\",\"pid\":\"" ++ pid_text p ++ codes "\"," ++ pick_json k ++ codes "," ++ item_members i
-event_members (Flag p on) = codes "\"event\":\"flag\",\"pid\":\"" ++ pid_text p ++ codes "\",\"on\":" ++ truth on
-event_members (Left p r) =
-    codes "\"event\":\"left\",\"pid\":\"" ++ pid_text p ++ codes "\",\"reason\":\"" ++ reason_text r ++ codes "\""
-event_members (Refused a b) = codes "\"event\":\"refused\"," ++ route_members a b
+event_members e = plain_members e
 
 unfoldable pub letter_members : Letter → List ℕ
 letter_members l = route_members l.from l.to ++ codes "," ++ signal_members l.signal

@@ -38,17 +38,22 @@ who_label (Some p) = codes " who " ++ pid_label p
 unfoldable pub body_label : Body → List ℕ
 body_label b = decimal b.kind ++ codes " " ++ signed_decimal b.num ++ who_label b.who
 
+-- of a monitor, or of the question whether a process is alive; of no other signal
+unfoldable pub asking_label : Signal → List ℕ
+asking_label (Monitor m) = codes "monitor " ++ ref_label m
+asking_label (Demonitor m) = codes "demonitor " ++ ref_label m
+asking_label (Signal.Down m r) = codes "down " ++ ref_label m ++ codes " " ++ reason_text r
+asking_label (AliveAsk m) = codes "alive-ask " ++ ref_label m
+asking_label (AliveSay m x) = codes "alive-say " ++ ref_label m ++ codes " " ++ yes_or_no_text x
+asking_label _ = codes ""
+
 unfoldable pub signal_label : Signal → List ℕ
 signal_label (Message body) = codes "message " ++ body_label body
 signal_label (Link i) = codes "link " ++ link_id_text i
 signal_label (Unlink ids) = codes "unlink " ++ ids_text ids
 signal_label (Signal.Exit r) = codes "exit " ++ reason_text r
 signal_label (LinkExit ids r) = codes "link-exit " ++ ids_text ids ++ codes " " ++ reason_text r
-signal_label (Monitor m) = codes "monitor " ++ ref_label m
-signal_label (Demonitor m) = codes "demonitor " ++ ref_label m
-signal_label (Signal.Down m r) = codes "down " ++ ref_label m ++ codes " " ++ reason_text r
-signal_label (AliveAsk m) = codes "alive-ask " ++ ref_label m
-signal_label (AliveSay m x) = codes "alive-say " ++ ref_label m ++ codes " " ++ yes_or_no_text x
+signal_label x = asking_label x
 
 unfoldable pub item_label : Item → List ℕ
 item_label (User from body) = codes "user " ++ pid_label from ++ codes " " ++ body_label body

@@ -120,6 +120,15 @@ birth_link_at = optional (codes " link ") link_id_at
 unfoldable pub birth_at : Reader Event
 birth_at = mapped (λ x. Born x.0 x.1.0 x.1.1) (pair pid_at (pair parent_at birth_link_at))
 
+-- an event that has no signal and no item
+abbrev pub other_event_at : Reader Event
+other_event_at =
+    or_reader (codes "born ") birth_at
+    (or_reader (codes "left ") (mapped (λ x. Left x.0 x.1) (pair pid_at (before (codes " ") reason_at)))
+    (or_reader (codes "flag ") (mapped (λ x. Flag x.0 x.1) (pair pid_at (before (codes " ") switch_at)))
+    (or_reader (codes "refused ") (mapped (λ x. Refused x.0 x.1) route_at)
+    none_of_these)))
+
 unfoldable pub event_at : Reader Event
 event_at =
     or_reader (codes "said ") (mapped (λ x. Said x.0.0 x.0.1 x.1) (pair route_at (before (codes " ") signal_at)))
@@ -127,11 +136,7 @@ event_at =
     (or_reader (codes "took ")
     (mapped (λ x. Took x.0 x.1.0 x.1.1)
     (pair pid_at (before (codes " ") (pair pick_at (before (codes " = ") item_at)))))
-    (or_reader (codes "born ") birth_at
-    (or_reader (codes "left ") (mapped (λ x. Left x.0 x.1) (pair pid_at (before (codes " ") reason_at)))
-    (or_reader (codes "flag ") (mapped (λ x. Flag x.0 x.1) (pair pid_at (before (codes " ") switch_at)))
-    (or_reader (codes "refused ") (mapped (λ x. Refused x.0 x.1) route_at)
-    none_of_these))))))
+    other_event_at))
 
 unfoldable pub stamped_at : Reader Stamped
 stamped_at =

@@ -1,7 +1,8 @@
 //! Events, with their stamps and without.
 
 ghost use Rattle.pt_texts.specs.Steps.{ReaderGives};
-ghost use Rattle.pt_texts.specs.Readers.{switch_at, parent_at, birth_link_at, birth_at, event_at, stamped_at};
+ghost use Rattle.pt_texts.specs.Readers.{switch_at, parent_at, birth_link_at, birth_at, event_at, other_event_at};
+ghost use Rattle.pt_texts.specs.Readers.{stamped_at};
 
 use crate::numbers::{u8_at, u64_at};
 use crate::signals::{item_at, pick_at, route_at, signal_at};
@@ -80,6 +81,13 @@ pub(crate) fn event_at(text: &[u8]) -> Read<'_, Event>
         let (item, rest) = item_at(word_at(" = ", rest)?)?;
         return Ok((Event::Took(pid, pick, item), rest));
     }
+    other_event_at(text)
+}
+
+/// An event that has no signal and no item.
+fn other_event_at(text: &[u8]) -> Read<'_, Event>
+    ensures { ReaderGives (λ read. (read.0, read.1.now)) result (other_event_at text.now) }
+{
     if let Some(text) = behind("born ", text) {
         return birth_at(text);
     }
