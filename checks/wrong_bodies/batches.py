@@ -211,7 +211,8 @@ class Kit:
     def words(self, crate: str) -> list[str]:
         """The compiler's words for a check of this crate."""
         own = [it for it in self.crates[crate] if it in self.crates]
-        words = ["--crate-name", crate, "src/lib.rt"]
+        is_program = (ROOT / "crates" / crate / "src/main.rt").exists()
+        words = ["--crate-name", crate, "src/main.rt" if is_program else "src/lib.rt"]
         for name in dict.fromkeys(["std", *(it for it in self.crates[crate] if it not in self.crates)]):
             words += ["--extern", f"{name}={self.folder}/rlibs/{name}.rlib"]
         words += ["-L", f"dependency={self.folder}/rlibs"]
