@@ -85,10 +85,12 @@ fn journal(alloc: Global, node: &Node, desk: u8) -> Answer
         (λ events. ReadsAt desk (λ x. Some (reverse x.shard.journal)) None node.now (Some events))
         (length node.now ≤ desk) }
 {
-    let Some(desk) = node.desk(desk) else {
+    let d = usize::from(desk);
+    let desks = node.desks();
+    if d >= desks.len() {
         return Answer::Unknown;
-    };
-    match desk.journal().events().to_vec(alloc) {
+    }
+    match desks[d].journal().events().to_vec(alloc) {
         Ok(events) => Answer::Events(events),
         Err(_) => Answer::NoMemory,
     }
