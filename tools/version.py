@@ -17,6 +17,7 @@ SOURCE = "crates/pt_render/src/choices.rt"
 # Each file, and the form of the line that has the version. The first such line counts.
 PLACES = {
     "CHANGELOG.md": r"^## (\S+)",
+    "crates/pt_explorer/src/options.rt": r'\.version\("(.*)"\)',
     "bindings/rust/Cargo.toml": r'^version = "(.*)"',
     "bindings/python/pundewo/__init__.py": r'^__version__ = "(.*)"',
     "bench/rust/Cargo.toml": r'^version = "(.*)"',
