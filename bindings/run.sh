@@ -165,10 +165,14 @@ rm -rf "$here/python/build" "$here/python/pundewo.egg-info"
 echo "python: the package is installed, and runs"
 
 # The library as `make install` leaves it, found by pkg-config
-make -s -C "$here" install PREFIX="$work/installed" BUILT="$work/made" >"$work/printed"
-export PKG_CONFIG_PATH=$work/installed/lib/pkgconfig
-$c -o "$work/ping_pong" "$here/c/ping_pong.c" $(pkg-config --cflags --libs pundewo)
-LD_LIBRARY_PATH=$work/installed/lib "$work/ping_pong" >"$work/printed"
-(cd "$here/rust" && env -u PUNDEWO_LIB cargo build -q --offline --examples)
-echo "install: header, libraries and pkg-config file serve C and Rust"
+if command -v make >/dev/null && command -v pkg-config >/dev/null; then
+    make -s -C "$here" install PREFIX="$work/installed" BUILT="$work/made" >"$work/printed"
+    export PKG_CONFIG_PATH=$work/installed/lib/pkgconfig
+    $c -o "$work/ping_pong" "$here/c/ping_pong.c" $(pkg-config --cflags --libs pundewo)
+    LD_LIBRARY_PATH=$work/installed/lib "$work/ping_pong" >"$work/printed"
+    (cd "$here/rust" && env -u PUNDEWO_LIB cargo build -q --offline --examples)
+    echo "install: header, libraries and pkg-config file serve C and Rust"
+else
+    echo "bindings: no make or pkg-config: the installed library is not tried (apt-get install make pkg-config)"
+fi
 echo "bindings: all passed"
