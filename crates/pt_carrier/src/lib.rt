@@ -45,8 +45,6 @@
 //! A caller that only reads a letter uses [`Ins::next_from`], [`Ins::front`] and [`Ins::pass`] in place of `collect`.
 //! The letter is then read in its ring, and removed without being moved out.
 //!
-//! Tests: `checks/tried/test_calls/lanes`.
-//!
 //! # What is proved
 //!
 //! - **Lanes.** For each ordered pair of desks, the letters posted are those collected, followed by those left over.

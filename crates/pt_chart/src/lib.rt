@@ -34,8 +34,6 @@
 //! receipts are in a queue for each receiver, and a letter takes the first. The work grows with the events times the
 //! processes, since each is followed through all events. It does not grow with the letters between two processes.
 //!
-//! Tests: `checks/examples`, and `checks/tried/pt_scripts/charts`.
-//!
 //! # What is proved
 //!
 //! - **Columns.** The layout has a column for each process that the history names, once, by desk and then in order of

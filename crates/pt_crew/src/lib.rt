@@ -13,8 +13,6 @@
 //! other monitor of the client's desk has, so an answer belongs to one call alone. The kind says what is asked, and
 //! what is answered.
 //!
-//! Tests: `checks/tried/test_calls/crews` and `asking`, and `test_calls`.
-//!
 //! # What is proved
 //!
 //! - **No lost wake-up.** After each step, each live process with an item that it waits for is in the queue. So is each

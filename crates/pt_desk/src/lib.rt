@@ -67,8 +67,6 @@
 //! exits that they cause, and for one look at each desk's queue. No call takes a lock or waits for another thread. It
 //! allocates only for the events and letters that it writes.
 //!
-//! Tests: `checks/tried/test_calls/desk`.
-//!
 //! # What is proved
 //!
 //! - **Calls.** A desk's calls are those of its shard, and the ends of its lanes stay.

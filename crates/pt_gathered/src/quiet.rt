@@ -210,8 +210,8 @@ impl Quiet {
         self.lives.linked(pid, peer)
     }
 
-    /// Whether a process keeps a watch of this reference for its watcher, or did just after its own exit: Erlang lists
-    /// it under `monitored_by`. False if the process had exited before the node was resumed.
+    /// Whether a process keeps a watch of this reference for its watcher, or did just after its own exit. False if it
+    /// had exited before the node was resumed.
     pub fn kept(&self, target: Pid, monitor: Ref) -> bool
         ensures { InEveryMerge (journals self.now.gathered)
             (λ past.
@@ -220,8 +220,7 @@ impl Quiet {
         self.lives.kept(target, monitor)
     }
 
-    /// Whether a process's monitor of this reference is open: Erlang lists it under `monitors`. False once the process
-    /// has exited.
+    /// Whether a process's monitor of this reference is open. False once the process has exited.
     pub fn watching(&self, watcher: Pid, monitor: Ref) -> bool
         ensures { InEveryMerge (journals self.now.gathered)
             (λ past.

@@ -4,8 +4,6 @@
 //! `DOWN` at most; the merge of journals whose lanes agree is legal; settling is bounded; in a quiet history links
 //! stand at both ends or at neither.
 //!
-//! Tests: none, since a law is proved and does nothing.
-//!
 //! # What is proved
 //!
 //! - **One life.** A pid is born once and exits once.

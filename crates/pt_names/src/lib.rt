@@ -3,8 +3,6 @@
 //! `Names` knows no process. It keeps what it is given, and forgets a process when `forget` is called for its exit.
 //! Each name is of one process, and each process has one name at most.
 //!
-//! Tests: `checks/tried/test_calls/names`.
-//!
 //! # What is proved
 //!
 //! - **Texts.** `Name::new` returns a name exactly if the text is 1 to 32 ASCII letters, digits and `_`, beginning with

@@ -51,8 +51,6 @@
 //! behind. Exited processes stay exited, and the versions and the clocks continue. What holds for an opened node holds
 //! for this one, over that start. A node may be resumed any number of times.
 //!
-//! Tests: `checks/rows`, and `checks/tried/test_calls/nodes` and `opening`.
-//!
 //! # What is proved
 //!
 //! - **Opening.** `open` returns the desks of one node, in order, or reports which setting is out of range. (`Opening`)

@@ -47,8 +47,6 @@
 //!
 //! Links, monitors and watches keep the order of entry through all removals.
 //!
-//! Tests: `checks/tried/test_calls/process`.
-//!
 //! # What is proved
 //!
 //! - **Signals.** `accept` does to a live process exactly what the table of signals says, with the verdict on exit

@@ -57,8 +57,6 @@
 //! its receiver exits. `pending` looks at each desk's queue once. Nothing grows with the journal or with the number of
 //! processes.
 //!
-//! Tests: `checks/tried/test_calls/shard`.
-//!
 //! # What is proved
 //!
 //! - **Calls.** Each call returns exactly what its relation says, and a failed call changes nothing. (`Calls`)

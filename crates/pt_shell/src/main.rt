@@ -12,8 +12,6 @@
 //! line. Else it ends there, with the status 1. The status is 2 where the words are refused, and 3 where memory or a
 //! file was wanting.
 //!
-//! Tests: `checks/shell` and `checks/rows`.
-//!
 //! # What is proved
 //!
 //! - **It ends.** The program ends and goes wrong nowhere.

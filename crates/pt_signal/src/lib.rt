@@ -4,8 +4,6 @@
 //! `specs/`, stand the words that every layer above cites: which items a selective receive takes, what a signal does
 //! to a live process, what an end owes, and what goes back from a process that is not alive.
 //!
-//! Tests: `checks/tried/test_calls/process` and `settings`.
-//!
 //! # What is proved
 //!
 //! - **Texts.** Each value prints exactly the bytes that its text definition gives. (`Display`)

@@ -4,8 +4,6 @@
 //! every item to [`Supervisor::handle`]. The program says by [`Start`] what the children do. A child may hold a
 //! supervisor, too.
 //!
-//! Tests: `checks/tried/test_calls/supervisors`, and `test_calls`.
-//!
 //! # What is proved
 //!
 //! - **Restarts.** After an exit, which children are started again, and which others the strategy ends, is one function

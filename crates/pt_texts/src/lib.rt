@@ -1,7 +1,5 @@
 //! Values and events read back from their printed texts.
 //!
-//! Tests: `checks/tried/test_calls/texts`.
-//!
 //! # What is proved
 //!
 //! - **Reading back.** A value, an event or a line of a printed history is parsed from its printed text, and from no

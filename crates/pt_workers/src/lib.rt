@@ -5,8 +5,6 @@
 //! before a run, and [`release`] parts them afterwards. [`until_still`] turns desks until nothing waits in them.
 //! `pt_node` passes all of it on.
 //!
-//! Tests: `checks/tried/test_calls/workers`, `works` and `idle`, and `test_stress`.
-//!
 //! # What is proved
 //!
 //! - **Running.** `run` and `run_single` return all desks, in order. What happened is the workers' turns, each one step
