@@ -5,7 +5,8 @@
     tools/promises.py --write      writes the page
 
 A crate's root file (src/lib.rt or src/main.rt) has a section `# What is proved` in its head. Each of its bullets begins
-with the promise's name and has at most 300 letters. The crates are in the order of crates.txt.
+with the promise's name and has at most 300 letters. The crates are in the order of crates.txt. The head of a library also
+says where its tests are (`Tests: ..`).
 """
 from __future__ import annotations
 
@@ -83,6 +84,16 @@ def faults_of(crate: str, bullets: list[str]) -> list[str]:
     return faults + [f"{crate}: a promise of {len(it)} letters: {it[:60]}" for it in bullets if len(it) > MOST]
 
 
+def test_faults(crate: str) -> list[str]:
+    """What is wrong with the line of a library's head that says where its tests are."""
+    if crate.startswith("test_") or not (ROOT / "crates" / crate / "src" / "lib.rt").is_file():
+        return []
+    told = re.search(r"^Tests: (?:.+\n)+", "\n".join(head_of(crate)) + "\n", re.M)
+    if told is None:
+        return [f"{crate}: its head has no line 'Tests: ..'"]
+    return [f"{crate}: its tests are not in {it}" for it in re.findall(r"`([^`]+)`", told[0]) if not (ROOT / it).exists()]
+
+
 def words_of(crate: str) -> str:
     """All that a crate's sources and definitions say, and the names of their files."""
     files = [it for part in ("src", "specs") for it in sorted((ROOT / "crates" / crate / part).rglob("*")) if it.is_file()]
@@ -102,7 +113,7 @@ def page() -> tuple[str, list[str]]:
     for crate, below in crates().items():
         head = head_of(crate)
         bullets = bullets_of(head)
-        faults += faults_of(crate, bullets) + unknown_names(crate, bullets, below)
+        faults += faults_of(crate, bullets) + unknown_names(crate, bullets, below) + test_faults(crate)
         if bullets:
             parts.append(f"## `{crate}`\n{title_of(head)}\n\n" + "\n".join(bullets) + "\n")
     return "\n".join(parts), faults

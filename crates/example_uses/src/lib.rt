@@ -15,6 +15,8 @@
 //! A recipe keeps a desk a desk of its node (`IsStill`), so [`gather`](pt_node::gather) takes it. The calls of the desk
 //! promise all else that a recipe promises.
 //!
+//! Tests: `checks/tried/test_calls/recipes.rt.txt`, `crates/test_recipes` and `crates/test_stress`.
+//!
 //! # What is proved
 //!
 //! - **Games.** A live monster takes at most 64 hits in a tick, oldest first, each as its number says, and exits

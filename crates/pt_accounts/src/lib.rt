@@ -22,6 +22,8 @@
 //! table last forgot takes 48 bytes, and 8 for its exit. A live one, and one that exited with an item, link, watch or
 //! monitor, also keeps its lists. One that exited before takes 8 bytes for its reason.
 //!
+//! Tests: `checks/tried/test_calls/called.rt.txt`, `checks/tried/test_calls/desk.rt.txt` and `checks/rows/quiet.txt`.
+//!
 //! # What is proved
 //!
 //! - **What is reported.** For each process ever spawned, `Lives` returns why it exited, how many items arrived, were

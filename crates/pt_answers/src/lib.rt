@@ -2,6 +2,8 @@
 //!
 //! A value has the text that it has everywhere else: in histories, in scripts, and in the bindings.
 //!
+//! Tests: `checks/rows`.
+//!
 //! # What is proved
 //!
 //! - **Texts.** The text of each answer is the one that the definitions give. (`text_of`)

@@ -8,6 +8,8 @@
 //! letter left over. It takes the bytes in pieces of any size, keeps one line of them, and returns the first line at
 //! fault by its number.
 //!
+//! Tests: `checks/audit` and `checks/tried/test_calls/auditor.rt.txt`.
+//!
 //! # What is proved
 //!
 //! - **Lines.** A history read in pieces of any size is accepted only if its lines are the texts of events and then of

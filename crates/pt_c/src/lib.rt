@@ -8,6 +8,8 @@
 //! Values with an enum or an option in Rattle cross as plain structs with a code (`pt_table::types`). `about` reports
 //! codes, sizes and fields, to be compared with a header. `pt_table` has all that is not exported.
 //!
+//! Tests: `bindings/run.sh`.
+//!
 //! # What is proved
 //!
 //! - **Exports.** Each function returns the code of the call that it makes on its handle's value, and writes that

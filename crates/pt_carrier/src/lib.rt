@@ -45,6 +45,8 @@
 //! A caller that only reads a letter uses [`Ins::next_from`], [`Ins::front`] and [`Ins::pass`] in place of `collect`.
 //! The letter is then read in its ring, and removed without being moved out.
 //!
+//! Tests: `checks/tried/test_calls/lanes.rt.txt` and `crates/test_calls/src/layers/lanes.rt`.
+//!
 //! # What is proved
 //!
 //! - **Lanes.** For each ordered pair of desks, the letters posted are those collected, followed by those left over.

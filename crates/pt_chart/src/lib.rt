@@ -34,6 +34,8 @@
 //! receipts are in a queue for each receiver, and a letter takes the first. The work grows with the events times the
 //! processes, since each is followed through all events. It does not grow with the letters between two processes.
 //!
+//! Tests: `checks/tried/pt_scripts/charts.rt.txt` and `checks/examples`.
+//!
 //! # What is proved
 //!
 //! - **Columns.** The layout has a column for each process that the history names, once, by desk and then in order of

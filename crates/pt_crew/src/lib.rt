@@ -13,6 +13,9 @@
 //! other monitor of the client's desk has, so an answer belongs to one call alone. The kind says what is asked, and
 //! what is answered.
 //!
+//! Tests: `checks/tried/test_calls/crews.rt.txt`, `checks/tried/test_calls/asking.rt.txt`,
+//! `crates/test_calls/src/on_a_desk.rt` and `crates/test_calls/src/upheld.rt`.
+//!
 //! # What is proved
 //!
 //! - **No lost wake-up.** After each step, each live process with an item that it waits for is in the queue. So is each

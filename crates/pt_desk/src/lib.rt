@@ -67,6 +67,8 @@
 //! exits that they cause, and for one look at each desk's queue. No call takes a lock or waits for another thread. It
 //! allocates only for the events and letters that it writes.
 //!
+//! Tests: `checks/tried/test_calls/desk.rt.txt`, `checks/tried/test_calls/called.rt.txt` and `checks/rows`.
+//!
 //! # What is proved
 //!
 //! - **Calls.** A desk's calls are those of its shard, and the ends of its lanes stay.

@@ -28,6 +28,8 @@
 //! A probe is one load, or two where the process has ended; a death is two stores. The two words of a slot stand
 //! beside each other, in 16 bytes a slot, and `open` takes twice that while it makes them.
 //!
+//! Tests: `checks/tried/test_calls/directory.rt.txt` and `checks/rows/refused.txt`.
+//!
 //! # What is proved
 //!
 //! - **Steps.** A desk writes only the words of its own slots, by six kinds of step. (`Rule`)

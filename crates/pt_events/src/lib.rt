@@ -9,6 +9,8 @@
 //! sends, and which event may come next; `Journal` says what one desk's journal is, and how the journals of several
 //! desks make one history.
 //!
+//! Tests: `checks/tried/test_calls/history.rt.txt` and `checks/tried/test_calls/texts.rt.txt`.
+//!
 //! # What is proved
 //!
 //! - **Journals.** A `Journal` is of one desk, and its stamps rise strictly.

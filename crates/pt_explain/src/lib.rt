@@ -12,6 +12,8 @@
 //! The texts are those of `docs/SCRIPTS.md`. The line repeats only names of at most 32 letters, digits and `_` of a
 //! script, so it is one line for any script.
 //!
+//! Tests: `checks/examples`.
+//!
 //! # What is proved
 //!
 //! - **Texts.** The line has the text of a place, of a member if one is wrong, and of what is wrong. (`explain`)

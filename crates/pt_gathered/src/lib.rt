@@ -53,6 +53,9 @@
 //! copied. Reading the journals takes constant time, on average, for each event. `history` takes time by the logarithm
 //! of the number of desks for each event.
 //!
+//! Tests: `checks/rows/settling.txt`, `checks/rows/resumed.txt`, `checks/rows/going_on.txt`, `checks/rows/quiet.txt`
+//! and `checks/tried/test_calls/epochs.rt.txt`.
+//!
 //! # What is proved
 //!
 //! - **Nothing else.** A gathered node has the journals as its desks had them, and the letters left over. Its lanes

@@ -210,8 +210,8 @@ impl Quiet {
         self.lives.linked(pid, peer)
     }
 
-    /// Whether a process keeps a watch of this reference for its watcher, or did just after its own exit. False if it
-    /// had exited before the node was resumed.
+    /// Whether a process is watched under this reference: Erlang's `monitored_by` of `process_info`, of one monitor. For
+    /// an exited process, whether it was at its exit. False if it had exited before the node was resumed.
     pub fn kept(&self, target: Pid, monitor: Ref) -> bool
         ensures { InEveryMerge (journals self.now.gathered)
             (λ past.
@@ -220,7 +220,8 @@ impl Quiet {
         self.lives.kept(target, monitor)
     }
 
-    /// Whether a process's monitor of this reference is open. False once the process has exited.
+    /// Whether a process's monitor of this reference is open: Erlang's `monitors` of `process_info`, of one monitor. False
+    /// once the process has exited.
     pub fn watching(&self, watcher: Pid, monitor: Ref) -> bool
         ensures { InEveryMerge (journals self.now.gathered)
             (λ past.

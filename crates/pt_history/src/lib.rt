@@ -51,6 +51,8 @@
 //! of the number of journals. `replay` takes constant time for an event. Besides, it looks through the letters in
 //! flight at each receipt, and through the lists of the one process that the event is of.
 //!
+//! Tests: `checks/tried/test_calls/history.rt.txt`.
+//!
 //! # What is proved
 //!
 //! - **One name.** It exports events, merge and judge, and states the laws that no crate of a node needs.

@@ -14,6 +14,8 @@
 //! an event costs grows with the logarithm of the letters on their way, and with the lists of the one process that it
 //! is of.
 //!
+//! Tests: `checks/tried/test_calls/auditor.rt.txt` and `checks/audit`.
+//!
 //! # What is proved
 //!
 //! - **Legal.** `replay` succeeds exactly if the history is legal.

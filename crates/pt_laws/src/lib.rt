@@ -4,6 +4,8 @@
 //! `DOWN` at most; the merge of journals whose lanes agree is legal; settling is bounded; in a quiet history links
 //! stand at both ends or at neither.
 //!
+//! Tests: none. It has definitions and lemmas alone.
+//!
 //! # What is proved
 //!
 //! - **One life.** A pid is born once and exits once.

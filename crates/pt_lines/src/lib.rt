@@ -11,6 +11,8 @@
 //! A line is split into words at blanks. A word means a value by the value's printed text, or by a name that was given
 //! to a pid or a reference before. [`CALLS`] has the words of each call.
 //!
+//! Tests: `checks/shell` and `checks/rows`.
+//!
 //! # What is proved
 //!
 //! - **Lines.** A line asks for what its definition says: nothing, help, an expectation, or one call with its

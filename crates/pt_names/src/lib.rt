@@ -3,6 +3,8 @@
 //! `Names` knows no process. It keeps what it is given, and forgets a process when `forget` is called for its exit.
 //! Each name is of one process, and each process has one name at most.
 //!
+//! Tests: `checks/tried/test_calls/names.rt.txt` and `crates/test_calls/src/layers/names.rt`.
+//!
 //! # What is proved
 //!
 //! - **Texts.** `Name::new` returns a name exactly if the text is 1 to 32 ASCII letters, digits and `_`, beginning with

@@ -51,6 +51,9 @@
 //! behind. Exited processes stay exited, and the versions and the clocks continue. What holds for an opened node holds
 //! for this one, over that start. A node may be resumed any number of times.
 //!
+//! Tests: `checks/rows`, `checks/tried/test_calls/nodes.rt.txt`, `checks/tried/test_calls/opening.rt.txt` and
+//! `crates/test_calls/src/nodes.rt`.
+//!
 //! # What is proved
 //!
 //! - **Opening.** `open` returns the desks of one node, in order, or reports which setting is out of range. (`Opening`)

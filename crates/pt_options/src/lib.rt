@@ -8,6 +8,8 @@
 //! [`options`] reads the words, and [`laws`] says what some words mean. `FILE` is the script; without it, and for `-`,
 //! the script is read from standard input.
 //!
+//! Tests: `checks/tried/pt_scripts/command_lines.rt.txt`.
+//!
 //! # What is proved
 //!
 //! - **Words.** `options` returns what the words ask for by the definitions of `clap` for this command, or an error of

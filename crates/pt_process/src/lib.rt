@@ -47,6 +47,8 @@
 //!
 //! Links, monitors and watches keep the order of entry through all removals.
 //!
+//! Tests: `checks/tried/test_calls/process.rt.txt` and `crates/test_calls/src/layers/entries.rt`.
+//!
 //! # What is proved
 //!
 //! - **Signals.** `accept` does to a live process exactly what the table of signals says, with the verdict on exit

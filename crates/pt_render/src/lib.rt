@@ -14,6 +14,8 @@
 //!
 //! [`Options`] has the choices for a run of a script, and says which of these outputs is printed.
 //!
+//! Tests: `checks/examples`.
+//!
 //! # What is proved
 //!
 //! - **JSON.** An event or a letter left over is written as the one line of JSON that its definition gives.

@@ -34,6 +34,8 @@
 //!
 //! Each line is a few writes, so the writer should be a buffered one. It is flushed before [`report`] returns `Ok`.
 //!
+//! Tests: `checks/tried/pt_scripts/reports.rt.txt` and `checks/examples`.
+//!
 //! # What is proved
 //!
 //! - **What is printed.** On success the text is the history, summary, chart or diagram of a node that ran the script,

@@ -5,6 +5,8 @@
 //! and lets every worker continue until [`Bells::stop`]. A [`RestingWork`] is the work that reports to it. A [`Door`] takes
 //! messages from a thread without a desk; a [`Porter`] sends them on, as a process of its desk.
 //!
+//! Tests: `checks/tried/test_calls/resting.rt.txt` and `crates/test_stress`.
+//!
 //! # What is proved
 //!
 //! - **The way in.** A message that a `Porter` took was sent, once and in order, or its receiver was seen to have

@@ -41,6 +41,8 @@
 //! An operation that fails for want of memory or at the clock's limit is tried again in each step. [`Place::refused`]
 //! says how often the next operation of a process failed so. [`are_idle`] says whether no process has anything to do.
 //!
+//! Tests: `checks/examples`.
+//!
 //! # What is proved
 //!
 //! - **Starting.** `start` spawns the processes of the script, each on its desk and in order, and nothing else happens.

@@ -5,6 +5,9 @@
 //! text, and operations name processes by these numbers. [`process_names`] returns the names, for programs that show
 //! them. [`laws`] says what holds for every script. The format is that of `docs/SCRIPTS.md`.
 //!
+//! Tests: `checks/tried/pt_scripts/scripts.rt.txt`, `checks/tried/pt_scripts/faults.rt.txt` and
+//! `crates/test_calls/src/layers/scripts.rt`.
+//!
 //! # What is proved
 //!
 //! - **Reading.** `Script::from_bytes` succeeds exactly if the text is a script of the format; otherwise it returns the

@@ -11,6 +11,8 @@
 //! `pt_lines` says what a line may be. A session has at most one node, which is running, gathered, or settled, and each
 //! call is the node's call of that name. [`run`] reads the lines of a reader and writes each answer.
 //!
+//! Tests: `checks/shell` and `checks/rows`.
+//!
 //! # What is proved
 //!
 //! - **Answers.** Each call that a line asks for is the node's call, and the text kept is that of its answer. (`hear`)

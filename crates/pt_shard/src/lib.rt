@@ -57,6 +57,9 @@
 //! its receiver exits. `pending` looks at each desk's queue once. Nothing grows with the journal or with the number of
 //! processes.
 //!
+//! Tests: `checks/tried/test_calls/shard.rt.txt`, `checks/rows/messages.txt`, `checks/rows/links.txt`,
+//! `checks/rows/monitors.txt` and `checks/rows/exits.txt`.
+//!
 //! # What is proved
 //!
 //! - **Calls.** Each call returns exactly what its relation says, and a failed call changes nothing. (`Calls`)

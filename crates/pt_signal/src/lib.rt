@@ -4,6 +4,9 @@
 //! `specs/`, stand the words that every layer above cites: which items a selective receive takes, what a signal does
 //! to a live process, what an end owes, and what goes back from a process that is not alive.
 //!
+//! Tests: `checks/tried/test_calls/process.rt.txt`, `checks/tried/test_calls/settings.rt.txt` and
+//! `checks/rows/messages.txt`.
+//!
 //! # What is proved
 //!
 //! - **Texts.** Each value prints exactly the bytes that its text definition gives. (`Display`)

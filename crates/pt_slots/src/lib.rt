@@ -42,6 +42,8 @@
 //! slots, and `get` a quarter more, which is the test of the `Option`. At 65,000 slots `get` and removals
 //! with insertions cost a tenth to a quarter more, for the wider entries. The README has the figures.
 //!
+//! Tests: `checks/tried/test_calls/slots.rt.txt` and `crates/test_calls/src/layers/slots.rt`.
+//!
 //! # What is proved
 //!
 //! - **Keys are unique.** `insert` gives the version after the slot's latest one, so no key is issued twice.

@@ -4,6 +4,8 @@
 //! every item to [`Supervisor::handle`]. The program says by [`Start`] what the children do. A child may hold a
 //! supervisor, too.
 //!
+//! Tests: `checks/tried/test_calls/supervisors.rt.txt` and `crates/test_calls/src/supervisors.rt`.
+//!
 //! # What is proved
 //!
 //! - **Restarts.** After an exit, which children are started again, and which others the strategy ends, is one function

@@ -4,6 +4,8 @@
 //! `pt_c` exports it. It is a library of its own so that the gate proves it once. A static library keeps no checked
 //! crate, so what is in `pt_c` is proved again when its archive is built.
 //!
+//! Tests: `bindings/run.sh`.
+//!
 //! # What is proved
 //!
 //! - **Structs and codes.** Each value crosses to its struct and back, and each failure to its code. (`Crossing`,

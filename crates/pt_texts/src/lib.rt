@@ -1,5 +1,7 @@
 //! Values and events read back from their printed texts.
 //!
+//! Tests: `checks/tried/test_calls/texts.rt.txt` and `crates/test_calls/src/layers/texts.rt`.
+//!
 //! # What is proved
 //!
 //! - **Reading back.** A value, an event or a line of a printed history is parsed from its printed text, and from no

@@ -17,6 +17,8 @@
 //! `start`, `cancel`, `pop_due` and `get` take time that grows with the logarithm of the number of pending timers. A
 //! timer that fired or was cancelled takes no memory.
 //!
+//! Tests: `checks/tried/test_calls/timers.rt.txt` and `crates/test_calls/src/layers/timers.rt`.
+//!
 //! # What is proved
 //!
 //! - **One fate.** Each timer that was started is pending, has fired or was cancelled. The last two are for ever.

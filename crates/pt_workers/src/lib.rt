@@ -5,6 +5,9 @@
 //! before a run, and [`release`] parts them afterwards. [`until_still`] turns desks until nothing waits in them.
 //! `pt_node` passes all of it on.
 //!
+//! Tests: `checks/tried/test_calls/workers.rt.txt`, `checks/tried/test_calls/works.rt.txt`,
+//! `checks/tried/test_calls/idle.rt.txt` and `crates/test_stress`.
+//!
 //! # What is proved
 //!
 //! - **Running.** `run` and `run_single` return all desks, in order. What happened is the workers' turns, each one step
