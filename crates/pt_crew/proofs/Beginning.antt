@@ -12,7 +12,7 @@ use Rattle.pt_shard.specs.ShardState.{ShardState}
 use Rattle.pt_crew.specs.declared.crew.Member.{Member}
 use Rattle.pt_crew.specs.declared.crew.Crew.{Crew}
 use Rattle.pt_crew.specs.Visiting.{AreSame}
-use Rattle.pt_crew.specs.Crews.{Attends, AreBorn, HasRoom, members, role, roles, queue}
+use Rattle.pt_crew.specs.Crews.{Attends, AreBorn, HasRoom, HasTimers, members, role, roles, queue}
 use Rattle.pt_crew.specs.Parts.{MarkedBut, QueueHolds, Wakes, WakesAt}
 use Rattle.pt_signal.proofs.Same.{same_pid_is}
 use Rattle.pt_crew.proofs.Places.{same_pid_sym}
@@ -73,6 +73,7 @@ woken_at i old new e at keys w = record {
   roles = w.roles;
   queued = w.queued;
   longer = w.longer;
+  timers = w.timers;
   rest = w.rest;
 }
 
@@ -83,7 +84,8 @@ none_at i c at = record {
   roles = λ p. refl;
   queued = λ k. k;
   longer = ([], sym (append-nil (queue c)));
-  rest = record { waiting = refl; left = refl; refused = refl; rounds = refl };
+  timers = λ k. k;
+  rest = record { waiting = refl; left = refl; refused = refl; rounds = refl; time = refl };
 }
 
 count_keys : {X : Type 0} (es : List (Pid × X)) → length (keys_of es) ≡ length es
@@ -100,8 +102,8 @@ all_marked old new place past keys marked = subst (λ (ps : List Pid). MarkedBut
 
 -- all are marked, and nothing of the journal was read
 pub begun_again : {B : Type 0} (old new : Crew B) (d e : ShardState) → new.read ≡ 0 → MarkedBut [] new → AreSame (roles old) (roles new) → (QueueHolds old → QueueHolds new)
-    → (HasRoom old → HasRoom new) → Attends old d → AreBorn (roles old) e → Attends new e
-begun_again {B} old new d e unread marked same queued room a born = record {
+    → (HasRoom old → HasRoom new) → (HasTimers old → HasTimers new) → Attends old d → AreBorn (roles old) e → Attends new e
+begun_again {B} old new d e unread marked same queued room timers a born = record {
   knows = record {
     more = e.journal;
     seen = [];
@@ -112,6 +114,7 @@ begun_again {B} old new d e unread marked same queued room a born = record {
     awake = λ p m is work none. marked p m refl is;
   };
   room = room a.room;
+  timers = timers a.timers;
 }
 
 pub on_ok_then : {A E P Q : Type 0} (r : Result A E) → OnOk r P → (P → Q) → OnOk r Q

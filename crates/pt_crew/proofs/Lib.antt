@@ -1,6 +1,7 @@
 -- The lemmas that more than one function of the crate uses.
 pub mod Places
 pub mod Waking
+pub mod Timing
 pub mod Beginning
 pub mod Reading
 pub mod Room

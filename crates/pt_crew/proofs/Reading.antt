@@ -1,5 +1,5 @@
 -- One more event of the journal is read.
-use Rattle.std.proofs.Common.{◌≡◌, ◌+◌, ◌<◌, ◌≤◌, Bool, true, false, ◌||◌, Result, Ok, Err, OnOk, List, [], ◌∷◌, ◌++◌, length, reverse, get_or, Option, Some, None, refl, sym, ap, subst, ◌∙◌, append_assoc, length-append, arith}
+use Rattle.std.proofs.Common.{◌≡◌, ◌+◌, ◌<◌, ◌≤◌, Bool, true, false, ◌||◌, Result, Ok, Err, OnOk, List, [], ◌∷◌, ◌++◌, length, reverse, get_or, Option, Some, None, refl, sym, ap, subst, ◌∙◌, append_assoc, append-nil, length-append, arith}
 use Rattle.std.specs.Prelude.{is_err}
 use Rattle.std.proofs.lemmas.List.{reverse-append, reverse-reverse, length-reverse, get_or-append-add, get_or_default}
 use Rattle.std.proofs.lemmas.List.Folds.{list_any-append}
@@ -13,13 +13,14 @@ use Rattle.pt_shard.specs.ShardState.{ShardState}
 use Rattle.pt_crew.specs.declared.crew.Crew.{Crew}
 use Rattle.pt_workers.specs.Waking.{came_in, came_to}
 use Rattle.pt_workers.proofs.Unread.{Oldest, oldest}
-use Rattle.pt_crew.specs.Waking.{Knows, IsAwake}
+use Rattle.pt_crew.specs.Waking.{Knows, IsAwake, timer_of}
 use Rattle.std.specs.Option.{option_map}
 use Rattle.pt_crew.specs.declared.crew.Member.{Member}
-use Rattle.pt_crew.specs.Crews.{members, role, KnowsDesk, IsSame}
+use Rattle.pt_crew.specs.Crews.{members, role, HasTimers, KnowsDesk, IsSame}
 use Rattle.pt_crew.specs.Parts.{Wakes, WakesBy}
-use Rattle.pt_crew.proofs.Waking.{by_cases, same_queue}
+use Rattle.pt_crew.proofs.Waking.{by_cases, same_queue, some_none}
 use Rattle.pt_crew.proofs.Places.{same_pid_sym}
+use Rattle.pt_crew.proofs.Timing.{timers_is}
 
 or_nil : (b : Bool) → (b || false) ≡ b
 or_nil true = refl
@@ -95,6 +96,43 @@ woke_read (Took p q i) old new h = h.read
 woke_read (Flag p on) old new h = h.read
 woke_read (Left p r) old new h = h.read
 woke_read (Refused a b) old new h = h.read
+
+-- who is woken otherwise
+pub woke_knows : {B : Type 0} (p : Pid) (old new : Crew B) (d : ShardState) → Wakes p old new → KnowsDesk old d → KnowsDesk new d
+woke_knows p old new d wakes k = record {
+  more = k.more;
+  seen = k.seen;
+  journal = k.journal;
+  counted = k.counted ∙ sym wakes.read;
+  queued = wakes.queued k.queued;
+  born = λ q m at. let was = held_before (members old q) (members new q) m at (wakes.roles q) in k.born q was.0 was.1;
+  awake = λ q m at work quiet. by_cases (same_pid p q)
+      (λ same. wakes.marked m (subst (λ (x : Pid). members new x ≡ Some m) (sym (same_pid_is p q same)) at))
+      (λ other. k.awake q m (sym (wakes.others q other) ∙ at) work quiet);
+}
+
+-- one that is not of the crew is woken by nothing
+pub absent_wakes : {B : Type 0} (p : Pid) (old new : Crew B) → members old p ≡ None → IsSame old new → Wakes p old new
+absent_wakes p old new none is = record {
+  others = λ q other. is.members q;
+  marked = λ m at. some_none (members new p) m (is.members p ∙ none) at;
+  roles = λ q. ap (option_map role) (is.members q);
+  queued = λ k. same_queue (members old) (members new) old.queue.items new.queue.items is.members is.queue k;
+  longer = ([], is.queue ∙ sym (append-nil old.queue.items));
+  read = is.read;
+  timers = timers_is old new is;
+  fewer = λ k t has. some_none (timer_of (members old p)) t (ap timer_of none) has;
+  rest = is.rest;
+}
+
+pub woke_timers : {B : Type 0} (e : Event) (old new : Crew B) → WakesBy e old new → HasTimers old → HasTimers new
+woke_timers (Born p parent link) old new h k = timers_is old new h k
+woke_timers (Said a b x) old new h k = timers_is old new h k
+woke_timers (Came a b x) old new h k = h.timers k
+woke_timers (Took p q i) old new h k = timers_is old new h k
+woke_timers (Flag p on) old new h k = timers_is old new h k
+woke_timers (Left p r) old new h k = h.timers k
+woke_timers (Refused a b) old new h k = timers_is old new h k
 
 pub read_more : {B : Type 0} (old new : Crew B) (d : ShardState) (s : Stamped) → old.read < length d.journal → s ≡ get_or (reverse d.journal) old.read s → WakesBy s.event old new → KnowsDesk old d → Knows (members new) new.queue.items (new.read + 1) d
 read_more old new d s within at h k =

@@ -84,6 +84,7 @@ module _ {B : Type 0} (answers : Answers B) (stands : Relation B) (k : IsUpheld 
       knows = knows_later (members c) (queue c) c.read old.shard new.shard
           (turn_goes_on old h.posted_desk h.last new h.letters turned.stopped turned.handled budget h.posts h.handles h.ends).shard a.attends.knows;
       room = a.attends.room;
+      timers = a.attends.timers;
     };
     upholds = record { members = turn_upholds answers stands k (roles c) budget old turned new h a.upholds.members; waiting = a.upholds.waiting };
   }

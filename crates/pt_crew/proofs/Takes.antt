@@ -29,8 +29,9 @@ use Rattle.pt_signal.specs.Values.{fits}
 use Rattle.pt_events.specs.History.{Phase, unborn, living, ended, is_living, state_of}
 use Rattle.pt_workers.proofs.GoingOn.{stays}
 use Rattle.pt_crew.proofs.Telling.{is_answered}
-use Rattle.pt_crew.specs.declared.behaviour.Next.TheVariants.{Wait}
-use Rattle.pt_crew.specs.Waking.{has_work}
+use Rattle.pt_crew.specs.declared.behaviour.Next.TheVariants.{Wait, WaitUntil, Proceed, Stop}
+use Rattle.pt_crew.specs.declared.behaviour.Next.{Next}
+use Rattle.pt_crew.specs.Waking.{has_work, pick_of}
 use Rattle.pt_crew.specs.Visiting.{takes, takes_by}
 
 abbrev taken : ShardState → List (Pid × Item)
@@ -55,6 +56,9 @@ left_takes p why old new r c = other_takes p (Left p why) tt old new r refl c
 none_fits : (p : Pid) (k : Pick) (d : ShardState) (found : Option Item) → None ≡ found → taken (after_if (option_map (Took p k) found) d) ≡ taken d
 none_fits p k d None e = refl
 none_fits p k d (Some i) e = absurd (cc)
+
+same_pick : (j k : Pick) → Some j ≡ Some k → j ≡ k
+same_pick j k e = cc
 
 same_item : (i j : Item) → Some i ≡ Some j → i ≡ j
 same_item i j e = cc
@@ -178,6 +182,16 @@ pub idle_is : (p : Pid) (k : Pick) (old new : ShardState) → Calls p (take_even
 idle_is p k old new c =
     let same : new ≡ old = none_found p k old new (first_match old p k) c.2 c.3 in
     subst (λ (d : ShardState). has_work (Wait k) (phase_of d p) ≡ false) (sym same) (idle_phase k (phase_of old p) c.0 c.2)
+
+-- whatever it does next, where it waits for that pick
+idle_next : (n : Next) (p : Pid) (k : Pick) (d : ShardState) → pick_of n ≡ Some k → has_work (Wait k) (phase_of d p) ≡ false → has_work n (phase_of d p) ≡ false
+idle_next (Wait j) p k d is idle = ap (λ (x : Pick). has_work (Wait x) (phase_of d p)) (same_pick j k is) ∙ idle
+idle_next (WaitUntil j at) p k d is idle = ap (λ (x : Pick). has_work (Wait x) (phase_of d p)) (same_pick j k is) ∙ idle
+idle_next Proceed p k d is idle = absurd (cc)
+idle_next (Stop r) p k d is idle = absurd (cc)
+
+pub idle_for : (n : Next) (p : Pid) (k : Pick) (old new : ShardState) → pick_of n ≡ Some k → Calls p (take_event old p k) (first_match old p k) old (Ok None) new → has_work n (phase_of new p) ≡ false
+idle_for n p k old new is c = idle_next n p k new is (idle_is p k old new c)
 
 -- for the calls of a behaviour
 pub ruleset calling = (is_answered, stays, sent_takes, watched_takes, linked_takes, said_takes, unlinked_takes, unwatched_takes, flag_takes)

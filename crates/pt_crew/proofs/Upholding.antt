@@ -1,6 +1,6 @@
 -- What a behaviour upholds stays so through a step of a crew, a turn of its desk, and a birth.
 use Rattle.std.proofs.Common.{◌≡◌, ◌⊎◌, inl, inr, ℕ, Bool, true, false, cond, ◌||◌, List, [], ◌∷◌, ◌++◌, Option, Some, None, Result, Ok, Err, refl, sym, ap, subst, ◌∙◌, append_assoc}
-use Rattle.std.specs.Prelude.{MatchBool, ⊤}
+use Rattle.std.specs.Prelude.{MatchBool, ⊤, nat_le}
 use Rattle.std.proofs.Math.Seq.{drop-append_seam}
 use Rattle.std.specs.Option.{option_map}
 use Rattle.pt_signal.specs.declared.pid.Pid.{Pid}
@@ -28,16 +28,17 @@ use Rattle.pt_shard.specs.declared.stop.Stop.{Stop}
 use Rattle.pt_shard.specs.declared.stop.Stop.TheVariants.{Memory as NoRoom, Worn as Spent}
 use Rattle.pt_desk.specs.Turns.{Fetches, HandlesNext, HandlesAll, Stays, EndsWith, Turns}
 use Rattle.pt_crew.specs.declared.behaviour.Next.{Next}
-use Rattle.pt_crew.specs.declared.behaviour.Next.TheVariants.{Wait, Proceed, Stop as Stopping}
+use Rattle.pt_crew.specs.declared.behaviour.Next.TheVariants.{Wait, WaitUntil, Proceed, Stop as Stopping}
 use Rattle.pt_crew.specs.declared.births.Role.{Role}
 use Rattle.pt_crew.specs.declared.crew.Crew.{Crew}
 use Rattle.pt_crew.specs.declared.crew.Tended.{Tended}
 use Rattle.pt_crew.specs.declared.crew.Tended.TheVariants.{Idle, Again, Done, Refused as Denied, Gone as Ended}
 use Rattle.pt_crew.specs.Births.{bore}
-use Rattle.pt_crew.specs.Visiting.{Answers, Roles, AreSame, AreWith, Scene, HandsTo, LeavesAs, StaysAs, ComesTo, SeesTo, EndsAs, TakesAs, VisitsOne, Visits}
+use Rattle.pt_crew.specs.Visiting.{Answers, Roles, AreSame, AreWith, Scene, HandsTo, LeavesAs, StaysAs, ComesTo, SeesTo, EndsAs, TakesAs, AsksFor, VisitsOne, Visits}
+use Rattle.pt_crew.specs.Waking.{pick_of, until_of}
 use Rattle.pt_crew.specs.Visiting.{BearsChildren as BearsAs, handed_by, handed_as, left_as}
 use Rattle.pt_crew.specs.Crews.{CrewRounds, Aboard, EntersAll, StepsOn, CrewDoes, Enters, CrewWorks, roles, left, waiting}
-use Rattle.pt_crew.specs.Upholding.{Relation, IsLater, IsLeftAlone, ActsFor, ItemIsTaken, StandsFirst, AllFirst, IsUpheld, AllStand, StandsStill, AllStill, Upholds, child_by, children_by}
+use Rattle.pt_crew.specs.Upholding.{Relation, IsLater, IsLeftAlone, ActsFor, GoesOnWithout, ItemIsTaken, StandsFirst, AllFirst, IsUpheld, AllStand, StandsStill, AllStill, Upholds, child_by, children_by}
 use Rattle.pt_crew.proofs.Waking.{by_cases, elsewhere, there, same_some}
 
 -- desks that go on --------------------------------------------------------------------------
@@ -185,6 +186,7 @@ module _ {B : Type 0} (answers : Answers B) (stands : Relation B) (k : IsUpheld 
     bears_handed (Wait k) unborn b = b
     bears_handed (Wait k) (living s) b = bears_by s.waiting b
     bears_handed (Wait k) (ended r s) b = b
+    bears_handed (WaitUntil k at) f b = b
     bears_handed Proceed f b = b
     bears_handed (Stopping r) f b = b
 
@@ -197,6 +199,7 @@ module _ {B : Type 0} (answers : Answers B) (stands : Relation B) (k : IsUpheld 
     not_handed (Wait k) unborn is = absurd (cc)
     not_handed (Wait k) (living s) is = not_by s.waiting is
     not_handed (Wait k) (ended r s) is = absurd (cc)
+    not_handed (WaitUntil k at) f is = absurd (cc)
     not_handed Proceed f is = absurd (cc)
     not_handed (Stopping r) f is = absurd (cc)
 
@@ -241,45 +244,56 @@ module _ {B : Type 0} (answers : Answers B) (stands : Relation B) (k : IsUpheld 
     asked d e r t now (Err NoProc) stops born here bears calls ends = absurd calls
 
     -- an item was asked for
-    took : (pick : Pick) (d mid e : ShardState) (t : Tended) (now : Option (B × Next)) (result : Result (Option Item) Fault) → role.1 ≡ Wait pick → is_unborn (phase_of d p) ≡ false → stands role.0 role.1 p d
-        → BearsAs t waited waits → Calls p (take_event d p pick) (first_match d p pick) d result mid → TakesAs answers p role mid result t now e (bore waited waits) → Comes p (Some role) t d e now waited waits
-    took pick d mid e t now (Ok None) waits_for born here bears calls h = stayed Idle t d e now (λ is. absurd (cc)) h.0 born here (subst (λ (x : Tended). BearsAs x waited waits) h.0 bears) h.1 (h.2 ∙ calls.3 ∙ ap (λ (o : Option Item). after_if (option_map (Took p pick) o) d) (sym calls.2))
-    took pick d mid e t now (Ok (Some i)) waits_for born here bears calls h =
+    none_left : (over : Bool) (d mid e : ShardState) (t : Tended) (now : Option (B × Next)) → is_unborn (phase_of d p) ≡ false → stands role.0 role.1 p d → BearsAs t waited waits
+        → mid ≡ d → lives d p ≡ true → (over ≡ true → GoesOnWithout p role.1 d) → MatchBool over (HandsTo answers p role.0 None mid t now e (bore waited waits)) (StaysAs Idle role mid t now e)
+        → Comes p (Some role) t d e now waited waits
+    none_left true d mid e t now born here bears is alive without h = handed None d mid e t now born here (later_is d mid is) (acts_is p d mid is) (without refl, alive, is) bears h
+    none_left false d mid e t now born here bears is alive without h =
+        stayed Idle t d e now (λ bad. absurd (cc)) h.0 born here (subst (λ (x : Tended). BearsAs x waited waits) h.0 bears) h.1 (h.2 ∙ is)
+
+    took : (pick : Pick) (over : Bool) (d mid e : ShardState) (t : Tended) (now : Option (B × Next)) (result : Result (Option Item) Fault) → pick_of role.1 ≡ Some pick
+        → (over ≡ true → first_match d p pick ≡ None → GoesOnWithout p role.1 d) → is_unborn (phase_of d p) ≡ false → stands role.0 role.1 p d
+        → BearsAs t waited waits → Calls p (take_event d p pick) (first_match d p pick) d result mid → TakesAs answers p role over mid result t now e (bore waited waits) → Comes p (Some role) t d e now waited waits
+    took pick over d mid e t now (Ok None) waits_for without born here bears calls h =
+        none_left over d mid e t now born here bears (calls.3 ∙ ap (λ (o : Option Item). after_if (option_map (Took p pick) o) d) (sym calls.2)) calls.0 (λ is. without is (sym calls.2)) h
+    took pick over d mid e t now (Ok (Some i)) waits_for without born here bears calls h =
         let fits_it : first_match d p pick ≡ Some i = sym calls.2 in
         let mid_is : mid ≡ shard_after (Took p pick i) d = calls.3 ∙ ap (λ (o : Option Item). after_if (option_map (Took p pick) o) d) fits_it in
         handed (Some i) d mid e t now born here
         (subst (λ (f : ShardState). IsLater d f) (sym mid_is) (later_after (Took p pick i) d))
         (λ q other b. alone_then q d (shard_after (Took p pick i) d) mid (alone_event (Took p pick i) d q (same_pid_sym p q other) refl) (alone_is (shard_after (Took p pick i) d) mid mid_is q))
         (pick, waits_for, calls.0, fits_it, mid_is) bears h
-    took pick d mid e t now (Err Gone) waits_for born here bears calls h = gone_as d e t now born here (h.2 ∙ calls.1) (subst (λ (x : Tended). BearsAs x waited waits) h.0 bears) h.1
-    took pick d mid e t now (Err Memory) waits_for born here bears calls h = stayed Denied t d e now (λ is. absurd (cc)) h.0 born here (subst (λ (x : Tended). BearsAs x waited waits) h.0 bears) h.1 (h.2 ∙ calls.3)
-    took pick d mid e t now (Err Worn) waits_for born here bears calls h = stayed Denied t d e now (λ is. absurd (cc)) h.0 born here (subst (λ (x : Tended). BearsAs x waited waits) h.0 bears) h.1 (h.2 ∙ calls.3)
-    took pick d mid e t now (Err Full) waits_for born here bears calls h = absurd calls
-    took pick d mid e t now (Err Myself) waits_for born here bears calls h = absurd calls
-    took pick d mid e t now (Err NoProc) waits_for born here bears calls h = absurd calls
+    took pick over d mid e t now (Err Gone) waits_for without born here bears calls h = gone_as d e t now born here (h.2 ∙ calls.1) (subst (λ (x : Tended). BearsAs x waited waits) h.0 bears) h.1
+    took pick over d mid e t now (Err Memory) waits_for without born here bears calls h = stayed Denied t d e now (λ is. absurd (cc)) h.0 born here (subst (λ (x : Tended). BearsAs x waited waits) h.0 bears) h.1 (h.2 ∙ calls.3)
+    took pick over d mid e t now (Err Worn) waits_for without born here bears calls h = stayed Denied t d e now (λ is. absurd (cc)) h.0 born here (subst (λ (x : Tended). BearsAs x waited waits) h.0 bears) h.1 (h.2 ∙ calls.3)
+    took pick over d mid e t now (Err Full) waits_for without born here bears calls h = absurd calls
+    took pick over d mid e t now (Err Myself) waits_for without born here bears calls h = absurd calls
+    took pick over d mid e t now (Err NoProc) waits_for without born here bears calls h = absurd calls
 
     proceeds : (d e : ShardState) (t : Tended) (now : Option (B × Next)) (alive : Bool) → lives d p ≡ alive → role.1 ≡ Proceed → is_unborn (phase_of d p) ≡ false → stands role.0 role.1 p d
         → BearsAs t waited waits → MatchBool alive (HandsTo answers p role.0 None d t now e (bore waited waits)) (LeavesAs d t now e) → Comes p (Some role) t d e now waited waits
     proceeds d e t now true alive goes_on born here bears h =
-        handed None d d e t now born here (later_is d d refl) (acts_is p d d refl) (goes_on, alive, refl) bears h
+        handed None d d e t now born here (later_is d d refl) (acts_is p d d refl) (inl goes_on, alive, refl) bears h
     proceeds d e t now false alive goes_on born here bears h = gone_as d e t now born here h.2 (subst (λ (x : Tended). BearsAs x waited waits) h.0 bears) h.1
 
-  seen : (p : Pid) (b : B) (n : Next) (waited waits : List (Role B)) (d e : ShardState) (t : Tended) (now : Option (B × Next)) → is_unborn (phase_of d p) ≡ false → stands b n p d
-      → BearsAs t waited waits → SeesTo answers p b n d t now e (bore waited waits) → Comes p (Some (b, n)) t d e now waited waits
-  seen p b (Stopping r) waited waits d e t now born here bears h = asked p (b, Stopping r) waited waits d e r t now h.0 refl born here bears h.1 h.2
-  seen p b Proceed waited waits d e t now born here bears h = proceeds p (b, Proceed) waited waits d e t now (lives d p) refl refl born here bears h
-  seen p b (Wait pick) waited waits d e t now born here bears h = took p (b, Wait pick) waited waits pick d h.1 e t now h.0 refl born here bears h.2 h.3
+  seen : (time : ℕ) (p : Pid) (b : B) (n : Next) (waited waits : List (Role B)) (d e : ShardState) (t : Tended) (now : Option (B × Next)) → is_unborn (phase_of d p) ≡ false → stands b n p d
+      → BearsAs t waited waits → SeesTo answers time p b n d t now e (bore waited waits) → Comes p (Some (b, n)) t d e now waited waits
+  seen time p b (Stopping r) waited waits d e t now born here bears h = asked p (b, Stopping r) waited waits d e r t now h.0 refl born here bears h.1 h.2
+  seen time p b Proceed waited waits d e t now born here bears h = proceeds p (b, Proceed) waited waits d e t now (lives d p) refl refl born here bears h
+  seen time p b (Wait pick) waited waits d e t now born here bears h = took p (b, Wait pick) waited waits pick false d h.1 e t now h.0 refl (λ bad. absurd (cc)) born here bears h.2 h.3
+  seen time p b (WaitUntil pick at) waited waits d e t now born here bears h =
+      took p (b, WaitUntil pick at) waited waits pick (nat_le at time) d h.1 e t now h.0 refl (λ over none. inr (pick, refl, refl, none)) born here bears h.2 h.3
 
-  found : (p : Pid) (role : B × Next) (waited waits : List (Role B)) (d e : ShardState) (t : Tended) (now : Option (B × Next)) → is_unborn (phase_of d p) ≡ false → stands role.0 role.1 p d
-      → BearsAs t waited waits → StaysAs Denied role d t now e ⊎ SeesTo answers p role.0 role.1 d t now e (bore waited waits) → Comes p (Some role) t d e now waited waits
-  found p role waited waits d e t now born here bears (inl h) =
+  found : (time : ℕ) (p : Pid) (role : B × Next) (waited waits : List (Role B)) (d e : ShardState) (t : Tended) (now : Option (B × Next)) → is_unborn (phase_of d p) ≡ false → stands role.0 role.1 p d
+      → BearsAs t waited waits → StaysAs Denied role d t now e ⊎ SeesTo answers time p role.0 role.1 d t now e (bore waited waits) → Comes p (Some role) t d e now waited waits
+  found time p role waited waits d e t now born here bears (inl h) =
       stayed p role waited waits Denied t d e now (λ is. absurd (cc)) h.0 born here (subst (λ (x : Tended). BearsAs x waited waits) h.0 bears) h.1 h.2
-  found p role waited waits d e t now born here bears (inr h) = seen p role.0 role.1 waited waits d e t now born here bears h
+  found time p role waited waits d e t now born here bears (inr h) = seen time p role.0 role.1 waited waits d e t now born here bears h
 
-  came_to : (p : Pid) (o : Option (B × Next)) (waited waits : List (Role B)) (d e : ShardState) (t : Tended) (now : Option (B × Next))
+  came_to : (time : ℕ) (p : Pid) (o : Option (B × Next)) (waited waits : List (Role B)) (d e : ShardState) (t : Tended) (now : Option (B × Next))
       → ((role : B × Next) → o ≡ Some role → (is_unborn (phase_of d p) ≡ false) × stands role.0 role.1 p d)
-      → BearsAs t waited waits → ComesTo answers p o d t now e (bore waited waits) → Comes p o t d e now waited waits
-  came_to p None waited waits d e t now here bears h = record {
+      → BearsAs t waited waits → ComesTo answers time p o d t now e (bore waited waits) → Comes p o t d e now waited waits
+  came_to time p None waited waits d e t now here bears h = record {
     out = λ r is ended. absurd (cc);
     none = λ is. (h.1, h.2);
     later = later_is d e h.2;
@@ -287,7 +301,7 @@ module _ {B : Type 0} (answers : Answers B) (stands : Relation B) (k : IsUpheld 
     own = λ r is. no_role now r h.1 is;
     bears = λ a. subst (AllFirst stands) (sym (subst (λ (x : Tended). BearsAs x waited waits) h.0 bears)) a;
   }
-  came_to p (Some role) waited waits d e t now here bears h = let at = here role refl in found p role waited waits d e t now at.0 at.1 bears h
+  came_to time p (Some role) waited waits d e t now here bears h = let at = here role refl in found time p role waited waits d e t now at.0 at.1 bears h
 
   -- those who left are gone, and stand so still
   abbrev AreGone : Roles B → List (Role B) → ShardState → Type 0
@@ -319,7 +333,7 @@ module _ {B : Type 0} (answers : Answers B) (stands : Relation B) (k : IsUpheld 
   }
     where
       c : Comes p (old.roles p) h.tended old.desk new.desk (new.roles p) old.born new.born
-      c = came_to p (old.roles p) old.born new.born old.desk new.desk h.tended (new.roles p) (λ role is. a.members p role is) h.born h.comes
+      c = came_to old.time p (old.roles p) old.born new.born old.desk new.desk h.tended (new.roles p) (λ role is. a.members p role is) h.born h.comes
 
       -- nothing is done for one that is gone
       still_gone : (q : Pid) (b : B) (n : Next) → old.roles q ≡ None → is_unborn (phase_of old.desk q) ≡ false → stands b n q old.desk

@@ -14,12 +14,13 @@ use Rattle.pt_crew.specs.declared.crew.Crew.{Crew}
 use Rattle.pt_crew.specs.declared.crew.Tended.{Tended}
 use Rattle.pt_crew.specs.declared.crew.Tended.TheVariants.{Idle, Refused as Denied}
 use Rattle.pt_crew.specs.Visiting.{Answers, Roles, AreSame, AreWith, Scene, StaysAs, BearsChildren, ComesTo, SeesTo, VisitsOne, Visits, again_as, left_as, is_refused}
-use Rattle.pt_crew.specs.Crews.{members, role, roles, queue, waiting, left, scene, are_any, IsSame, KeepsRest, Attends, CrewRounds, AreOnce, Aboard, EntersAll, StepsOn}
-use Rattle.pt_crew.specs.Waking.{IsAwake, Members, has_work}
+use Rattle.pt_crew.specs.Crews.{members, role, roles, queue, waiting, left, scene, time_of, are_any, IsSame, KeepsRest, Attends, CrewRounds, AreOnce, Aboard, EntersAll, StepsOn}
+use Rattle.pt_crew.specs.Waking.{IsAwake, AreRung, Members, has_work}
 use Rattle.pt_crew.specs.declared.births.Role.{Role}
 use Rattle.pt_crew.specs.Births.{bore}
 use Rattle.pt_crew.specs.Parts.{QueueIsLonger, WakesBy, Serves, Admits, AdmitsFirst, AdmitsOf, CanEnter, aboard}
 use Rattle.pt_crew.proofs.Waking.{by_cases, elsewhere, there, same_back}
+use Rattle.pt_crew.proofs.Timing.{rung_as}
 
 -- who reads what is new changes nobody ------------------------------------------------
 
@@ -60,12 +61,12 @@ woke_rest (Left p r) old new h = h.rest
 woke_rest (Refused a b) old new h = h.rest
 
 pub rest_then : {B : Type 0} (old mid new : Crew B) → KeepsRest old mid → KeepsRest mid new → KeepsRest old new
-rest_then old mid new a b = record { waiting = b.waiting ∙ a.waiting; left = b.left ∙ a.left; refused = b.refused ∙ a.refused; rounds = b.rounds ∙ a.rounds }
+rest_then old mid new a b = record { waiting = b.waiting ∙ a.waiting; left = b.left ∙ a.left; refused = b.refused ∙ a.refused; rounds = b.rounds ∙ a.rounds; time = b.time ∙ a.time }
 
 -- and what was read is one more
-pub rest_read : {B : Type 0} (old mid late new : Crew B) → waiting new ≡ waiting late → left new ≡ left late → new.refused ≡ late.refused → new.rounds ≡ late.rounds
+pub rest_read : {B : Type 0} (old mid late new : Crew B) → waiting new ≡ waiting late → left new ≡ left late → new.refused ≡ late.refused → new.rounds ≡ late.rounds → new.time ≡ late.time
     → KeepsRest old mid → KeepsRest mid late → KeepsRest old new
-rest_read old mid late new w l r n a b = record { waiting = w ∙ b.waiting ∙ a.waiting; left = l ∙ b.left ∙ a.left; refused = r ∙ b.refused ∙ a.refused; rounds = n ∙ b.rounds ∙ a.rounds }
+rest_read old mid late new w l r n m a b = record { waiting = w ∙ b.waiting ∙ a.waiting; left = l ∙ b.left ∙ a.left; refused = r ∙ b.refused ∙ a.refused; rounds = n ∙ b.rounds ∙ a.rounds; time = m ∙ b.time ∙ a.time }
 
 pub same_then : {B : Type 0} (old mid new : Roles B) → AreSame old mid → AreSame mid new → AreSame old new
 same_then old mid new a b q = b q ∙ a q
@@ -86,6 +87,7 @@ pub record IsOf {B : Type 0} (old new : Crew B) : Type 0 where
   pub waiting : waiting new ≡ waiting old
   pub left : left new ≡ left old
   pub refused : new.refused ≡ old.refused
+  pub time : new.time ≡ old.time
 
 or_none : (b : Bool) → b ≡ (b || false)
 or_none true = refl
@@ -106,20 +108,21 @@ is_there r (Some y) x e h = (y, refl)
 module _ {B : Type 0} (answers : Answers B) where
   -- one is come to ------------------------------------------------------------------------
 
-  pub visited : (old new : Crew B) (p : Pid) (v : Member B) (w : Option (Member B)) (t : Tended) (d e : ShardState) → members old p ≡ Some v
+  pub visited : (old new : Crew B) (p : Pid) (v : Member B) (w : Option (Member B)) (t : Tended) (d e : ShardState) → members old p ≡ Some v → new.time ≡ old.time
       → ((q : Pid) → members new q ≡ cond (same_pid p q) w (members old q))
-      → StaysAs Denied (role v) d t (option_map role w) e ⊎ SeesTo answers p v.behaviour v.next d t (option_map role w) e (bore (waiting old) (waiting new))
+      → StaysAs Denied (role v) d t (option_map role w) e ⊎ SeesTo answers old.time p v.behaviour v.next d t (option_map role w) e (bore (waiting old) (waiting new))
       → BearsChildren t (waiting old) (waiting new) → left new ≡ left old ++ left_as p (Some (role v)) t → new.refused ≡ (old.refused || is_refused t)
       → VisitsOne answers p (scene [] old d) (scene (again_as p t) new e)
-  visited old new p v w t d e held at sees bears gone says = record {
+  visited old new p v w t d e held times at sees bears gone says = record {
     tended = t;
-    comes = subst (λ (o : Option _). ComesTo answers p o d t (roles new p) e (bore (waiting old) (waiting new))) (sym (ap (option_map role) held))
-        (subst (λ (o : Option _). ComesTo answers p (Some (role v)) d t o e (bore (waiting old) (waiting new))) (sym (ap (option_map role) (there (members old) (members new) p w at p (same_pid_refl p)))) sees);
+    comes = subst (λ (o : Option _). ComesTo answers old.time p o d t (roles new p) e (bore (waiting old) (waiting new))) (sym (ap (option_map role) held))
+        (subst (λ (o : Option _). ComesTo answers old.time p (Some (role v)) d t o e (bore (waiting old) (waiting new))) (sym (ap (option_map role) (there (members old) (members new) p w at p (same_pid_refl p)))) sees);
     others = with_p;
     again = refl;
     born = bears;
     left = gone ∙ ap (λ (o : Option _). left old ++ left_as p o t) (sym (ap (option_map role) held));
     refused = says;
+    time = times;
   }
     where
       with_p : AreWith p (roles new p) (roles old) (roles new)
@@ -131,12 +134,13 @@ module _ {B : Type 0} (answers : Answers B) where
   pub passed : (old new : Crew B) (p : Pid) (d : ShardState) → members old p ≡ None → IsOf old new → VisitsOne answers p (scene [] old d) (scene [] new d)
   passed old new p d none same = record {
     tended = Idle;
-    comes = subst (λ (o : Option _). ComesTo answers p o d Idle (roles new p) d (bore (waiting old) (waiting new))) (sym (ap (option_map role) none)) (refl, ap (option_map role) (same.members p ∙ none), refl);
+    comes = subst (λ (o : Option _). ComesTo answers old.time p o d Idle (roles new p) d (bore (waiting old) (waiting new))) (sym (ap (option_map role) none)) (refl, ap (option_map role) (same.members p ∙ none), refl);
     others = with_p;
     again = refl;
     born = same.waiting;
     left = same.left ∙ sym (append-nil (left old)) ∙ ap (λ (o : Option _). left old ++ left_as p o Idle) (sym (ap (option_map role) none));
     refused = same.refused ∙ or_none old.refused;
+    time = same.time;
   }
     where
       with_p : AreWith p (roles new p) (roles old) (roles new)
@@ -145,13 +149,13 @@ module _ {B : Type 0} (answers : Answers B) where
           (λ other. ap (option_map role) (same.members q) ∙ ap (λ b. cond b (roles new p) (roles old q)) (sym other))
 
   -- the first of the queue
-  pub serves_first : (start rest : List Pid) (old new : Crew B) (p : Pid) (v : Member B) (w : Option (Member B)) (t : Tended) (d e : ShardState) → start ≡ p ∷ rest → queue new ≡ rest ++ again_as p t → members old p ≡ Some v
+  pub serves_first : (start rest : List Pid) (old new : Crew B) (p : Pid) (v : Member B) (w : Option (Member B)) (t : Tended) (d e : ShardState) → start ≡ p ∷ rest → queue new ≡ rest ++ again_as p t → members old p ≡ Some v → new.time ≡ old.time
       → ((q : Pid) → members new q ≡ cond (same_pid p q) w (members old q))
-      → StaysAs Denied (role v) d t (option_map role w) e ⊎ SeesTo answers p v.behaviour v.next d t (option_map role w) e (bore (waiting old) (waiting new))
+      → StaysAs Denied (role v) d t (option_map role w) e ⊎ SeesTo answers old.time p v.behaviour v.next d t (option_map role w) e (bore (waiting old) (waiting new))
       → BearsChildren t (waiting old) (waiting new) → left new ≡ left old ++ left_as p (Some (role v)) t → new.refused ≡ (old.refused || is_refused t)
       → Serves answers start old d new e
-  serves_first start rest old new p v w t d e is later held at sees bears gone says =
-      subst (λ (ps : List Pid). Serves answers ps old d new e) (sym is) (again_as p t, visited old new p v w t d e held at sees bears gone says, later)
+  serves_first start rest old new p v w t d e is later held times at sees bears gone says =
+      subst (λ (ps : List Pid). Serves answers ps old d new e) (sym is) (again_as p t, visited old new p v w t d e held times at sees bears gone says, later)
 
   pub passes_first : (start rest : List Pid) (old new : Crew B) (p : Pid) (d : ShardState) → start ≡ p ∷ rest → queue new ≡ rest → members old p ≡ None → IsOf old new → Serves answers start old d new d
   passes_first start rest old new p d is later none same =
@@ -159,9 +163,9 @@ module _ {B : Type 0} (answers : Answers B) where
 
   -- there is no memory for whoever leaves
   pub refused_first : (start rest : List Pid) (old new : Crew B) (p : Pid) (d : ShardState) → start ≡ p ∷ rest → queue new ≡ rest ++ p ∷ [] → ((q : Pid) → members new q ≡ members old q)
-      → waiting new ≡ waiting old → left new ≡ left old → new.refused ≡ true → (v : Member B) × (members old p ≡ Some v) → Serves answers start old d new d
-  refused_first start rest old new p d is later same bears gone on held =
-      serves_first start rest old new p held.0 (Some held.0) Denied d d is later held.1 (λ q. same q ∙ sym (same_back (members old) p held.0 held.1 q))
+      → waiting new ≡ waiting old → left new ≡ left old → new.refused ≡ true → new.time ≡ old.time → (v : Member B) × (members old p ≡ Some v) → Serves answers start old d new d
+  refused_first start rest old new p d is later same bears gone on times held =
+      serves_first start rest old new p held.0 (Some held.0) Denied d d is later held.1 times (λ q. same q ∙ sym (same_back (members old) p held.0 held.1 q))
       (inl (refl, refl, refl)) bears (gone ∙ sym (append-nil (left old))) (on ∙ says old.refused)
 
   -- several are come to -------------------------------------------------------------------
@@ -180,6 +184,7 @@ module _ {B : Type 0} (answers : Answers B) where
     born = h.born;
     left = h.left;
     refused = h.refused;
+    time = h.time;
   }
 
   -- so many of the queue, the first ones, were come to
@@ -233,7 +238,7 @@ module _ {B : Type 0} (answers : Answers B) where
 
   -- the crew as its first round begins
   abbrev begun : Crew B → List Pid → ShardState → Scene B
-  begun old woken d = record { roles = roles old; again = queue old ++ woken; born = waiting old; left = []; refused = false; desk = d }
+  begun old woken d = record { roles = roles old; again = queue old ++ woken; born = waiting old; left = []; refused = false; time = time_of old; desk = d }
 
   -- so many rounds were made
   pub record Stepping (n : ℕ) (old : Crew B) (d : ShardState) (now : Crew B) (e : ShardState) : Type 0 where
@@ -241,32 +246,38 @@ module _ {B : Type 0} (answers : Answers B) where
     pub queues : List (List Pid)
     pub rounds : CrewRounds answers queues (begun old woken d) (scene (queue now) now e)
     pub first : Attends old d → IsAwake (members old) (queue old ++ woken) d
+    pub due : Attends old d → AreRung (time_of old) (members old) (queue old ++ woken)
     pub count : length queues ≡ n
     pub once : Attends old d → AreOnce queues
     pub same : now.rounds ≡ old.rounds
+    pub time : now.time ≡ old.time
 
-  pub none_yet : (old now : Crew B) (d : ShardState) → AreSame (roles old) (roles now) → QueueIsLonger (queue old) (queue now) → waiting now ≡ waiting old → left now ≡ [] → now.refused ≡ false → now.rounds ≡ old.rounds
-      → (Attends old d → IsAwake (members now) (queue now) d) → Stepping 0 old d now d
-  none_yet old now d kept longer waits bare quiet same awake = record {
+  pub none_yet : (old now : Crew B) (d : ShardState) → AreSame (roles old) (roles now) → QueueIsLonger (queue old) (queue now) → waiting now ≡ waiting old → left now ≡ [] → now.refused ≡ false → now.rounds ≡ old.rounds → now.time ≡ old.time
+      → (Attends old d → IsAwake (members now) (queue now) d) → (Attends old d → AreRung (time_of old) (members now) (queue now)) → Stepping 0 old d now d
+  none_yet old now d kept longer waits bare quiet same times awake rung = record {
     woken = longer.0;
     first = λ a. awake_as old now (queue old ++ longer.0) d kept (subst (λ (ps : List Pid). IsAwake (members now) ps d) longer.1 (awake a));
+    due = λ a. rung_as old now (time_of old) (queue old ++ longer.0) kept (subst (λ (ps : List Pid). AreRung (time_of old) (members now) ps) longer.1 (rung a));
     queues = [];
-    rounds = λ i. record { roles = λ q. kept q i; again = longer.1 i; born = waits i; left = bare i; refused = quiet i; desk = d };
+    rounds = λ i. record { roles = λ q. kept q i; again = longer.1 i; born = waits i; left = bare i; refused = quiet i; time = times i; desk = d };
     count = refl;
     once = λ a. tt;
     same = same;
+    time = times;
   }
 
   pub next_round : (n : ℕ) (old mid new : Crew B) (d f e : ShardState) → Stepping n old d mid f → Visits answers (queue mid) (scene [] mid f) (scene (queue new) new e)
-      → (Attends old d → IsDistinct same_pid (queue mid)) → new.rounds ≡ mid.rounds → Stepping (n + 1) old d new e
-  next_round n old mid new d f e so visits once same = record {
+      → (Attends old d → IsDistinct same_pid (queue mid)) → new.rounds ≡ mid.rounds → new.time ≡ mid.time → Stepping (n + 1) old d new e
+  next_round n old mid new d f e so visits once same times = record {
     woken = so.woken;
     first = so.first;
+    due = so.due;
     queues = queue mid ∷ so.queues;
     rounds = (scene (queue mid) mid f, so.rounds, refl, visits);
     count = let c = so.count in omega (arith, c);
     once = λ a. (once a, so.once a);
     same = same ∙ so.same;
+    time = times ∙ so.time;
   }
 
   pub last_look : (n : ℕ) (old mid late new : Crew B) (d e : ShardState) → Stepping n old d mid e → n ≡ max 1 old.rounds → Admits (lives e) mid late
@@ -274,6 +285,7 @@ module _ {B : Type 0} (answers : Answers B) where
   last_look n old mid late new d e so count admits kept longer rest = record {
     woken = so.woken;
     first = so.first;
+    due = so.due;
     queues = so.queues;
     last = scene (queue mid) mid e;
     rounds = so.rounds;
@@ -286,6 +298,7 @@ module _ {B : Type 0} (answers : Answers B) where
     queue = longer_then (queue mid) (queue late) (queue new) admits.longer longer;
     desk = refl;
     same = rest.rounds ∙ admits.rounds ∙ so.same;
+    time = rest.time ∙ admits.time ∙ so.time;
   }
     where
       still : aboard late ≡ aboard new
@@ -326,6 +339,7 @@ module _ {B : Type 0} (lives : Pid → Bool) where
     pub told : ((n + length (waiting now) ≡ length (waiting old)) × (now.refused ≡ old.refused)) ⊎ ((now.refused ≡ true) × (length (waiting old) < n + length (waiting now)))
     pub longer : QueueIsLonger (queue old) (queue now)
     pub rounds : now.rounds ≡ old.rounds
+    pub time : now.time ≡ old.time
 
   pub none_entered : (old : Crew B) → Entering 0 old old
   none_entered old = record {
@@ -337,6 +351,7 @@ module _ {B : Type 0} (lives : Pid → Bool) where
     told = inl (omega arith, refl);
     longer = ([], sym (append-nil (queue old)));
     rounds = refl;
+    time = refl;
   }
 
   pub next_enters : (n : ℕ) (old mid new : Crew B) → n < length (waiting old) → Entering n old mid → AdmitsFirst lives mid new → Entering (n + 1) old new
@@ -355,6 +370,7 @@ module _ {B : Type 0} (lives : Pid → Bool) where
         told = inr (h.2, let m = ap length h.1 in elim so.told [ inl k ↦ let c = k.0 in omega (arith, m, c) | inr k ↦ let c = k.1 in omega (arith, m, c) ]);
         longer = longer_then (queue old) (queue mid) (queue new) so.longer first.longer;
         rounds = first.rounds ∙ so.rounds;
+        time = first.time ∙ so.time;
       }
 
       go : (w : List (Role B)) → waiting mid ≡ w → AdmitsOf lives w mid new → Entering (n + 1) old new
@@ -371,6 +387,7 @@ module _ {B : Type 0} (lives : Pid → Bool) where
         ];
         longer = longer_then (queue old) (queue mid) (queue new) so.longer first.longer;
         rounds = first.rounds ∙ so.rounds;
+        time = first.time ∙ so.time;
       }
 
   none_waits : (rs : List (Role B)) → length rs ≤ 0 → rs ≡ []
@@ -389,6 +406,7 @@ module _ {B : Type 0} (lives : Pid → Bool) where
     ];
     longer = so.longer;
     rounds = so.rounds;
+    time = so.time;
   }
 
 -- how many rounds were made at the end

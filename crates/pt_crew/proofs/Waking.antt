@@ -1,5 +1,5 @@
 -- What a crew knows stays so.
-use Rattle.std.proofs.Common.{◌≡◌, ℕ, Bool, true, false, cond, ◌||◌, List, [], ◌∷◌, ◌++◌, Option, Some, None, refl, sym, ap, subst, ◌∙◌, append_assoc, append-nil}
+use Rattle.std.proofs.Common.{◌≡◌, ℕ, ◌+◌, Bool, true, false, cond, ◌||◌, List, [], ◌∷◌, ◌++◌, length, Option, Some, None, refl, sym, ap, subst, ◌∙◌, append_assoc, append-nil}
 use Rattle.std.proofs.lemmas.List.Folds.{list_any-append}
 use Rattle.std.proofs.lemmas.Map.Keys.{IsDistinct-head, IsDistinct-tail, IsDistinct-push}
 use Rattle.std.specs.Prelude.{is_some}
@@ -11,11 +11,13 @@ use Rattle.pt_events.specs.History.{Phase, unborn, living, ended, is_living, is_
 use Rattle.pt_shard.specs.ShardState.{ShardState, phase_of}
 use Rattle.pt_shard.specs.Extends.{Extends}
 use Rattle.pt_crew.specs.declared.behaviour.Next.{Next}
-use Rattle.pt_crew.specs.declared.behaviour.Next.TheVariants.{Wait, Proceed, Stop}
+use Rattle.pt_crew.specs.declared.behaviour.Next.TheVariants.{Wait, WaitUntil, Proceed, Stop}
 use Rattle.pt_crew.specs.declared.crew.Member.{Member}
 use Rattle.pt_crew.specs.Waking.{Members, IsQueue, Knows, has_work, in_queue}
 use Rattle.pt_crew.specs.declared.crew.Crew.{Crew}
-use Rattle.pt_crew.specs.Crews.{members, role, queue, IsSame, KeepsRest, KnowsDesk}
+use Rattle.pt_timers.specs.declared.Timer.{Timer}
+use Rattle.pt_crew.specs.Waking.{timer_of}
+use Rattle.pt_crew.specs.Crews.{members, role, queue, HasTimers, IsSame, KeepsRest, KnowsDesk}
 use Rattle.pt_crew.specs.Parts.{QueueHolds, QueueIsLonger, Wakes, is_marked}
 use Rattle.std.specs.Option.{option_map}
 use Rattle.pt_signal.proofs.Same.{same_pid_refl, same_pid_is}
@@ -26,6 +28,7 @@ use Rattle.pt_crew.proofs.Places.{same_pid_sym, same_pid_laws}
 -- nothing came to p since the desk was so: what it has to do now it had to do then
 worked_before : (old new : ShardState) (e : Extends old new) (n : Next) (p : Pid) → came_in p e.more ≡ false → has_work n (phase_of new p) ≡ true → has_work n (phase_of old p) ≡ true
 worked_before old new e (Wait k) p none w = need_not_before old new e k p none w
+worked_before old new e (WaitUntil k at) p none w = need_not_before old new e k p none w
 worked_before old new e Proceed p none w = refl
 worked_before old new e (Stop r) p none w = refl
 
@@ -92,6 +95,9 @@ or_right false b h = h
 -- whoever is pushed stands in the queue, as whoever stood there
 pub pushed : (p : Pid) (ps : List Pid) → in_queue p (ps ++ p ∷ []) ≡ true
 pushed p ps = list_any-append (same_pid p) ps (p ∷ []) ∙ or_right (in_queue p ps) (in_queue p (p ∷ [])) (or_left (same_pid p p) false (same_pid_refl p))
+
+pub first_in : (p : Pid) (ps : List Pid) → in_queue p (p ∷ ps) ≡ true
+first_in p ps = or_left (same_pid p p) (in_queue p ps) (same_pid_refl p)
 
 pub kept_in : (q p : Pid) (ps : List Pid) → in_queue q ps ≡ true → in_queue q (ps ++ p ∷ []) ≡ true
 kept_in q p ps h = list_any-append (same_pid q) ps (p ∷ []) ∙ or_left (in_queue q ps) (in_queue q (p ∷ [])) h
@@ -245,8 +251,9 @@ changed {B} mem new p w before queue read d later e at stays here marked known =
 -- p is put into the queue, or stands there
 pub woken : {B : Type 0} (p : Pid) (old new : Crew B) (v w : Member B) → members old p ≡ Some v → ((q : Pid) → members new q ≡ cond (same_pid p q) (Some w) (members old q))
     → w.queued ≡ true → w.next ≡ v.next → w.behaviour ≡ v.behaviour → (QueueHolds old → QueueHolds new) → QueueIsLonger (queue old) (queue new)
+    → (HasTimers old → HasTimers new) → (HasTimers old → (t : Timer) → timer_of (members old p) ≡ Some t → length new.timers.pending + 1 ≡ length old.timers.pending)
     → new.read ≡ old.read → KeepsRest old new → Wakes p old new
-woken {B} p old new v w held at on same_next same_behaviour queued longer read rest = record {
+woken {B} p old new v w held at on same_next same_behaviour queued longer timers fewer read rest = record {
   others = elsewhere (members old) (members new) p (Some w) at;
   marked = λ m is. subst (λ (x : Member B). x.queued ≡ true) (is_w m is) on;
   roles = λ q. by_cases (same_pid p q)
@@ -255,6 +262,8 @@ woken {B} p old new v w held at on same_next same_behaviour queued longer read r
       (λ other. ap (option_map role) (elsewhere (members old) (members new) p (Some w) at q other));
   longer = longer;
   queued = queued;
+  timers = timers;
+  fewer = fewer;
   read = read;
   rest = rest;
 }

@@ -1,5 +1,5 @@
 -- The children that a behaviour bears.
-use Rattle.std.specs.Prelude.{◌≡◌, ◌⊎◌, ◌-◌, Bool, List, [], ◌∷◌, ◌++◌, length, take, drop, true, Result, Ok, Err}
+use Rattle.std.specs.Prelude.{◌≡◌, ◌⊎◌, ℕ, ◌-◌, Bool, List, [], ◌∷◌, ◌++◌, length, take, drop, true, Result, Ok, Err}
 use Rattle.pt_signal.specs.declared.pid.Pid.{Pid}
 use Rattle.pt_shard.specs.declared.fault.Fault.{Fault}
 use Rattle.pt_shard.specs.declared.fault.Fault.TheVariants.{Memory}
@@ -13,6 +13,10 @@ use Rattle.pt_crew.specs.declared.births.Births.{Births}
 -- those that were born and wait to enter their crew, the first in front
 abbrev pub born : {B : Type 0} → Births B → List (Role B)
 born b = b.list.items
+
+-- the time that a behaviour is told
+abbrev pub time_told : {B : Type 0} → Births B → ℕ
+time_told b = b.time
 
 -- those of them that waited before a behaviour was handed its item
 abbrev pub kept_roles : {B : Type 0} → Births B → List (Role B)

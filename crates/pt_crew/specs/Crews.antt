@@ -1,6 +1,6 @@
 -- What a crew knows, and what each of its calls does.
 use Rattle.std.specs.Prelude.{◌≡◌, ◌⊎◌, ⊤, ℕ, ◌+◌, ◌≤◌, max, cond, Bool, true, false, ◌||◌, List, [], ◌∷◌, ◌++◌, length}
-use Rattle.std.specs.Prelude.{Some, None, MatchBool, Result, Ok, Err}
+use Rattle.std.specs.Prelude.{Option, Some, None, MatchBool, Result, Ok, Err}
 use Rattle.std.specs.List.{IsDistinct}
 use Rattle.std.specs.VecDeque.{deque_capacity, deque_len}
 use Rattle.std.specs.Option.{option_map}
@@ -20,7 +20,7 @@ use Rattle.pt_crew.specs.Births.{born}
 use Rattle.pt_crew.specs.declared.crew.Member.{Member}
 use Rattle.pt_crew.specs.declared.births.Role.{Role}
 use Rattle.pt_crew.specs.declared.crew.Crew.{Crew}
-use Rattle.pt_crew.specs.Waking.{Members, Knows, IsAwake}
+use Rattle.pt_crew.specs.Waking.{Members, Knows, IsAwake, AreTimed, AreRung, in_queue, until_of}
 use Rattle.pt_crew.specs.Visiting.{Answers, Roles, AreSame, AreWith, Scene, Visits}
 use Rattle.pt_crew.specs.Handing.{Handed}
 
@@ -62,6 +62,10 @@ rounds_asked c = c.rounds
 abbrev pub was_refused : {B : Type 0} → Crew B → Bool
 was_refused c = c.refused
 
+-- what time it is in the steps that follow
+abbrev pub time_of : {B : Type 0} → Crew B → ℕ
+time_of c = c.time
+
 -- what the crew knows of its desk
 abbrev pub KnowsDesk : {B : Type 0} → Crew B → ShardState → Type 0
 KnowsDesk c d = Knows (members c) (queue c) (read_events c) d
@@ -75,27 +79,48 @@ unmarked (e ∷ es) = cond e.1.queued 0 1 + unmarked es
 abbrev pub HasRoom : {B : Type 0} → Crew B → Type 0
 HasRoom c = deque_len c.queue + unmarked c.members.entries ≤ deque_capacity c.queue
 
+-- its timers are those of its processes that wait until a time and do not stand in the queue
+abbrev pub HasTimers : {B : Type 0} → Crew B → Type 0
+HasTimers c = AreTimed (members c) c.timers
+
 -- the crew is one of this desk: it is so as it is made, and whatever goes on with the desk leaves it so
 pub record Attends {B : Type 0} (c : Crew B) (d : ShardState) : Type 0 where
   pub knows : KnowsDesk c d
   pub room : HasRoom c
+  pub timers : HasTimers c
+
+-- it is a process that waits until a time, and does not stand in the queue
+pub record WaitsUntil {B : Type 0} (c : Crew B) (p : Pid) (at : ℕ) : Type 0 where
+  pub behaviour : B
+  pub next : Next
+  pub role : roles c p ≡ Some (behaviour, next)
+  pub until : until_of next ≡ Some at
+  pub apart : in_queue p (queue c) ≡ false
+
+-- the earliest of those times, if there is one
+abbrev pub IsNextTime : {B : Type 0} → Crew B → Option ℕ → Type 0
+IsNextTime c (Some time) =
+    ((p : Pid) × WaitsUntil c p time) × ((p : Pid) (at : ℕ) → WaitsUntil c p at → time ≤ at)
+IsNextTime c None = (p : Pid) (at : ℕ) → WaitsUntil c p at → ⊥
 
 -- each process of the crew was born on the desk
 abbrev pub AreBorn : {B : Type 0} → Roles B → ShardState → Type 0
 AreBorn {B} roles d = (p : Pid) (r : B × Next) → roles p ≡ Some r → is_unborn (phase_of d p) ≡ false
 
--- so many rounds, who waits to enter, and what the last step said, stay
+-- so many rounds, the time, who waits to enter, and what the last step said, stay
 pub record KeepsRest {B : Type 0} (old new : Crew B) : Type 0 where
   pub waiting : waiting new ≡ waiting old
   pub left : left new ≡ left old
   pub refused : was_refused new ≡ was_refused old
   pub rounds : rounds_asked new ≡ rounds_asked old
+  pub time : time_of new ≡ time_of old
 
 -- nothing that is known has changed
 pub record IsSame {B : Type 0} (old new : Crew B) : Type 0 where
   pub members : (q : Pid) → members new q ≡ members old q
   pub queue : queue new ≡ queue old
   pub read : read_events new ≡ read_events old
+  pub timers : new.timers ≡ old.timers
   pub rest : KeepsRest old new
 
 -- A process is born and enters the crew, behind its queue; or nothing has changed, where the desk refused the birth or
@@ -114,6 +139,7 @@ scene again c d = record {
   born = waiting c;
   left = left c;
   refused = was_refused c;
+  time = time_of c;
   desk = d;
 }
 
@@ -158,6 +184,8 @@ pub record StepsOn {B : Type 0} (answers : Answers B) (old : Crew B) (d : ShardS
   pub woken : List Pid
   -- so each process that has something to do as the step begins is in the queue of the first round
   pub first : Attends old d → IsAwake (members old) (queue old ++ woken) d
+  -- and so is each one that waits until a time which has come
+  pub due : Attends old d → AreRung (time_of old) (members old) (queue old ++ woken)
   pub queues : List (List Pid)
   pub last : Scene B
   pub rounds : CrewRounds answers queues
@@ -167,6 +195,7 @@ pub record StepsOn {B : Type 0} (answers : Answers B) (old : Crew B) (d : ShardS
         born = waiting old;
         left = [];
         refused = false;
+        time = time_of old;
         desk = d;
       }) last
   pub count : length queues ≡ max 1 (rounds_asked old)
@@ -179,6 +208,7 @@ pub record StepsOn {B : Type 0} (answers : Answers B) (old : Crew B) (d : ShardS
   pub queue : (later : List Pid) × (queue new ≡ last.again ++ later)
   pub desk : e ≡ last.desk
   pub same : rounds_asked new ≡ rounds_asked old
+  pub time : time_of new ≡ time_of old
 
 -- a step of a crew
 pub record CrewDoes {B : Type 0} (answers : Answers B) (old : Crew B) (d : ShardState) (new : Crew B)
@@ -186,7 +216,7 @@ pub record CrewDoes {B : Type 0} (answers : Answers B) (old : Crew B) (d : Shard
   -- who stood in the queue is come to, in its order, once in each round
   pub steps : StepsOn answers old d new e
   -- each item that was taken was handed to the behaviour of its process, once and in order
-  pub hands : Handed answers (roles old) d steps.last.roles e
+  pub hands : Handed answers (time_of old) (roles old) d steps.last.roles e
   pub attends : Attends old d → Attends new e
   -- no wake-up is lost
   pub awake : Attends old d → IsAwake (members new) (queue new) e

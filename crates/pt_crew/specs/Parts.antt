@@ -15,11 +15,15 @@ use Rattle.pt_crew.specs.declared.crew.Member.{Member}
 use Rattle.pt_crew.specs.declared.crew.Crew.{Crew}
 use Rattle.pt_crew.specs.declared.crew.Tended.{Tended}
 use Rattle.pt_crew.specs.declared.crew.Tended.TheVariants.{Idle, Again, Done, Refused, Gone}
-use Rattle.pt_crew.specs.Waking.{IsQueue, has_work}
+use Rattle.pt_timers.specs.declared.Timer.{Timer}
+use Rattle.pt_timers.specs.Order.{same_timer}
+use Rattle.pt_timers.specs.State.{TimersState, IsPending, body_of}
+use Rattle.pt_timers.specs.Calls.{Started}
+use Rattle.pt_crew.specs.Waking.{IsQueue, has_work, timer_of, until_of}
 use Rattle.pt_crew.specs.Visiting.{Answers, AreSame, VisitsOne, again_as, leaves_crew, is_refused, left_as}
 use Rattle.pt_crew.specs.declared.births.Role.{Role}
-use Rattle.pt_crew.specs.Crews.{IsSame, KeepsRest, Aboard, EntersOne, EntersAll, members, queue, role, roles, left}
-use Rattle.pt_crew.specs.Crews.{waiting, scene, are_any, unmarked, read_events, rounds_asked, was_refused}
+use Rattle.pt_crew.specs.Crews.{IsSame, KeepsRest, Aboard, EntersOne, EntersAll, HasTimers, members, queue, role, roles, left}
+use Rattle.pt_crew.specs.Crews.{waiting, scene, are_any, unmarked, read_events, rounds_asked, was_refused, time_of}
 
 -- what the queue of a crew is
 abbrev pub QueueHolds : {B : Type 0} → Crew B → Type 0
@@ -37,6 +41,10 @@ pub record Wakes {B : Type 0} (p : Pid) (old new : Crew B) : Type 0 where
   pub queued : QueueHolds old → QueueHolds new
   pub longer : QueueIsLonger (queue old) (queue new)
   pub read : read_events new ≡ read_events old
+  pub timers : HasTimers old → HasTimers new
+  -- its timer, if it has one, is pending no more
+  pub fewer : HasTimers old → (t : Timer) → timer_of (members old p) ≡ Some t
+      → length new.timers.pending + 1 ≡ length old.timers.pending
   pub rest : KeepsRest old new
 
 -- whoever is of the crew, and not among these, is marked
@@ -52,6 +60,7 @@ pub record WakesAt {B : Type 0} (place : ℕ) (old new : Crew B) : Type 0 where
   pub roles : AreSame (roles old) (roles new)
   pub queued : QueueHolds old → QueueHolds new
   pub longer : QueueIsLonger (queue old) (queue new)
+  pub timers : HasTimers old → HasTimers new
   pub rest : KeepsRest old new
 
 -- who is woken by the event
@@ -91,6 +100,8 @@ pub record PutsMember {B : Type 0} (p : Pid) (t : Tended) (old new : Crew B) : T
   pub waiting : waiting new ≡ waiting old
   pub read : read_events new ≡ read_events old
   pub rounds : rounds_asked new ≡ rounds_asked old
+  pub time : time_of new ≡ time_of old
+  pub timers : new.timers ≡ old.timers
   pub room : (deque_capacity new.queue ≡ deque_capacity old.queue) × (deque_len new.queue ≡ deque_len old.queue + length (again_as p t))
       × (unmarked new.members.entries ≤ unmarked old.members.entries)
 
@@ -114,6 +125,7 @@ pub record AdmitsFirst {B : Type 0} (lives : Pid → Bool) (old new : Crew B) : 
       ⊎ ((aboard new ≡ aboard old) × (waiting new ≡ waiting old) × (was_refused new ≡ true) × (CanEnter old → ⊥))
   pub longer : QueueIsLonger (queue old) (queue new)
   pub rounds : rounds_asked new ≡ rounds_asked old
+  pub time : time_of new ≡ time_of old
 
 -- those that were born enter, the first ones: one at least if there is room for one, and all unless it was refused
 pub record Admits {B : Type 0} (lives : Pid → Bool) (old new : Crew B) : Type 0 where
@@ -124,9 +136,30 @@ pub record Admits {B : Type 0} (lives : Pid → Bool) (old new : Crew B) : Type 
   pub told : was_refused new ≡ (was_refused old || are_any (waiting new))
   pub longer : QueueIsLonger (queue old) (queue new)
   pub rounds : rounds_asked new ≡ rounds_asked old
+  pub time : time_of new ≡ time_of old
 
 -- the first of the queue is come to, and stands behind it then or nowhere
 abbrev pub Serves : {B : Type 0} → Answers B → List Pid → Crew B → ShardState → Crew B → ShardState → Type 0
 Serves answers [] old d new e = Unit {0}
 Serves answers (p ∷ rest) old d new e =
     (back : List Pid) × VisitsOne answers p (scene [] old d) (scene back new e) × (queue new ≡ rest ++ back)
+
+-- a timer, if there is one, is pending no more
+abbrev pub Stops : Option Timer → TimersState Pid → TimersState Pid → Type 0
+Stops None old new = new ≡ old
+Stops (Some t) old new =
+    ((u : Timer) → body_of new u ≡ cond (same_timer t u) None (body_of old u))
+    × (IsPending old t → length new.pending + 1 ≡ length old.pending)
+
+-- the time until which a process sleeps of which that came
+abbrev pub sleeper : Tended → Next → Option ℕ
+sleeper Idle next = until_of next
+sleeper _ next = None
+
+-- one that sleeps until a time has a timer of it then, or is refused for want of memory; all else stays
+abbrev pub SleepsUntil : {B : Type 0} → Option ℕ → Pid → Tended → Member B → TimersState Pid → Tended → Member B
+    → TimersState Pid → Type 0
+SleepsUntil None p tended m old result w new = (result ≡ tended) × (w ≡ m) × (new ≡ old)
+SleepsUntil (Some at) p tended m old result w new =
+    ((t : Timer) × (result ≡ Idle) × (w ≡ record m { timer = Some t }) × Started at p old t new)
+    ⊎ ((result ≡ Refused) × (w ≡ m) × (new ≡ old))

@@ -1,5 +1,5 @@
 -- What a behaviour upholds on its desk, whatever its crew does.
-use Rattle.std.specs.Prelude.{◌≡◌, ◌⊎◌, ⊤, cond, true, false, List, [], ◌∷◌, ◌++◌, Option, Some, None}
+use Rattle.std.specs.Prelude.{◌≡◌, ◌⊎◌, ⊤, is_some, cond, true, false, List, [], ◌∷◌, ◌++◌, Option, Some, None}
 use Rattle.pt_signal.specs.declared.pid.Pid.{Pid}
 use Rattle.pt_signal.specs.declared.item.Item.{Item}
 use Rattle.pt_signal.specs.declared.item.Pick.{Pick}
@@ -13,9 +13,10 @@ use Rattle.pt_events.specs.History.{is_unborn}
 use Rattle.pt_shard.specs.ShardState.{ShardState, phase_of, lives, shard_after, handled}
 use Rattle.pt_shard.specs.Calls.{first_match}
 use Rattle.pt_crew.specs.declared.behaviour.Next.{Next}
-use Rattle.pt_crew.specs.declared.behaviour.Next.TheVariants.{Wait, Proceed, Stop}
+use Rattle.pt_crew.specs.declared.behaviour.Next.TheVariants.{Proceed, Stop}
 use Rattle.pt_crew.specs.declared.births.Role.{Role}
 use Rattle.pt_crew.specs.declared.crew.Crew.{Crew}
+use Rattle.pt_crew.specs.Waking.{pick_of, until_of}
 use Rattle.pt_crew.specs.Visiting.{Answers, Roles}
 use Rattle.pt_crew.specs.Crews.{roles, waiting}
 
@@ -47,11 +48,18 @@ IsLeftAlone q d e = (phase_of e q ≡ phase_of d q) × (children_by q e.journal 
 abbrev pub ActsFor : Pid → ShardState → ShardState → Type 0
 ActsFor p d e = (q : Pid) → same_pid p q ≡ false → is_unborn (phase_of d q) ≡ false → IsLeftAlone q d e
 
--- p, which lives, was to proceed, or waited and the first item that its pick fits was taken
+-- it was to proceed; or it waited until a time, for a pick that no item fits
+abbrev pub GoesOnWithout : Pid → Next → ShardState → Type 0
+GoesOnWithout p before d =
+    (before ≡ Proceed)
+    ⊎ ((pick : Pick) × (pick_of before ≡ Some pick) × (is_some (until_of before) ≡ true)
+    × (first_match d p pick ≡ None))
+
+-- p, which lives, goes on without an item, or waited and the first item that its pick fits was taken
 abbrev pub ItemIsTaken : Pid → Next → Option Item → ShardState → ShardState → Type 0
-ItemIsTaken p before None d mid = (before ≡ Proceed) × (lives d p ≡ true) × (mid ≡ d)
+ItemIsTaken p before None d mid = GoesOnWithout p before d × (lives d p ≡ true) × (mid ≡ d)
 ItemIsTaken p before (Some item) d mid =
-    (pick : Pick) × (before ≡ Wait pick) × (lives d p ≡ true) × (first_match d p pick ≡ Some item)
+    (pick : Pick) × (pick_of before ≡ Some pick) × (lives d p ≡ true) × (first_match d p pick ≡ Some item)
     × (mid ≡ shard_after (Took p pick item) d)
 
 -- one that is born, or enters, stands so on every desk

@@ -1,9 +1,10 @@
 -- What it is to come to a process of a crew: its end is asked for, or one item that its pick fits, which is handed to
--- its behaviour.
-use Rattle.std.specs.Prelude.{◌≡◌, ◌⊎◌, cond, Bool, true, false, ◌||◌, List, [], ◌∷◌, ◌++◌, Option, Some, None}
+-- its behaviour, or none where its time has come.
+use Rattle.std.specs.Prelude.{◌≡◌, ◌⊎◌, ℕ, nat_le, cond, Bool, true, false, ◌||◌, List, [], ◌∷◌, ◌++◌, Option, Some, None}
 use Rattle.std.specs.Prelude.{MatchBool, Result, Ok, Err}
 use Rattle.pt_signal.specs.declared.pid.Pid.{Pid}
 use Rattle.pt_signal.specs.declared.item.Item.{Item}
+use Rattle.pt_signal.specs.declared.item.Pick.{Pick}
 use Rattle.pt_signal.specs.Values.{same_pid}
 use Rattle.pt_events.specs.declared.event.Event.{Event}
 use Rattle.pt_events.specs.declared.event.Event.TheVariants.{Took, Left}
@@ -15,7 +16,7 @@ use Rattle.pt_shard.specs.ShardState.{ShardState, lives, phase_of}
 use Rattle.pt_shard.specs.Calls.{Calls, take_event, first_match}
 use Rattle.pt_shard.specs.Extends.{Extends}
 use Rattle.pt_crew.specs.declared.behaviour.Next.{Next}
-use Rattle.pt_crew.specs.declared.behaviour.Next.TheVariants.{Wait, Proceed, Stop}
+use Rattle.pt_crew.specs.declared.behaviour.Next.TheVariants.{Wait, WaitUntil, Proceed, Stop}
 use Rattle.pt_crew.specs.declared.births.Role.{Role}
 use Rattle.pt_crew.specs.Births.{bore}
 use Rattle.pt_crew.specs.declared.crew.Tended.{Tended}
@@ -48,6 +49,8 @@ pub record Scene (B : Type 0) : Type 0 where
   pub left : List (Role B)
   -- whether a call was refused in this step
   pub refused : Bool
+  -- what time it is in this step
+  pub time : ℕ
   pub desk : ShardState
 
 -- whoever took an item, and the item
@@ -94,33 +97,43 @@ LeavesAs d t now e = (t ≡ Ended) × (now ≡ None) × (e ≡ d)
 abbrev pub StaysAs : {B : Type 0} → Tended → B × Next → ShardState → Tended → Option (B × Next) → ShardState → Type 0
 StaysAs came role d t now e = (t ≡ came) × (now ≡ Some role) × (e ≡ d)
 
--- An item was asked for. One that was taken is handed over; a refusal for want of memory or stamps leaves all as it is.
-abbrev pub TakesAs : {B : Type 0} → Answers B → Pid → B × Next → ShardState → Result (Option Item) Fault → Tended
+-- An item was asked for. One that was taken is handed over. If there is none, none is handed over where the time is over,
+-- and else all stays. A refusal for want of memory or stamps leaves all as it is.
+abbrev pub TakesAs : {B : Type 0} → Answers B → Pid → B × Next → Bool → ShardState → Result (Option Item) Fault → Tended
     → Option (B × Next) → ShardState → List (Role B) → Type 0
-TakesAs answers p role d (Ok None) t now e births = StaysAs Idle role d t now e
-TakesAs answers p role d (Ok (Some item)) t now e births = HandsTo answers p role.0 (Some item) d t now e births
-TakesAs answers p role d (Err Gone) t now e births = LeavesAs d t now e
-TakesAs answers p role d (Err f) t now e births = StaysAs Refused role d t now e
+TakesAs answers p role over d (Ok None) t now e births =
+    MatchBool over (HandsTo answers p role.0 None d t now e births) (StaysAs Idle role d t now e)
+TakesAs answers p role over d (Ok (Some item)) t now e births = HandsTo answers p role.0 (Some item) d t now e births
+TakesAs answers p role over d (Err Gone) t now e births = LeavesAs d t now e
+TakesAs answers p role over d (Err f) t now e births = StaysAs Refused role d t now e
 
--- the process p, which does this next, is seen to, and that comes of it
-abbrev pub SeesTo : {B : Type 0} → Answers B → Pid → B → Next → ShardState → Tended → Option (B × Next) → ShardState
-    → List (Role B) → Type 0
-SeesTo answers p b (Stop reason) d t now e births =
-    (result : Result (Unit {0}) Fault) × Calls p (Some (Left p reason)) (tt {0}) d result e
-    × EndsAs (b, Stop reason) result t now
-SeesTo answers p b Proceed d t now e births =
-    MatchBool (lives d p) (HandsTo answers p b None d t now e births) (LeavesAs d t now e)
-SeesTo answers p b (Wait pick) d t now e births =
+-- the first item that the pick fits is asked for
+abbrev pub AsksFor : {B : Type 0} → Answers B → Pid → B × Next → Pick → Bool → ShardState → Tended → Option (B × Next)
+    → ShardState → List (Role B) → Type 0
+AsksFor answers p role pick over d t now e births =
     (result : Result (Option Item) Fault) × (mid : ShardState)
     × Calls p (take_event d p pick) (first_match d p pick) d result mid
-    × TakesAs answers p (b, Wait pick) mid result t now e births
+    × TakesAs answers p role over mid result t now e births
 
--- nothing is done for one that is not of the crew, nor where there is no memory to keep its behaviour if it leaves
-abbrev pub ComesTo : {B : Type 0} → Answers B → Pid → Option (B × Next) → ShardState → Tended → Option (B × Next)
+-- the process p, which does this next, is seen to at that time, and that comes of it
+abbrev pub SeesTo : {B : Type 0} → Answers B → ℕ → Pid → B → Next → ShardState → Tended → Option (B × Next)
     → ShardState → List (Role B) → Type 0
-ComesTo answers p None d t now e births = (t ≡ Idle) × (now ≡ None) × (e ≡ d)
-ComesTo answers p (Some role) d t now e births =
-    StaysAs Refused role d t now e ⊎ SeesTo answers p role.0 role.1 d t now e births
+SeesTo answers time p b (Stop reason) d t now e births =
+    (result : Result (Unit {0}) Fault) × Calls p (Some (Left p reason)) (tt {0}) d result e
+    × EndsAs (b, Stop reason) result t now
+SeesTo answers time p b Proceed d t now e births =
+    MatchBool (lives d p) (HandsTo answers p b None d t now e births) (LeavesAs d t now e)
+SeesTo answers time p b (Wait pick) d t now e births = AsksFor answers p (b, Wait pick) pick false d t now e births
+SeesTo answers time p b (WaitUntil pick at) d t now e births =
+    AsksFor answers p (b, WaitUntil pick at) pick (nat_le at time) d t now e births
+
+-- Nothing is done for one that is not of the crew. Nor is it where there is no memory to keep its behaviour if it
+-- leaves, or for the timer of one that waits until a time.
+abbrev pub ComesTo : {B : Type 0} → Answers B → ℕ → Pid → Option (B × Next) → ShardState → Tended → Option (B × Next)
+    → ShardState → List (Role B) → Type 0
+ComesTo answers time p None d t now e births = (t ≡ Idle) × (now ≡ None) × (e ≡ d)
+ComesTo answers time p (Some role) d t now e births =
+    StaysAs Refused role d t now e ⊎ SeesTo answers time p role.0 role.1 d t now e births
 
 -- whoever was handed something and may have more to do, or was refused, goes behind the queue
 abbrev pub goes_behind : Tended → Bool
@@ -158,12 +171,13 @@ BearsChildren Ended old new = new ≡ old
 -- p is come to, and all others stay
 pub record VisitsOne {B : Type 0} (answers : Answers B) (p : Pid) (old new : Scene B) : Type 0 where
   pub tended : Tended
-  pub comes : ComesTo answers p (old.roles p) old.desk tended (new.roles p) new.desk (bore old.born new.born)
+  pub comes : ComesTo answers old.time p (old.roles p) old.desk tended (new.roles p) new.desk (bore old.born new.born)
   pub others : AreWith p (new.roles p) old.roles new.roles
   pub again : new.again ≡ old.again ++ again_as p tended
   pub born : BearsChildren tended old.born new.born
   pub left : new.left ≡ old.left ++ left_as p (old.roles p) tended
   pub refused : new.refused ≡ (old.refused || is_refused tended)
+  pub time : new.time ≡ old.time
 
 -- so these, one after the other
 abbrev pub Visits : {B : Type 0} → Answers B → List Pid → Scene B → Scene B → Type 0

@@ -1,22 +1,38 @@
 -- Who of a crew has something to do, and who of it stands in the queue.
-use Rattle.std.specs.Prelude.{◌≡◌, ℕ, Bool, true, false, List, length, ◌++◌, Option, Some}
+use Rattle.std.specs.Prelude.{◌≡◌, ℕ, ◌≤◌, cond, Bool, true, false, List, length, ◌++◌, Option, Some, None}
 use Rattle.std.specs.List.{IsDistinct, list_any}
+use Rattle.std.specs.Option.{option_map}
+use Rattle.pt_timers.specs.declared.Timer.{Timer}
+use Rattle.pt_timers.specs.State.{TimersState, body_of}
 use Rattle.pt_signal.specs.declared.pid.Pid.{Pid}
+use Rattle.pt_signal.specs.declared.item.Pick.{Pick}
 use Rattle.pt_signal.specs.Values.{same_pid}
 use Rattle.pt_events.specs.declared.event.Stamped.{Stamped}
 use Rattle.pt_events.specs.History.{Phase, is_unborn}
 use Rattle.pt_shard.specs.ShardState.{ShardState, phase_of}
 use Rattle.pt_workers.specs.Waking.{came_in, need_not_wait}
 use Rattle.pt_crew.specs.declared.behaviour.Next.{Next}
-use Rattle.pt_crew.specs.declared.behaviour.Next.TheVariants.{Wait, Proceed, Stop}
+use Rattle.pt_crew.specs.declared.behaviour.Next.TheVariants.{Wait, WaitUntil, Proceed, Stop}
 use Rattle.pt_crew.specs.declared.crew.Member.{Member}
 
 -- A process in this phase has something to do: it need not wait, as an item that its pick fits stands in its mailbox, or
 -- it has ended and is to leave its crew; or it is to proceed or to end.
 abbrev pub has_work : Next → Phase → Bool
 has_work (Wait k) f = need_not_wait k f
+has_work (WaitUntil k at) f = need_not_wait k f
 has_work Proceed f = true
 has_work (Stop r) f = true
+
+-- the pick that it waits for
+abbrev pub pick_of : Next → Option Pick
+pick_of (Wait k) = Some k
+pick_of (WaitUntil k at) = Some k
+pick_of _ = None
+
+-- the time until which it waits
+abbrev pub until_of : Next → Option ℕ
+until_of (WaitUntil k at) = Some at
+until_of _ = None
 
 abbrev pub in_queue : Pid → List Pid → Bool
 in_queue p queue = list_any (same_pid p) queue
@@ -51,3 +67,25 @@ pub record Knows {B : Type 0} (members : Members B) (queue : List Pid) (read : �
 abbrev pub IsAwake : {B : Type 0} → Members B → List Pid → ShardState → Type 0
 IsAwake {B} members queue d =
     (p : Pid) (m : Member B) → members p ≡ Some m → has_work m.next (phase_of d p) ≡ true → in_queue p queue ≡ true
+
+-- the timer of a member
+abbrev pub timer_of : {B : Type 0} → Option (Member B) → Option Timer
+timer_of None = None
+timer_of (Some m) = m.timer
+
+-- the time until which a member waits that does not stand in the queue
+abbrev pub sleeps_until : {B : Type 0} → Member B → Option ℕ
+sleeps_until m = cond m.queued None (until_of m.next)
+
+-- The timers that are pending are those of the members, each of its own one; and a member has one, of the time until
+-- which it waits, where it waits until a time and does not stand in the queue.
+pub record AreTimed {B : Type 0} (members : Members B) (timers : TimersState Pid) : Type 0 where
+  pub own : (p : Pid) (t : Timer) → timer_of (members p) ≡ Some t → body_of timers t ≡ Some p
+  pub owned : (p : Pid) (t : Timer) → body_of timers t ≡ Some p → timer_of (members p) ≡ Some t
+  pub timed : (p : Pid) (m : Member B) → members p ≡ Some m → option_map (λ t. t.at) m.timer ≡ sleeps_until m
+
+-- each member that waits until a time which has come stands in the queue
+abbrev pub AreRung : {B : Type 0} → ℕ → Members B → List Pid → Type 0
+AreRung {B} time members queue =
+    (p : Pid) (m : Member B) (at : ℕ) → members p ≡ Some m → until_of m.next ≡ Some at → at ≤ time
+    → in_queue p queue ≡ true

@@ -19,6 +19,9 @@ pub enum Next {
     /// It waits for an item that matches this pick. The others stay in its mailbox, in order. Each item matches
     /// `Pick::Any`.
     Wait(Pick),
+    /// It waits for an item that matches this pick, but no longer than until this time: Erlang's `receive .. after`. It
+    /// gets `None` at the first step whose time is not below this one, unless an item that matches is there.
+    WaitUntil(Pick, u64),
     /// It gets `None` when it runs next: Erlang's `{continue, ..}`.
     Proceed,
     /// It exits with this reason when it runs next.
@@ -34,8 +37,8 @@ pub enum Next {
 pub trait Behaviour {
     ghost answers: { Self → ShardState → Pid → Option Item → Next → Self → ShardState → List (Role Self) → Type 0 };
 
-    /// Handles one item, which was taken out of the mailbox of `me`, or gets `None` if `me` was to proceed. It must
-    /// take no other item out of a mailbox.
+    /// Handles one item, which was taken out of the mailbox of `me`, or gets `None` if `me` was to proceed, or waited
+    /// until a time that has come. It must take no other item out of a mailbox. [`Births::now`] is the step's time.
     ///
     /// The calls of a desk in the form of [`send`](crate::send), [`monitor`](crate::monitor) and their like keep what is
     /// required here. The children that it spawns ([`spawn_child`](crate::spawn_child)) enter the crew as the step ends.

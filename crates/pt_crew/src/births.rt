@@ -2,7 +2,7 @@
 
 ghost use Rattle.std.specs.Prelude.{◌≡◌, [], ◌∷◌, length, MatchOption};
 ghost use Rattle.pt_desk.specs.DeskState.{GoesOn};
-ghost use Rattle.pt_crew.specs.Births.{Bore, born, kept_roles};
+ghost use Rattle.pt_crew.specs.Births.{Bore, born, kept_roles, time_told};
 ghost use Rattle.pt_crew.specs.Visiting.{takes};
 
 use crate::behaviour::Next;
@@ -24,17 +24,28 @@ pub struct Births<B> {
     list: VecDeque<Role<B>>,
     /// How many of them, the last ones, were spawned since a behaviour got its item.
     fresh: usize,
+    /// The time of the step in which the behaviour got its item.
+    time: u64,
 }
 
 impl<B: Drop> Births<B> {
     /// None yet.
     pub fn new(alloc: Global) -> Births<B>
-        ensures { born result ≡ [] }
+        ensures born { born result ≡ [] }
+        ensures time { time_told result ≡ 0 }
     {
         Births {
             list: VecDeque::new(alloc),
             fresh: 0,
+            time: 0,
         }
+    }
+
+    /// The time of the step in which the behaviour got its item: see [`Crew::set_time`](crate::Crew::set_time).
+    pub fn now(&self) -> u64
+        ensures { result ≡ time_told self.now }
+    {
+        self.time
     }
 
     /// The number of those that wait.
@@ -44,12 +55,14 @@ impl<B: Drop> Births<B> {
         self.list.len()
     }
 
-    /// Marks that those who wait now are no children of the behaviour that gets an item next.
-    pub(crate) fn begin(&mut self)
+    /// Marks that those who wait now are no children of the behaviour that gets an item next, and what time it is then.
+    pub(crate) fn begin(&mut self, time: u64)
         ensures same { born self.new ≡ born self.old }
         ensures all { kept_roles self.new ≡ born self.old }
+        ensures told { time_told self.new ≡ time }
     {
         self.fresh = 0;
+        self.time = time;
     }
 
     /// Takes the first of those that wait.

@@ -9,21 +9,25 @@ ghost use Rattle.pt_events.specs.History.{is_unborn};
 ghost use Rattle.pt_shard.specs.ShardState.{ShardState, lives, phase_of};
 ghost use Rattle.pt_desk.specs.DeskState.{GoesOn};
 ghost use Rattle.pt_crew.specs.Births.{bore, born};
-ghost use Rattle.pt_crew.specs.Visiting.{AreSame, AreWith, BearsChildren, SeesTo, Visits, goes_behind, handed_as, takes};
-ghost use Rattle.pt_crew.specs.Crews.{AreBorn, Attends, Enters, HasRoom, IsSame, KeepsRest, KnowsDesk, CrewWorks, left};
-ghost use Rattle.pt_crew.specs.Crews.{crew_size, members, queue, read_events, roles, rounds_asked, scene, waiting};
-ghost use Rattle.pt_crew.specs.Crews.{was_refused};
+ghost use Rattle.pt_crew.specs.Visiting.{AreSame, AreWith, AsksFor, BearsChildren, SeesTo, Visits, goes_behind};
+ghost use Rattle.pt_crew.specs.Visiting.{handed_as, takes};
+ghost use Rattle.pt_crew.specs.Crews.{AreBorn, Attends, Enters, HasRoom, HasTimers, IsNextTime, IsSame, KeepsRest};
+ghost use Rattle.pt_crew.specs.Crews.{KnowsDesk, CrewWorks, left};
+ghost use Rattle.pt_crew.specs.Crews.{crew_size, members, queue, read_events, role, roles, rounds_asked, scene, time_of};
+ghost use Rattle.pt_crew.specs.Crews.{waiting, was_refused};
 ghost use Rattle.pt_crew.specs.Parts.{Admits, AdmitsFirst, CanEnter, QueueIsLonger, Serves, MemberTends, Wakes, WakesAt};
-ghost use Rattle.pt_crew.specs.Parts.{PutsMember, WakesBy};
+ghost use Rattle.pt_crew.specs.Parts.{PutsMember, SleepsUntil, Stops, WakesBy, sleeper};
 ghost use Rattle.pt_crew.specs.Parts.{is_marked, kept_as};
-ghost use Rattle.pt_crew.specs.Waking.{IsAwake, is_queued};
+ghost use Rattle.pt_crew.specs.Waking.{IsAwake, is_queued, pick_of, timer_of, until_of};
+ghost use Rattle.pt_timers.specs.Calls.{NoneDue};
 ghost use Rattle.pt_crew.specs.Running.{is_idle};
 
 use crate::behaviour::{Behaviour, Next};
 use crate::births::{Births, Role};
 use crate::hints::Hints;
 use indexmap::IndexMap;
-use pt_workers::{Desk, Event, Fault, Item, Pid, Turned, Work};
+use pt_timers::{Timer, Timers};
+use pt_workers::{Desk, Event, Fault, Item, Pick, Pid, Turned, Work};
 use std::alloc::{AllocError, Global};
 use std::collections::VecDeque;
 
@@ -34,6 +38,8 @@ pub struct Member<B> {
     next: Next,
     /// Whether it is in the queue.
     queued: bool,
+    /// Its pending timer. It has one if it waits until a time and is not in the queue.
+    timer: Option<Timer>,
 }
 
 /// What a process of the queue did when it ran. It is public since the definitions of a visit name it.
@@ -71,9 +77,11 @@ impl Tended {
 ///
 /// - a process that is to stop exits;
 /// - a process that is to proceed gets `None`;
-/// - if a process waits, its first matching item is taken and passed to its behaviour.
+/// - if a process waits, its first matching item is taken and passed to its behaviour;
+/// - if it waits until a time that has come, and no item matches, it gets `None`.
 ///
-/// So a step costs time for what is new and what is queued. Idle processes cost nothing.
+/// So a step costs time for what is new, what is queued and what is due. Idle processes cost nothing. A process that
+/// waits until a time has a timer, which costs the logarithm of the number of timers as it starts and as it goes.
 #[derive(Drop)]
 pub struct Crew<B> {
     members: IndexMap<Pid, Member<B>>,
@@ -89,6 +97,10 @@ pub struct Crew<B> {
     rounds: u32,
     /// Whether a call failed in the last step, since there was no memory or no stamp.
     refused: bool,
+    /// The time of the steps that follow.
+    time: u64,
+    /// The timers of the processes that wait until a time and are not in the queue.
+    timers: Timers<Pid>,
 }
 
 impl<B: Behaviour + Drop> Crew<B> {
@@ -103,6 +115,7 @@ impl<B: Behaviour + Drop> Crew<B> {
         ensures left { left result ≡ [] }
         ensures rounds { rounds_asked result ≡ rounds }
         ensures refused { was_refused result ≡ false }
+        ensures time { time_of result ≡ 0 }
     {
         Crew {
             members: IndexMap::new(alloc),
@@ -113,6 +126,8 @@ impl<B: Behaviour + Drop> Crew<B> {
             read: 0,
             rounds,
             refused: false,
+            time: 0,
+            timers: Timers::new(alloc),
         }
     }
 
@@ -160,6 +175,29 @@ impl<B: Behaviour + Drop> Crew<B> {
         self.queue.is_empty() && self.read == desk.journal().events().len()
     }
 
+    /// Says what time it is in the steps that follow, in the program's own unit. It is 0 before the first call.
+    ///
+    /// It may be below the time before: then fewer processes have waited long enough, and nobody gets `None` twice.
+    pub fn set_time(&mut self, now: u64)
+        ensures time { time_of self.new ≡ now }
+        ensures attends { (d : ShardState) → Attends self.old d → Attends self.new d }
+        ensures roles { AreSame (roles self.old) (roles self.new) }
+        ensures queue { queue self.new ≡ queue self.old }
+        ensures rest { (rounds_asked self.new ≡ rounds_asked self.old) × (was_refused self.new ≡ was_refused self.old)
+            × (waiting self.new ≡ waiting self.old) × (left self.new ≡ left self.old) }
+    {
+        self.time = now;
+    }
+
+    /// The earliest time until which a process waits that is not in the queue, or `None` if there is no such process.
+    ///
+    /// If the crew is idle it has nothing to do before this time, unless a signal comes.
+    pub fn next_time(&self) -> Option<u64>
+        ensures { (d : ShardState) → Attends self.now d → IsNextTime self.now result }
+    {
+        self.timers.next()
+    }
+
     /// The number of processes that were spawned and have not entered yet: none, unless the last step found no memory.
     pub fn waiting(&self) -> usize
         ensures { result ≡ length (waiting self.now) }
@@ -188,6 +226,7 @@ impl<B: Behaviour + Drop> Crew<B> {
         ensures queue { queue self.new ≡ queue self.old }
         ensures rest { (rounds_asked self.new ≡ rounds_asked self.old) × (was_refused self.new ≡ was_refused self.old)
             × (waiting self.new ≡ waiting self.old) }
+        ensures time { time_of self.new ≡ time_of self.old }
     {
         self.left.pop()
     }
@@ -219,6 +258,7 @@ impl<B: Behaviour + Drop> Crew<B> {
         ensures does { Enters behaviour first self.old desk.old.shard result self.new desk.new.shard }
         ensures knows { KnowsDesk self.old desk.old.shard → KnowsDesk self.new desk.new.shard }
         ensures room { HasRoom self.old → HasRoom self.new }
+        ensures timers { KnowsDesk self.old desk.old.shard → HasTimers self.old → HasTimers self.new }
         ensures goes_on { GoesOn desk.old desk.new }
     {
         self.members.reserve(1)?;
@@ -233,6 +273,7 @@ impl<B: Behaviour + Drop> Crew<B> {
             behaviour,
             next: first,
             queued: true,
+            timer: None,
         };
         match self.members.insert(pid, member) {
             Ok(_) => {
@@ -278,7 +319,8 @@ impl<B: Behaviour + Drop> Crew<B> {
         self.wake(p)
     }
 
-    /// Puts p into the queue, if it is of the crew and not there yet.
+    /// Puts p into the queue, if it is of the crew and not there yet. Its timer goes: if it still waits after it ran, it
+    /// gets one anew.
     #[inline(always)]
     fn wake(&mut self, p: Pid) -> Result<(), AllocError>
         ensures wakes { OnOk result (Wakes p self.old self.new) }
@@ -295,6 +337,8 @@ impl<B: Behaviour + Drop> Crew<B> {
         }
         self.queue.reserve(1)?;
         member.queued = true;
+        stop_timer(&mut self.timers, member.timer);
+        member.timer = None;
         self.queue.push_back_reserved(p);
         Ok(())
     }
@@ -320,6 +364,7 @@ impl<B: Behaviour + Drop> Crew<B> {
         ensures kept { AreSame (roles self.old) (roles self.new) }
         ensures longer { QueueIsLonger (queue self.old) (queue self.new) }
         ensures rest { KeepsRest self.old self.new }
+        ensures timers { HasTimers self.old → HasTimers self.new }
         ensures room { HasRoom self.old → (length desk.now.shard.journal ≤ read_events self.new) × HasRoom self.new }
     {
         let events = desk.journal().events();
@@ -328,6 +373,28 @@ impl<B: Behaviour + Drop> Crew<B> {
                 return;
             }
             self.read += 1;
+        }
+    }
+
+    /// Wakes each process that waits until a time which has come, as far as there is memory for it.
+    fn ring(&mut self)
+        ensures knows { (d : ShardState) → KnowsDesk self.old d → KnowsDesk self.new d }
+        ensures kept { AreSame (roles self.old) (roles self.new) }
+        ensures longer { QueueIsLonger (queue self.old) (queue self.new) }
+        ensures read { read_events self.new ≡ read_events self.old }
+        ensures rest { KeepsRest self.old self.new }
+        ensures timers { HasTimers self.old → HasTimers self.new }
+        ensures room { HasRoom self.old → HasRoom self.new }
+        ensures rung { HasRoom self.old → HasTimers self.old → NoneDue (time_of self.new) self.new.timers }
+    {
+        for _due in 0..self.timers.len() {
+            let Some((_, p)) = self.timers.peek_due(self.time) else {
+                return;
+            };
+            let p = *p;
+            if self.wake(p).is_err() {
+                return;
+            }
         }
     }
 
@@ -351,6 +418,7 @@ impl<B: Behaviour + Drop> Crew<B> {
     fn admit_one(&mut self, desk: &Desk)
         ensures admits { AdmitsFirst (lives desk.now.shard) self.old self.new }
         ensures knows { KnowsDesk self.old desk.now.shard → KnowsDesk self.new desk.now.shard }
+        ensures timers { HasTimers self.old → HasTimers self.new }
         ensures room { HasRoom self.old → HasRoom self.new }
     {
         if self.make_room().is_err() {
@@ -376,6 +444,7 @@ impl<B: Behaviour + Drop> Crew<B> {
         ensures rest { KeepsRest self.old self.new }
         ensures knows { (d : ShardState) → is_unborn (phase_of d newborn.pid) ≡ false → KnowsDesk self.old d
             → KnowsDesk self.new d }
+        ensures timers { HasTimers self.old → HasTimers self.new }
         ensures room { HasRoom self.old → HasRoom self.new }
     {
         let Role {
@@ -387,11 +456,13 @@ impl<B: Behaviour + Drop> Crew<B> {
             behaviour,
             next,
             queued: true,
+            timer: None,
         };
         let stands = self.stands(pid);
-        if self.members.insert(pid, member).is_err() {
+        let Ok(before) = self.members.insert(pid, member) else {
             return;
-        }
+        };
+        stop_timer(&mut self.timers, last_timer(before));
         if !stands {
             self.queue.push_back_reserved(pid);
         }
@@ -411,6 +482,7 @@ impl<B: Behaviour + Drop> Crew<B> {
     fn admit(&mut self, desk: &Desk)
         ensures admits { Admits (lives desk.now.shard) self.old self.new }
         ensures knows { KnowsDesk self.old desk.now.shard → KnowsDesk self.new desk.now.shard }
+        ensures timers { HasTimers self.old → HasTimers self.new }
         ensures room { HasRoom self.old → HasRoom self.new }
     {
         for _place in 0..self.births.len() {
@@ -423,7 +495,9 @@ impl<B: Behaviour + Drop> Crew<B> {
         ensures serves { Serves B.answers (queue self.old) self.old desk.old.shard self.new desk.new.shard }
         ensures knows { KnowsDesk self.old desk.old.shard → KnowsDesk self.new desk.new.shard }
         ensures room { HasRoom self.old → HasRoom self.new }
+        ensures timers { KnowsDesk self.old desk.old.shard → HasTimers self.old → HasTimers self.new }
         ensures same { rounds_asked self.new ≡ rounds_asked self.old }
+        ensures time { time_of self.new ≡ time_of self.old }
         ensures goes_on { GoesOn desk.old desk.new }
     {
         let Some(p) = self.queue.pop_front() else {
@@ -438,7 +512,8 @@ impl<B: Behaviour + Drop> Crew<B> {
             return;
         }
         let (_, member) = self.members.pair_mut(place);
-        let tended = tend(member, &mut self.births, desk, p);
+        let came = tend(member, &mut self.births, desk, self.time, p);
+        let tended = sleep(member, &mut self.timers, p, came);
         member.queued = tended.goes_behind();
         self.put(p, tended);
     }
@@ -480,7 +555,9 @@ impl<B: Behaviour + Drop> Crew<B> {
             (scene (queue self.new) self.new desk.new.shard) }
         ensures knows { KnowsDesk self.old desk.old.shard → KnowsDesk self.new desk.new.shard }
         ensures room { HasRoom self.old → HasRoom self.new }
+        ensures timers { KnowsDesk self.old desk.old.shard → HasTimers self.old → HasTimers self.new }
         ensures same { rounds_asked self.new ≡ rounds_asked self.old }
+        ensures time { time_of self.new ≡ time_of self.old }
         ensures goes_on { GoesOn desk.old desk.new }
     {
         for _place in 0..self.queue.len() {
@@ -495,11 +572,14 @@ fn tend<B: Behaviour + Drop>(
     member: &mut Member<B>,
     births: &mut Births<B>,
     desk: &mut Desk,
+    time: u64,
     p: Pid,
 ) -> Tended
-    ensures sees { SeesTo B.answers p member.old.behaviour member.old.next desk.old.shard result
+    ensures sees { SeesTo B.answers time p member.old.behaviour member.old.next desk.old.shard result
         (kept_as result member.new) desk.new.shard (bore (born births.old) (born births.new)) }
     ensures role { result ≡ Tended.Gone → member.new ≡ member.old }
+    ensures timer { member.new.timer ≡ member.old.timer }
+    ensures done { result ≡ Tended.Done → until_of member.new.next ≡ None }
     ensures bears { BearsChildren result (born births.old) (born births.new) }
     ensures tends { MemberTends p result member.new desk.new.shard }
     ensures goes_on { GoesOn desk.old desk.new }
@@ -514,22 +594,54 @@ fn tend<B: Behaviour + Drop>(
             if !desk.alive_here(p) {
                 return Tended::Gone;
             }
-            hand(member, births, desk, p, None);
+            hand(member, births, desk, time, p, None);
             handed(member.next, desk, p)
         }
-        Next::Wait(pick) => match desk.receive(p, pick) {
-            Ok(None) => Tended::Idle,
-            Ok(Some(item)) => {
-                hand(member, births, desk, p, Some(item));
-                handed(member.next, desk, p)
-            }
-            Err(Fault::Gone) => Tended::Gone,
-            Err(_) => Tended::Refused,
-        },
+        Next::Wait(pick) => receive(member, births, desk, time, p, pick, false),
+        Next::WaitUntil(pick, at) => receive(member, births, desk, time, p, pick, at <= time),
     }
 }
 
-/// What follows when a process got something: it joins the queue's end, unless it waits with an empty mailbox.
+/// Passes a process its first matching item, or `None` if there is no such item and its time is over.
+#[tactic(auto, using(pt_desk::proofs::Turning::goes_on_then, crate::proofs::Takes::idle_is))]
+fn receive<B: Behaviour + Drop>(
+    member: &mut Member<B>,
+    births: &mut Births<B>,
+    desk: &mut Desk,
+    time: u64,
+    p: Pid,
+    pick: Pick,
+    is_over: bool,
+) -> Tended
+    requires { pick_of member.old.next ≡ Some pick }
+    ensures sees { AsksFor B.answers p (role member.old) pick is_over desk.old.shard result (kept_as result member.new)
+        desk.new.shard (bore (born births.old) (born births.new)) }
+    ensures role { result ≡ Tended.Gone → member.new ≡ member.old }
+    ensures timer { member.new.timer ≡ member.old.timer }
+    ensures done { result ≡ Tended.Done → until_of member.new.next ≡ None }
+    ensures bears { BearsChildren result (born births.old) (born births.new) }
+    ensures tends { MemberTends p result member.new desk.new.shard }
+    ensures goes_on { GoesOn desk.old desk.new }
+{
+    match desk.receive(p, pick) {
+        Ok(None) => {
+            if !is_over {
+                return Tended::Idle;
+            }
+            hand(member, births, desk, time, p, None);
+            handed(member.next, desk, p)
+        }
+        Ok(Some(item)) => {
+            hand(member, births, desk, time, p, Some(item));
+            handed(member.next, desk, p)
+        }
+        Err(Fault::Gone) => Tended::Gone,
+        Err(_) => Tended::Refused,
+    }
+}
+
+/// What follows when a process got something: it joins the queue's end, unless it waits with an empty mailbox. One that
+/// waits until a time joins it too, since its timer starts when it runs and finds nothing.
 fn handed(next: Next, desk: &Desk, p: Pid) -> Tended
     ensures { result ≡ handed_as next (phase_of desk.now.shard p) }
 {
@@ -544,17 +656,56 @@ fn hand<B: Behaviour + Drop>(
     member: &mut Member<B>,
     births: &mut Births<B>,
     desk: &mut Desk,
+    time: u64,
     p: Pid,
     item: Option<Item>,
 )
     ensures answers { B.answers member.old.behaviour desk.old.shard p item member.new.next member.new.behaviour
         desk.new.shard (bore (born births.old) (born births.new)) }
+    ensures timer { member.new.timer ≡ member.old.timer }
     ensures bears { BearsChildren Tended.Again (born births.old) (born births.new) }
     ensures takes { takes desk.new.shard.journal ≡ takes desk.old.shard.journal }
     ensures goes_on { GoesOn desk.old desk.new }
 {
-    births.begin();
+    births.begin(time);
     member.next = member.behaviour.handle(desk, births, p, item);
+}
+
+/// Starts the timer of a process that leaves the queue and waits until a time. Without memory for it the process joins
+/// the queue's end, so that nobody is forgotten.
+#[inline(always)]
+fn sleep<B>(member: &mut Member<B>, timers: &mut Timers<Pid>, p: Pid, tended: Tended) -> Tended
+    ensures { SleepsUntil (sleeper tended member.old.next) p tended member.old timers.old result member.new timers.new }
+{
+    let (Tended::Idle, Next::WaitUntil(_pick, at)) = (tended, member.next) else {
+        return tended;
+    };
+    match timers.start(at, p) {
+        Ok(timer) => {
+            member.timer = Some(timer);
+            Tended::Idle
+        }
+        Err(_) => Tended::Refused,
+    }
+}
+
+/// The timer that a process had, if it was of the crew.
+fn last_timer<B: Drop>(before: Option<Member<B>>) -> Option<Timer>
+    ensures { result ≡ timer_of before }
+{
+    match before {
+        Some(member) => member.timer,
+        None => None,
+    }
+}
+
+/// Cancels a timer, if there is one.
+fn stop_timer(timers: &mut Timers<Pid>, timer: Option<Timer>)
+    ensures { Stops timer timers.old timers.new }
+{
+    if let Some(timer) = timer {
+        timers.cancel(timer);
+    }
 }
 
 impl<B: Behaviour + Drop> Work for Crew<B> {
@@ -566,6 +717,7 @@ impl<B: Behaviour + Drop> Work for Crew<B> {
         self.left.clear();
         self.refused = false;
         self.look(desk);
+        self.ring();
         self.round(desk);
         for _round in 1..self.rounds {
             self.round(desk);

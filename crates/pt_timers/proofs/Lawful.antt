@@ -10,7 +10,7 @@ use Rattle.pt_timers.specs.Laws.{Deed, start, cancel, fire, Fate, unknown, pendi
 use Rattle.pt_timers.specs.Laws.{Leads, body_as, StaysSo}
 
 -- two names that are the same are one
-same-is : (t u : Timer) → same_timer t u ≡ true → t ≡ u
+pub same-is : (t u : Timer) → same_timer t u ≡ true → t ≡ u
 same-is t u h =
     let timed : ℕ → Timer = λ x. record { at = x; number = t.number } in
     let numbered : ℕ → Timer = λ x. record { at = u.at; number = x } in

@@ -1,5 +1,5 @@
 -- What each call of timers does.
-use Rattle.std.specs.Prelude.{◌≡◌, ℕ, suc, ◌<◌, ◌≤◌, cond, Bool, true, false, Option, Some, None, Result, Ok, Err}
+use Rattle.std.specs.Prelude.{◌≡◌, ℕ, suc, ◌+◌, ◌<◌, ◌≤◌, cond, Bool, true, false, length, Option, Some, None, Result, Ok, Err}
 use Rattle.std.specs.Ordering.{is_gt}
 use Rattle.pt_timers.specs.declared.Timer.{Timer}
 use Rattle.pt_timers.specs.declared.Fired.{Fired}
@@ -38,6 +38,7 @@ module _ {T : Type 0} where
   pub record Cancelled (t : Timer) (old new : TimersState T) : Type 0 where
     pub was : IsPending old t
     pub pending : AreWith t None old new
+    pub fewer : length new.pending + 1 ≡ length old.pending
     pub started : new.started ≡ old.started
 
   abbrev pub Cancels : Timer → TimersState T → Bool → TimersState T → Type 0
@@ -58,6 +59,7 @@ module _ {T : Type 0} where
   pub record FiredAt (now : ℕ) (f : Fired T) (old new : TimersState T) : Type 0 where
     pub first : IsFirstDue now f.timer f.body old
     pub pending : AreWith f.timer None old new
+    pub fewer : length new.pending + 1 ≡ length old.pending
     pub started : new.started ≡ old.started
 
   -- nothing fires only if none is due

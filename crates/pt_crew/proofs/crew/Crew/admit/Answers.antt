@@ -5,7 +5,7 @@ use Rattle.pt_crew.proofs.Visiting.{none_entered, next_enters, all_entered}
 use Rattle.pt_crew.proofs.crew.Crew.admit.Goals as goal
 
 pub loop-place-init : goal.loop-place-init
-loop-place-init g c = record { so_far = none_entered (lives c.args.desk.now.shard) c.args.self.now; knows = λ k. k; room = λ r. r }
+loop-place-init g c = record { so_far = none_entered (lives c.args.desk.now.shard) c.args.self.now; knows = λ k. k; timers = λ k. k; room = λ r. r }
 
 pub loop-place-preserved : goal.loop-place-preserved
 loop-place-preserved g c =
@@ -14,6 +14,7 @@ loop-place-preserved g c =
     record {
       so_far = next_enters (lives c.args.desk.now.shard) c.loop-place._place c.args.self.now c.loop-place.self c.admit_one.new.self (omega (arith, c.loop-place-test.true, len)) inv.so_far c.admit_one.ensures.admits;
       knows = λ k. c.admit_one.ensures.knows (inv.knows k);
+      timers = λ k. c.admit_one.ensures.timers (inv.timers k);
       room = λ r. c.admit_one.ensures.room (inv.room r);
     }
 

@@ -14,7 +14,8 @@ loop-place-init g c = record {
   queued = λ k. k;
   kept = λ p. refl;
   longer = ([], sym (append-nil (queue c.args.self.now)));
-  rest = record { waiting = refl; left = refl; refused = refl; rounds = refl };
+  rest = record { waiting = refl; left = refl; refused = refl; rounds = refl; time = refl };
+  timers = λ k. k;
   room = λ r. r;
 }
 
@@ -26,6 +27,7 @@ loop-place-preserved g c = record {
   kept = same_then (roles c.args.self.now) (roles c.loop-place.self) (roles c.wake_at.new.self) c.loop-place.invariant.kept c.in_ok-wake_at.ensures.wakes.roles;
   longer = longer_then (queue c.args.self.now) (queue c.loop-place.self) (queue c.wake_at.new.self) c.loop-place.invariant.longer c.in_ok-wake_at.ensures.wakes.longer;
   rest = rest_then c.args.self.now c.loop-place.self c.wake_at.new.self c.loop-place.invariant.rest c.in_ok-wake_at.ensures.wakes.rest;
+  timers = λ k. c.in_ok-wake_at.ensures.wakes.timers (c.loop-place.invariant.timers k);
   room = λ r. (c.wake_at.ensures.room (c.loop-place.invariant.room r)).1;
 }
 
@@ -33,4 +35,4 @@ pub returns-clause-attends : goal.returns-clause-attends
 returns-clause-attends g c =
     λ d e a born. begun_again c.args.self.now _ d e refl
     (all_marked c.args.self.now c.loop-place.self c.loop-place.place (omega (arith, c.loop-place-test.false, c.len-place-end.ensures.len)) c.loop-place.invariant.keys c.loop-place.invariant.marked)
-    c.loop-place.invariant.kept c.loop-place.invariant.queued c.loop-place.invariant.room a born
+    c.loop-place.invariant.kept c.loop-place.invariant.queued c.loop-place.invariant.room c.loop-place.invariant.timers a born

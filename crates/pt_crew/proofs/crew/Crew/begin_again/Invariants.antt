@@ -2,7 +2,7 @@
 use Rattle.std.proofs.Common.{◌≡◌, drop}
 use Rattle.std.specs.Map.{keys_of}
 use Rattle.pt_crew.specs.Visiting.{AreSame}
-use Rattle.pt_crew.specs.Crews.{KeepsRest, HasRoom, queue, roles}
+use Rattle.pt_crew.specs.Crews.{KeepsRest, HasRoom, HasTimers, queue, roles}
 use Rattle.pt_crew.specs.Parts.{QueueIsLonger, MarkedBut, QueueHolds}
 use Rattle.pt_crew.proofs.crew.Crew.begin_again.Given as goal
 
@@ -14,5 +14,6 @@ invariant-loop-place g l = record {
   kept : AreSame (roles l.fn.self) (roles l.self);
   longer : QueueIsLonger (queue l.fn.self) (queue l.self);
   rest : KeepsRest l.fn.self l.self;
+  timers : HasTimers l.fn.self → HasTimers l.self;
   room : HasRoom l.fn.self → HasRoom l.self;
 }

@@ -1,4 +1,4 @@
--- `Crew::enter`: its clauses `knows` and `room`.
+-- `Crew::enter`: its clauses `knows`, `room` and `timers`.
 use Rattle.std.proofs.Common.{◌≡◌, true, Some, None, ap, sym, refl, arith}
 use Rattle.std.specs.Map.{lookup}
 use Rattle.pt_signal.specs.declared.pid.Pid.{Pid}
@@ -10,6 +10,8 @@ use Rattle.pt_crew.proofs.Newborn.{newborn_is}
 use Rattle.pt_crew.proofs.Waking.{changed, woken_queue, knows_same, knows_later, same_some}
 use Rattle.indexmap.specs.IndexMap.{insert_entry}
 use Rattle.pt_crew.proofs.Room.{unmarked_insert, unmarked_all}
+use Rattle.pt_crew.specs.Waking.{timer_of}
+use Rattle.pt_crew.proofs.Timing.{none_if, stopped_timers, stops_none, timed_same}
 use Rattle.pt_crew.proofs.crew.Crew.enter.Goals as goal
 
 pub returns-in_err-pid-clause-knows : goal.returns-in_err-pid-clause-knows
@@ -37,7 +39,7 @@ returns-in-Ok-clause-knows g c =
 pub returns-in-Ok-clause-room : goal.returns-in-Ok-clause-room
 returns-in-Ok-clause-room g c =
     let p = c.in_ok-pid.pid in
-    let v : Member g.row.B.Denot = record { behaviour = c.args.behaviour; next = c.args.first; queued = true } in
+    let v : Member g.row.B.Denot = record { behaviour = c.args.behaviour; next = c.args.first; queued = true; timer = None } in
     let e : unmarked c.insert.new.self.entries ≡ unmarked (insert_entry same_pid c.reserve.new.self.entries p v) = ap unmarked c.in-Ok.ensures.entries in
     let i = unmarked_insert same_pid c.reserve.new.self.entries p v refl in
     let a = unmarked_all c.reserve.new.self.entries in
@@ -59,3 +61,26 @@ returns-in_err-reserve-2-clause-knows g c =
 pub returns-in_err-grow-clause-knows : goal.returns-in_err-grow-clause-knows
 returns-in_err-grow-clause-knows g c =
     λ k. knows_same (members c.args.self.now) _ c.args.self.now.queue.items _ c.args.self.now.read c.args.desk.now.shard (λ q. ap (lookup (same_pid q)) c.reserve.ensures.entries) refl k
+
+pub returns-in_err-pid-clause-timers : goal.returns-in_err-pid-clause-timers
+returns-in_err-pid-clause-timers g c = λ k t. timed_same (members c.args.self.now) _ c.args.self.now.timers _ (λ q. ap (lookup (same_pid q)) c.reserve.ensures.entries) refl t
+
+pub returns-in_err-reserve-clause-timers : goal.returns-in_err-reserve-clause-timers
+returns-in_err-reserve-clause-timers g c = λ k t. timed_same (members c.args.self.now) _ c.args.self.now.timers _ (λ q. ap (lookup (same_pid q)) c.reserve.ensures.entries) refl t
+
+pub returns-in_err-reserve-2-clause-timers : goal.returns-in_err-reserve-2-clause-timers
+returns-in_err-reserve-2-clause-timers g c = λ k t. timed_same (members c.args.self.now) _ c.args.self.now.timers _ (λ q. ap (lookup (same_pid q)) c.reserve.ensures.entries) refl t
+
+pub returns-in_err-grow-clause-timers : goal.returns-in_err-grow-clause-timers
+returns-in_err-grow-clause-timers g c = λ k t. timed_same (members c.args.self.now) _ c.args.self.now.timers _ (λ q. ap (lookup (same_pid q)) c.reserve.ensures.entries) refl t
+
+pub returns-in-Ok-clause-timers : goal.returns-in-Ok-clause-timers
+returns-in-Ok-clause-timers g c =
+    let p = c.in_ok-pid.pid in
+    let old = c.args.self.now in
+    let mem : Pid → _ = λ q. lookup (same_pid q) c.reserve.new.self.entries in
+    let newborn = newborn_is None None p c.args.desk.now.shard c.spawn.new.self.shard c.in_ok-pid.ensures.does c.journal-lawful.ensures.local in
+    λ k t.
+    let none : mem p ≡ None = none_if (mem p) (λ m is. let b = k.born p m (sym (ap (lookup (same_pid p)) c.reserve.ensures.entries) ∙ is) in let u = newborn.0 in cc) in
+    stopped_timers mem _ p _ old.timers old.timers c.in-Ok.ensures.updates.0 (stops_none (timer_of (mem p)) old.timers old.timers (ap timer_of none) refl) refl refl
+    (timed_same (members old) mem old.timers old.timers (λ q. ap (lookup (same_pid q)) c.reserve.ensures.entries) refl t)

@@ -1,12 +1,13 @@
--- `Crew::look`: its clauses `room`, `kept`, `longer`, `rest` and `knows`, and its loop over `self`.
+-- `Crew::look`: its clauses `room`, `kept`, `longer`, `rest`, `knows` and `timers`, and its loop over `self`.
 use Rattle.std.proofs.Common.{length, refl, reverse, ap, sym, ◌∙◌, arith}
 use Rattle.std.proofs.lemmas.List.{length-reverse}
-use Rattle.pt_crew.proofs.Reading.{look_next, on_ok}
+use Rattle.pt_crew.proofs.Reading.{look_next, on_ok, woke_timers}
 use Rattle.pt_crew.proofs.Waking.{knows_is}
 use Rattle.pt_crew.specs.Crews.{queue, roles}
 use Rattle.pt_crew.proofs.Visiting.{same_then, woke_roles, same_roles, longer_then, woke_longer, same_longer, woke_rest, rest_then, rest_read}
 use Rattle.pt_crew.proofs.Room.{ok_not_err}
 use Rattle.pt_crew.proofs.Room.{on_err_of}
+use Rattle.pt_crew.proofs.Timing.{timers_is}
 use Rattle.pt_crew.proofs.crew.Crew.look.Goals as goal
 
 pub loop-self-preserved : goal.loop-self-preserved
@@ -17,8 +18,9 @@ loop-self-preserved g c = record {
       (woke_roles _ c.loop-self.self c.note.new.self (on_ok _ c.note.result (sym c.if-is_err.ensures.value) c.note.ensures.wakes));
   longer = longer_then (queue c.args.self.now) (queue c.loop-self.self) _ c.loop-self.invariant.longer
       (woke_longer _ c.loop-self.self c.note.new.self (on_ok _ c.note.result (sym c.if-is_err.ensures.value) c.note.ensures.wakes));
-  rest = rest_read c.args.self.now c.loop-self.self c.note.new.self _ refl refl refl refl c.loop-self.invariant.rest
+  rest = rest_read c.args.self.now c.loop-self.self c.note.new.self _ refl refl refl refl refl c.loop-self.invariant.rest
       (woke_rest _ c.loop-self.self c.note.new.self (on_ok _ c.note.result (sym c.if-is_err.ensures.value) c.note.ensures.wakes));
+  timers = λ k. woke_timers _ c.loop-self.self c.note.new.self (on_ok _ c.note.result (sym c.if-is_err.ensures.value) c.note.ensures.wakes) (c.loop-self.invariant.timers k);
   room = λ r. (c.note.ensures.room (c.loop-self.invariant.room r)).1;
 }
 
@@ -51,3 +53,7 @@ pub returns-then-is_err-clause-knows : goal.returns-then-is_err-clause-knows
 returns-then-is_err-clause-knows g c =
     λ k. knows_is c.loop-self.self c.note.new.self c.args.desk.now.shard (on_err_of _ c.note.result (sym c.is_err.ensures.value ∙ c.if-is_err.true) c.note.ensures.refused)
     (c.loop-self.invariant.knows k)
+
+pub returns-then-is_err-clause-timers : goal.returns-then-is_err-clause-timers
+returns-then-is_err-clause-timers g c =
+    λ k. timers_is c.loop-self.self c.note.new.self (on_err_of _ c.note.result (sym c.is_err.ensures.value ∙ c.if-is_err.true) c.note.ensures.refused) (c.loop-self.invariant.timers k)

@@ -1,7 +1,7 @@
 -- `Crew::look`: what holds in its loop over `self`.
 use Rattle.std.proofs.Common.{◌-◌, length}
 use Rattle.pt_crew.specs.Visiting.{AreSame}
-use Rattle.pt_crew.specs.Crews.{KeepsRest, KnowsDesk, HasRoom, queue, roles}
+use Rattle.pt_crew.specs.Crews.{KeepsRest, KnowsDesk, HasRoom, HasTimers, queue, roles}
 use Rattle.pt_crew.specs.Parts.{QueueIsLonger}
 use Rattle.pt_crew.proofs.crew.Crew.look.Given as goal
 
@@ -11,6 +11,7 @@ invariant-loop-self g l = record {
   kept : AreSame (roles l.initial.self) (roles l.self);
   longer : QueueIsLonger (queue l.initial.self) (queue l.self);
   rest : KeepsRest l.initial.self l.self;
+  timers : HasTimers l.initial.self → HasTimers l.self;
   room : HasRoom l.initial.self → HasRoom l.self;
 }
 

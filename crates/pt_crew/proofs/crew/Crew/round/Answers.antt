@@ -11,6 +11,8 @@ loop-place-init g c = record {
   so_far = none_so_far g.B.Behaviour.answers c.args.self.now c.args.desk.now.shard;
   knows = λ k. k;
   room = λ r. r;
+  timers = λ k t. t;
+  time = refl;
   same = refl;
   goes_on = stays c.args.desk.now;
 }
@@ -24,6 +26,8 @@ loop-place-preserved g c =
           (omega (arith, c.loop-place-test.true, len)) inv.so_far c.serve.ensures.serves;
       knows = λ k. c.serve.ensures.knows (inv.knows k);
       room = λ r. c.serve.ensures.room (inv.room r);
+      timers = λ k t. c.serve.ensures.timers (inv.knows k) (inv.timers k t);
+      time = c.serve.ensures.time ∙ inv.time;
       same = c.serve.ensures.same ∙ inv.same;
       goes_on = goes_on_then c.args.desk.now c.loop-place.desk c.serve.new.desk inv.goes_on c.serve.ensures.goes_on;
     }

@@ -1,4 +1,4 @@
--- `Crew::serve`: its clauses `knows`, `room` and `serves`.
+-- `Crew::serve`: its clauses `knows`, `room`, `serves` and `timers`.
 use Rattle.std.proofs.Common.{List, ◌∷◌, None, refl, subst, arith}
 use Rattle.pt_signal.specs.declared.pid.Pid.{Pid}
 use Rattle.pt_desk.proofs.Turning.{extends}
@@ -6,7 +6,7 @@ use Rattle.pt_crew.specs.Crews.{members}
 use Rattle.pt_crew.specs.Waking.{Knows}
 use Rattle.pt_crew.proofs.Waking.{changed, taken_out, turned, absent_at, no_place, some_none}
 use Rattle.pt_crew.proofs.Visiting.{passes_first, refused_first, is_there}
-use Rattle.pt_crew.proofs.Serving.{Came, serves_it, knows_it, room_for_it}
+use Rattle.pt_crew.proofs.Serving.{Came, serves_it, knows_it, timers_for_it, room_for_it}
 use Rattle.pt_crew.proofs.crew.Crew.serve.Goals as goal
 
 pub returns-in_default-place_of-clause-knows : goal.returns-in_default-place_of-clause-knows
@@ -43,29 +43,35 @@ returns-in_default-place_of-clause-serves g c =
     let p = c.in-Some.p in
     let old = c.args.self.now in
     let none = no_place c.place_of.result (members old p) c.in_default-place_of.is c.place_of.ensures.found in
-    passes_first g.B.Behaviour.answers old.queue.items c.pop_front.new.self.items old _ p c.args.desk.now.shard c.in-Some.ensures.items refl none (record { members = λ q. refl; waiting = refl; left = refl; refused = refl })
+    passes_first g.B.Behaviour.answers old.queue.items c.pop_front.new.self.items old _ p c.args.desk.now.shard c.in-Some.ensures.items refl none (record { members = λ q. refl; waiting = refl; left = refl; refused = refl; time = refl })
 
 pub returns-then-is_err-clause-serves : goal.returns-then-is_err-clause-serves
 returns-then-is_err-clause-serves g c =
     let p = c.in-Some.p in
     let old = c.args.self.now in
-    refused_first g.B.Behaviour.answers old.queue.items c.pop_front.new.self.items old _ p c.args.desk.now.shard c.in-Some.ensures.items c.push_back_reserved.ensures.items (λ q. refl) refl c.reserve.ensures.items refl
+    refused_first g.B.Behaviour.answers old.queue.items c.pop_front.new.self.items old _ p c.args.desk.now.shard c.in-Some.ensures.items c.push_back_reserved.ensures.items (λ q. refl) refl c.reserve.ensures.items refl refl
     (is_there c.place_of.result (members old p) c.in-Some-place_of.place c.in-Some-place_of.is c.place_of.ensures.found)
 
 pub returns-clause-serves : goal.returns-clause-serves
 returns-clause-serves g c =
-    let came : Came c.in-Some.p c.tend-tended.result c.args.self.now _ c.put.new.self c.pair_mut-member.result.1.now c.tend-tended.new.member _ =
-    record { place = c.in-Some-place_of.place; key = c.pair_mut-member.result.0.now; index = c.in-Some-place_of.ensures.index; value = c.pair_mut-member.ensures.value; unique = c.pair_mut-member.ensures.unique; wrote = refl; same = refl; marked = c.goes_behind-member.ensures; gone = c.tend-tended.ensures.role; left = c.reserve.ensures.items; refused = refl; read = refl; puts = c.put.ensures } in
-    serves_it _ _ _ _ _ _ _ _ came g.B.Behaviour.answers c.args.self.now.queue.items c.pop_front.new.self.items c.args.desk.now.shard c.tend-tended.new.desk.shard c.in-Some.ensures.items refl c.tend-tended.ensures.sees c.tend-tended.ensures.bears
+    let came : Came c.in-Some.p c.tend-came.result c.sleep-tended.result c.args.self.now _ c.put.new.self c.pair_mut-member.result.1.now c.tend-came.new.member c.sleep-tended.new.member _ =
+    record { place = c.in-Some-place_of.place; key = c.pair_mut-member.result.0.now; index = c.in-Some-place_of.ensures.index; value = c.pair_mut-member.ensures.value; unique = c.pair_mut-member.ensures.unique; wrote = refl; same = refl; timer = refl; marked = c.goes_behind-member.ensures; slept = c.sleep-tended.ensures; its = c.tend-came.ensures.timer; done = c.tend-came.ensures.done; gone = c.tend-came.ensures.role; left = c.reserve.ensures.items; refused = refl; read = refl; time = refl; puts = c.put.ensures } in
+    serves_it _ _ _ _ _ _ _ _ _ _ came g.B.Behaviour.answers c.args.self.now.queue.items c.pop_front.new.self.items c.args.desk.now.shard c.tend-came.new.desk.shard c.in-Some.ensures.items refl c.tend-came.ensures.sees c.tend-came.ensures.bears
 
 pub returns-clause-knows : goal.returns-clause-knows
 returns-clause-knows g c =
-    let came : Came c.in-Some.p c.tend-tended.result c.args.self.now _ c.put.new.self c.pair_mut-member.result.1.now c.tend-tended.new.member _ =
-    record { place = c.in-Some-place_of.place; key = c.pair_mut-member.result.0.now; index = c.in-Some-place_of.ensures.index; value = c.pair_mut-member.ensures.value; unique = c.pair_mut-member.ensures.unique; wrote = refl; same = refl; marked = c.goes_behind-member.ensures; gone = c.tend-tended.ensures.role; left = c.reserve.ensures.items; refused = refl; read = refl; puts = c.put.ensures } in
-    knows_it _ _ _ _ _ _ _ _ came c.pop_front.new.self.items c.args.desk.now.shard c.tend-tended.new.desk.shard c.tend-tended.ensures.goes_on.shard c.in-Some.ensures.items refl c.tend-tended.ensures.tends
+    let came : Came c.in-Some.p c.tend-came.result c.sleep-tended.result c.args.self.now _ c.put.new.self c.pair_mut-member.result.1.now c.tend-came.new.member c.sleep-tended.new.member _ =
+    record { place = c.in-Some-place_of.place; key = c.pair_mut-member.result.0.now; index = c.in-Some-place_of.ensures.index; value = c.pair_mut-member.ensures.value; unique = c.pair_mut-member.ensures.unique; wrote = refl; same = refl; timer = refl; marked = c.goes_behind-member.ensures; slept = c.sleep-tended.ensures; its = c.tend-came.ensures.timer; done = c.tend-came.ensures.done; gone = c.tend-came.ensures.role; left = c.reserve.ensures.items; refused = refl; read = refl; time = refl; puts = c.put.ensures } in
+    knows_it _ _ _ _ _ _ _ _ _ _ came c.pop_front.new.self.items c.args.desk.now.shard c.tend-came.new.desk.shard c.tend-came.ensures.goes_on.shard c.in-Some.ensures.items refl c.tend-came.ensures.tends
 
 pub returns-clause-room : goal.returns-clause-room
 returns-clause-room g c =
-    let came : Came c.in-Some.p c.tend-tended.result c.args.self.now _ c.put.new.self c.pair_mut-member.result.1.now c.tend-tended.new.member _ =
-    record { place = c.in-Some-place_of.place; key = c.pair_mut-member.result.0.now; index = c.in-Some-place_of.ensures.index; value = c.pair_mut-member.ensures.value; unique = c.pair_mut-member.ensures.unique; wrote = refl; same = refl; marked = c.goes_behind-member.ensures; gone = c.tend-tended.ensures.role; left = c.reserve.ensures.items; refused = refl; read = refl; puts = c.put.ensures } in
-    room_for_it _ _ _ _ _ _ _ _ came c.in-Some.ensures.len c.in-Some.ensures.capacity
+    let came : Came c.in-Some.p c.tend-came.result c.sleep-tended.result c.args.self.now _ c.put.new.self c.pair_mut-member.result.1.now c.tend-came.new.member c.sleep-tended.new.member _ =
+    record { place = c.in-Some-place_of.place; key = c.pair_mut-member.result.0.now; index = c.in-Some-place_of.ensures.index; value = c.pair_mut-member.ensures.value; unique = c.pair_mut-member.ensures.unique; wrote = refl; same = refl; timer = refl; marked = c.goes_behind-member.ensures; slept = c.sleep-tended.ensures; its = c.tend-came.ensures.timer; done = c.tend-came.ensures.done; gone = c.tend-came.ensures.role; left = c.reserve.ensures.items; refused = refl; read = refl; time = refl; puts = c.put.ensures } in
+    room_for_it _ _ _ _ _ _ _ _ _ _ came c.in-Some.ensures.len c.in-Some.ensures.capacity
+
+pub returns-clause-timers : goal.returns-clause-timers
+returns-clause-timers g c =
+    let came : Came c.in-Some.p c.tend-came.result c.sleep-tended.result c.args.self.now _ c.put.new.self c.pair_mut-member.result.1.now c.tend-came.new.member c.sleep-tended.new.member _ =
+    record { place = c.in-Some-place_of.place; key = c.pair_mut-member.result.0.now; index = c.in-Some-place_of.ensures.index; value = c.pair_mut-member.ensures.value; unique = c.pair_mut-member.ensures.unique; wrote = refl; same = refl; timer = refl; marked = c.goes_behind-member.ensures; slept = c.sleep-tended.ensures; its = c.tend-came.ensures.timer; done = c.tend-came.ensures.done; gone = c.tend-came.ensures.role; left = c.reserve.ensures.items; refused = refl; read = refl; time = refl; puts = c.put.ensures } in
+    timers_for_it _ _ _ _ _ _ _ _ _ _ came c.pop_front.new.self.items c.args.desk.now.shard c.in-Some.ensures.items

@@ -1,7 +1,9 @@
 -- `Crew::wake`: its clauses `wakes`, `room`, `refused` and `keys`.
-use Rattle.std.proofs.Common.{◌≡◌, List, [], ◌∷◌, ◌++◌, Bool, true, cond, ap, sym, refl, ◌∙◌, append-nil, arith}
+use Rattle.std.proofs.Common.{◌≡◌, List, [], ◌∷◌, ◌++◌, Bool, true, cond, None, OnOk, ap, sym, refl, ◌∙◌, append-nil, arith}
 use Rattle.pt_signal.specs.declared.pid.Pid.{Pid}
-use Rattle.pt_crew.proofs.Waking.{woken, same_back, same_queue, same_some, woken_queue}
+use Rattle.pt_crew.proofs.Waking.{woken, same_back, same_queue, same_some, some_none, no_place, woken_queue}
+use Rattle.pt_crew.proofs.Reading.{absent_wakes}
+use Rattle.pt_crew.proofs.Timing.{queued_bare, stopped_fewer, stopped_timers, stops_held, timed_same}
 use Rattle.pt_crew.proofs.Room.{unmarked_set, bare, on_err}
 use Rattle.pt_crew.specs.Crews.{members}
 use Rattle.pt_crew.proofs.Places.{held_at, written_at}
@@ -21,8 +23,10 @@ returns-then-member-clause-wakes g c =
     woken p c.args.self.now _ v v held (written_at m p i k0 v c.in-Some.ensures.index at unique v).0 c.if-member.true refl refl
     (λ k. same_queue (members c.args.self.now) _ c.args.self.now.queue.items _ (λ q. (written_at m p i k0 v c.in-Some.ensures.index at unique v).0 q ∙ same_back (members c.args.self.now) p v held q) refl k)
     ([], sym (append-nil c.args.self.now.queue.items))
+    (λ k. timed_same (members c.args.self.now) _ c.args.self.now.timers _ (λ q. (written_at m p i k0 v c.in-Some.ensures.index at unique v).0 q ∙ same_back (members c.args.self.now) p v held q) refl k)
+    (λ k t is. some_none _ t (queued_bare (members c.args.self.now) p v c.args.self.now.timers held c.if-member.true k) is)
     refl
-    (record { waiting = refl; left = refl; refused = refl; rounds = refl })
+    (record { waiting = refl; left = refl; refused = refl; rounds = refl; time = refl })
 
 pub returns-then-member-clause-room : goal.returns-then-member-clause-room
 returns-then-member-clause-room g c =
@@ -44,13 +48,14 @@ returns-in_err-reserve-clause-refused g c =
       members = λ q. (written_at m p i k v c.in-Some.ensures.index at unique v).0 q ∙ same_back (members c.args.self.now) p v held q;
       queue = c.reserve.ensures.items;
       read = refl;
-      rest = record { waiting = refl; left = refl; refused = refl; rounds = refl };
+      timers = refl;
+      rest = record { waiting = refl; left = refl; refused = refl; rounds = refl; time = refl };
     })
 
 pub returns-in_err-reserve-clause-room : goal.returns-in_err-reserve-clause-room
 returns-in_err-reserve-clause-room g c =
     let v = c.pair_mut-member.result.1.now in
-    let s = unmarked_set c.args.self.now.members.entries c.in-Some.place c.pair_mut-member.result.0.now v (record v { queued = true }) c.pair_mut-member.ensures.value in
+    let s = unmarked_set c.args.self.now.members.entries c.in-Some.place c.pair_mut-member.result.0.now v (record v { queued = true; timer = None }) c.pair_mut-member.ensures.value in
     let b : bare v ≡ 1 = ap (λ (x : Bool). cond x 0 1) c.if-member.false in
     let full = c.in_err-reserve.ensures.full in
     λ room. absurd (omega (arith, s, b, full, room))
@@ -58,7 +63,7 @@ returns-in_err-reserve-clause-room g c =
 pub returns-clause-room : goal.returns-clause-room
 returns-clause-room g c =
     let v = c.pair_mut-member.result.1.now in
-    let s = unmarked_set c.args.self.now.members.entries c.in-Some.place c.pair_mut-member.result.0.now v (record v { queued = true }) c.pair_mut-member.ensures.value in
+    let s = unmarked_set c.args.self.now.members.entries c.in-Some.place c.pair_mut-member.result.0.now v (record v { queued = true; timer = None }) c.pair_mut-member.ensures.value in
     let b : bare v ≡ 1 = ap (λ (x : Bool). cond x 0 1) c.if-member.false in
     let l = c.push_back_reserved.ensures.len in
     let z = c.push_back_reserved.ensures.capacity in
@@ -76,14 +81,17 @@ returns-clause-wakes g c =
     let at = c.pair_mut-member.ensures.value in
     let unique = c.pair_mut-member.ensures.unique in
     let held = held_at m p i k v c.in-Some.ensures.index at unique in
-    let w = record v { queued = true } in
+    let w = record v { queued = true; timer = None } in
+    let stops = stops_held (members c.args.self.now) p v c.args.self.now.timers c.stop_timer.new.timers held c.stop_timer.ensures in
     let items = c.push_back_reserved.ensures.items ∙ ap (λ (ps : List Pid). ps ++ p ∷ []) c.reserve.ensures.items in
     let at2 = (written_at m p i k v c.in-Some.ensures.index at unique w).0 in
     woken p c.args.self.now _ v w held at2 refl refl refl
     (λ k. woken_queue (members c.args.self.now) _ p w c.args.self.now.queue.items _ (λ m2 is. ap (λ (x : _). x.queued) (sym (same_some v m2 (sym held ∙ is))) ∙ c.if-member.false) at2 refl items k)
     (p ∷ [], items)
+    (stopped_timers (members c.args.self.now) _ p w c.args.self.now.timers c.stop_timer.new.timers at2 stops refl refl)
+    (stopped_fewer (members c.args.self.now) p c.args.self.now.timers c.stop_timer.new.timers stops)
     refl
-    (record { waiting = refl; left = refl; refused = refl; rounds = refl })
+    (record { waiting = refl; left = refl; refused = refl; rounds = refl; time = refl })
 
 pub returns-then-member-clause-keys : goal.returns-then-member-clause-keys
 returns-then-member-clause-keys g c = keys_set c.args.self.now.members.entries c.in-Some.place c.pair_mut-member.result.1.now
@@ -92,4 +100,9 @@ pub returns-in_err-reserve-clause-keys : goal.returns-in_err-reserve-clause-keys
 returns-in_err-reserve-clause-keys g c = keys_set c.args.self.now.members.entries c.in-Some.place c.pair_mut-member.result.1.now
 
 pub returns-clause-keys : goal.returns-clause-keys
-returns-clause-keys g c = keys_set c.args.self.now.members.entries c.in-Some.place (record c.pair_mut-member.result.1.now { queued = true })
+returns-clause-keys g c = keys_set c.args.self.now.members.entries c.in-Some.place (record c.pair_mut-member.result.1.now { queued = true; timer = None })
+
+pub returns-in_default-clause-wakes : goal.returns-in_default-clause-wakes
+returns-in_default-clause-wakes g c =
+    absent_wakes c.args.p c.args.self.now _ (no_place c.place_of.result (members c.args.self.now c.args.p) c.in_default.is c.place_of.ensures.found)
+    (record { members = λ q. refl; queue = refl; read = refl; timers = refl; rest = record { waiting = refl; left = refl; refused = refl; rounds = refl; time = refl } })

@@ -9,6 +9,7 @@ returns-clause-attends g c = λ a.
     record {
       knows = knows_later (members c.step.new.self) c.step.new.self.queue.items c.step.new.self.read c.step.new.desk.shard c.turn.new.self.shard c.turn.ensures.goes_on.shard now.knows;
       room = now.room;
+      timers = now.timers;
     }
 
 pub returns-clause-does : goal.returns-clause-does
