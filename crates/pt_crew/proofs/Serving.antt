@@ -209,6 +209,19 @@ idle_stays answers time p b Proceed d e now births h = proceeds_idle answers p b
 idle_stays answers time p b (Wait k) d e now births h = takes_idle answers p b (Wait k) e now births false d h.1 k h.0 h.2 h.3
 idle_stays answers time p b (WaitUntil k at) d e now births h = takes_idle answers p b (WaitUntil k at) e now births (nat_le at time) d h.1 k h.0 h.2 h.3
 
+-- one that was handed something is of the crew still
+kept_by : {B : Type 0} (m : Member B) (items : List Item) → kept_as (handed_by items) m ≡ Some (role m)
+kept_by m [] = refl
+kept_by m (i ∷ items) = refl
+
+pub kept_handed : {B : Type 0} (m : Member B) (next : Next) (f : Phase) → kept_as (handed_as next f) m ≡ Some (role m)
+kept_handed m (Wait k) unborn = refl
+kept_handed m (Wait k) (living s) = kept_by m s.waiting
+kept_handed m (Wait k) (ended r s) = refl
+kept_handed m (WaitUntil k at) f = refl
+kept_handed m Proceed f = refl
+kept_handed m (Stop r) f = refl
+
 -- one that sleeps then, or is refused ---------------------------------------------------------
 
 sleeper_is : (t : Tended) (n : Next) (at : ℕ) → sleeper t n ≡ Some at → (t ≡ Idle) × (until_of n ≡ Some at)

@@ -239,7 +239,7 @@ module _ {B : Type 0} (c : Crew B) (d : ShardState) (a : Attends c d) where
 
   -- the earliest timer is of the one that waits until the earliest time
   pub next_is : (r : Option ℕ) → IsNext c.timers r → IsNextTime c r
-  next_is None none p n w = let t = waits_timer p n w in some_none (body_of c.timers t.0) p (none t.0) t.1
+  next_is None none = λ p n w. let t = waits_timer p n w in some_none (body_of c.timers t.0) p (none t.0) t.1
   next_is (Some n) next = (
     let t = next.0 in let w = timer_waits t.0 t.1 in (w.0, subst (λ x. WaitsUntil c w.0 x) t.2 w.1),
     λ p x w. let t = waits_timer p x w in let least = next.1 t.0 (is_pending c.timers t.0 p t.1) in let at = t.2 in omega (arith, least, at),

@@ -13,8 +13,9 @@
 //! other monitor of the client's desk has, so an answer belongs to one call alone. The kind says what is asked, and
 //! what is answered.
 //!
-//! Tests: `checks/tried/test_calls/crews.rt.txt`, `checks/tried/test_calls/asking.rt.txt`,
-//! `crates/test_calls/src/on_a_desk.rt` and `crates/test_calls/src/upheld.rt`.
+//! Tests: `checks/tried/test_calls/crews.rt.txt`, `checks/tried/test_calls/timed_crews.rt.txt`,
+//! `checks/tried/test_calls/asking.rt.txt`, `crates/test_calls/src/on_a_desk.rt` and
+//! `crates/test_calls/src/upheld.rt`.
 //!
 //! # What is proved
 //!
@@ -28,6 +29,10 @@
 //!   (`steps`)
 //! - **Rounds.** A step makes as many rounds as asked for. In each it runs each queued process once, in order. Each
 //!   process that has something to do as the step begins is in the first round. (`first`)
+//! - **Item or time.** A process that waits until a time gets the first item that fits, or `None` once its time has come,
+//!   and never both. Each process whose time has come as a step begins is in the first round. (`steps`, `due`)
+//! - **Timers.** A process has a timer exactly while it waits until a time and is not in the queue, so none is left over.
+//!   `next_time` returns the earliest of their times. (`Attends`)
 //! - **Leaving.** A process leaves a crew only by its exit, and is returned as it was. (`left`, `take_left`)
 //! - **Refusals.** If a call fails for want of memory or stamps, item and process stay. `refused` is true exactly then,
 //!   or if a spawned process could not enter. (`told`)

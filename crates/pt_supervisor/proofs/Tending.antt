@@ -22,12 +22,13 @@ use Rattle.pt_shard.specs.Known.{knows}
 use Rattle.pt_shard.specs.Calls.{Calls, BearsChild, new_link}
 use Rattle.pt_desk.specs.DeskState.{DeskState}
 use Rattle.pt_crew.specs.declared.behaviour.Next.{Next}
-use Rattle.pt_crew.specs.declared.behaviour.Next.TheVariants.{Wait, Proceed, Stop}
+use Rattle.pt_crew.specs.declared.behaviour.Next.TheVariants.{Wait, WaitUntil, Proceed, Stop}
 use Rattle.pt_crew.specs.declared.births.Role.{Role}
 use Rattle.pt_crew.specs.Births.{Bore}
 use Rattle.pt_crew.proofs.Telling.{called_or_same}
+use Rattle.pt_crew.specs.Waking.{pick_of, until_of}
 use Rattle.pt_crew.specs.Visiting.{Answers}
-use Rattle.pt_crew.specs.Upholding.{IsLater, IsLeftAlone, ActsFor, ItemIsTaken, AllFirst, IsUpheld, children_by}
+use Rattle.pt_crew.specs.Upholding.{IsLater, IsLeftAlone, ActsFor, GoesOnWithout, ItemIsTaken, AllFirst, IsUpheld, children_by}
 use Rattle.pt_crew.proofs.Waking.{by_cases}
 use Rattle.pt_crew.proofs.Upholding.{later_after, later_handled, born_then, phase_is, same_pid_sym}
 use Rattle.pt_supervisor.specs.declared.children.Child.{Child}
@@ -175,9 +176,9 @@ living_of unborn h = absurd (cc)
 living_of (living s) h = (s, refl)
 living_of (ended r s) h = absurd (cc)
 
-waits_traps : (traps : Bool) (before : Next) (pick : Pick) (children : List Child) → (traps ≡ true) ⊎ ((before ≡ Proceed) × NoneLives children) → before ≡ Wait pick → traps ≡ true
+waits_traps : (traps : Bool) (before : Next) (pick : Pick) (children : List Child) → (traps ≡ true) ⊎ ((before ≡ Proceed) × NoneLives children) → pick_of before ≡ Some pick → traps ≡ true
 waits_traps traps before pick children (inl h) waits = h
-waits_traps traps before pick children (inr h) waits = absurd (let bad : Proceed ≡ Wait pick = sym h.0 ∙ waits in cc)
+waits_traps traps before pick children (inr h) waits = absurd (let bad : None ≡ Some pick = sym (ap pick_of h.0) ∙ waits in cc)
 
 taken_kept : (me : Pid) (item : Item) (s m : Standing) (before : Next) (was d : ShardState) → Less item s m → ItemIsTaken me before (Some item) was d → Holds s before me was → Kept m.children m.started m.stopping me d
 taken_kept me item s m before was d less taken h = record {
@@ -230,6 +231,17 @@ refused_holds : (s m : Standing) (me : Pid) (before : Next) (was d e : ShardStat
 refused_holds s m me before was d e same proceeds is as_is h =
     subst (λ (x : Standing). Holds x Proceed me e) (sym same) (subst (λ (n : Next). Holds s n me e) proceeds (subst (Holds s before me) (sym (as_is ∙ is)) h))
 
+-- a supervisor waits until no time
+no_until : (before : Next) (s : Standing) → Supervises before s → is_some (until_of before) ≡ true → ⊥
+no_until (Wait pick) s waits until = cc
+no_until (WaitUntil pick at) s waits until = waits
+no_until Proceed s waits until = cc
+no_until (Stop reason) s waits until = cc
+
+proceeds_then : (me : Pid) (before : Next) (was : ShardState) (s : Standing) → GoesOnWithout me before was → Supervises before s → before ≡ Proceed
+proceeds_then me before was s (inl proceeds) waits = proceeds
+proceeds_then me before was s (inr until) waits = absurd (no_until before s waits until.2)
+
 flag_attends : (me : Pid) (s m : Standing) (before : Next) (was d e : ShardState) (on answer : Bool) (result : Result Bool Fault) → Calls me (Some (Flag me true)) on d result e → answer ≡ is_ok result → m ≡ s
     → ItemIsTaken me before None was d → Holds s before me was → Attended answer m me e
 flag_attends me s m before was d e on answer (Ok x) c ok same taken h =
@@ -247,9 +259,9 @@ flag_attends me s m before was d e on answer (Ok x) c ok same taken h =
   where
     st : (s : ProcessState) × (phase_of d me ≡ living s)
     st = living_of (phase_of d me) c.0
-flag_attends me s m before was d e on answer (Err Gone) c ok same taken h = subst (λ (a : Bool). Attended a m me e) (sym ok) (refused_holds s m me before was d e same taken.0 taken.2 c.1 h)
-flag_attends me s m before was d e on answer (Err Worn) c ok same taken h = subst (λ (a : Bool). Attended a m me e) (sym ok) (refused_holds s m me before was d e same taken.0 taken.2 c.3 h)
-flag_attends me s m before was d e on answer (Err Memory) c ok same taken h = subst (λ (a : Bool). Attended a m me e) (sym ok) (refused_holds s m me before was d e same taken.0 taken.2 c.3 h)
+flag_attends me s m before was d e on answer (Err Gone) c ok same taken h = subst (λ (a : Bool). Attended a m me e) (sym ok) (refused_holds s m me before was d e same (proceeds_then me before was s taken.0 h.waits) taken.2 c.1 h)
+flag_attends me s m before was d e on answer (Err Worn) c ok same taken h = subst (λ (a : Bool). Attended a m me e) (sym ok) (refused_holds s m me before was d e same (proceeds_then me before was s taken.0 h.waits) taken.2 c.3 h)
+flag_attends me s m before was d e on answer (Err Memory) c ok same taken h = subst (λ (a : Bool). Attended a m me e) (sym ok) (refused_holds s m me before was d e same (proceeds_then me before was s taken.0 h.waits) taken.2 c.3 h)
 flag_attends me s m before was d e on answer (Err Full) c ok same taken h = absurd c
 flag_attends me s m before was d e on answer (Err Myself) c ok same taken h = absurd c
 flag_attends me s m before was d e on answer (Err NoProc) c ok same taken h = absurd c

@@ -38,6 +38,14 @@ loop-due-preserved g c =
       fewer = λ k.
           let mine = inv.timers k in
           let was = inv.fewer k in
-          let one = wakes.fewer mine c.peek_due.result.unwrap.0 (mine.owned _ _ c.in-Some.ensures.pending) in
+          let one = wakes.fewer mine _ (mine.owned _ _ c.in-Some.ensures.pending) in
           omega (arith, was, one);
     }
+
+pub returns-then-is_err-clause-knows : goal.returns-then-is_err-clause-knows
+returns-then-is_err-clause-knows g c =
+    λ d k. knows_is c.loop-due.self c.wake.new.self d (on_err_of _ c.wake.result (sym c.is_err.ensures.value ∙ c.if-is_err.true) c.wake.ensures.refused) (c.loop-due.invariant.knows d k)
+
+pub returns-then-is_err-clause-timers : goal.returns-then-is_err-clause-timers
+returns-then-is_err-clause-timers g c =
+    λ k. timers_is c.loop-due.self c.wake.new.self (on_err_of _ c.wake.result (sym c.is_err.ensures.value ∙ c.if-is_err.true) c.wake.ensures.refused) (c.loop-due.invariant.timers k)
