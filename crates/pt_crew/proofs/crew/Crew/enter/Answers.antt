@@ -1,5 +1,5 @@
 -- `Crew::enter`: its clauses `knows`, `room` and `timers`.
-use Rattle.std.proofs.Common.{◌≡◌, true, Some, None, ap, sym, refl, arith}
+use Rattle.std.proofs.Common.{◌≡◌, true, Some, None, ap, sym, refl, ◌∙◌, arith}
 use Rattle.std.specs.Map.{lookup}
 use Rattle.pt_signal.specs.declared.pid.Pid.{Pid}
 use Rattle.pt_signal.specs.Values.{same_pid}
