@@ -13,8 +13,12 @@
 //! other monitor of the client's desk has, so an answer belongs to one call alone. The kind says what is asked, and
 //! what is answered.
 //!
+//! # Messages that are sent later
+//! Erlang's `send_after`. A behaviour keeps [`Alarms`] in its state, and sends by [`Alarms::ring`] what is due.
+//!
 //! Tests: `checks/tried/test_calls/crews.rt.txt`, `checks/tried/test_calls/asking.rt.txt`,
-//! `crates/test_calls/src/on_a_desk.rt` and `crates/test_calls/src/upheld.rt`.
+//! `checks/tried/test_calls/alarms.rt.txt`, `crates/test_calls/src/on_a_desk.rt` and
+//! `crates/test_calls/src/upheld.rt`.
 //!
 //! # What is proved
 //!
@@ -42,8 +46,11 @@
 //!   deadline is not above the time. (`is_expired`)
 //! - **Hearing.** `Pending::hear` returns whether an item is the answer, the exit of the server, late, or none of
 //!   these.
+//! - **Alarms.** `Alarms::ring` sends each message that is due, in the order of time and starting, and none twice or
+//!   early. One that is refused memory or a stamp stays to be sent. (`Rings`)
 #![tactic(auto)]
 
+mod alarms;
 mod behaviour;
 mod births;
 mod call_fault;
@@ -55,6 +62,7 @@ mod request;
 mod running;
 mod upholds;
 
+pub use alarms::{Alarm, Alarms};
 pub use behaviour::{Behaviour, Next};
 pub use births::{Births, Role, spawn_child};
 pub use call_fault::CallFault;
