@@ -17,3 +17,4 @@ pub mod Upholding
 pub mod Runs
 pub mod Ends
 pub mod Fitting
+pub mod Ringing

@@ -79,8 +79,9 @@ pub record IsUnsent (me server : Pid) (asks : ℕ) (old : DeskState) (f : CallFa
   pub given_up : Result Bool Fault
   pub gives_up : Unwatches me monitor untold given_up new
 
--- the call is made: its monitor stands, and its request went out
-pub record IsMade (me server : Pid) (asks : ℕ) (old : DeskState) (p : Pending) (new : DeskState) : Type 0 where
+-- the call is made: its monitor stands, and its request went out; it has this deadline, or none
+pub record IsMade (me server : Pid) (asks : ℕ) (deadline : Option ℕ) (old : DeskState) (p : Pending)
+    (new : DeskState) : Type 0 where
   pub watching : DeskState
   pub watches : Watches me server old (Ok p.monitor) watching
   pub told : Result (Unit {0}) CallFault
@@ -91,9 +92,11 @@ pub record IsMade (me server : Pid) (asks : ℕ) (old : DeskState) (p : Pending)
     server = server;
     monitor = p.monitor;
     number = pos p.monitor.number;
+    deadline = deadline;
     waits = true;
   }
 
-abbrev pub Asks : Pid → Pid → ℕ → DeskState → Result Pending CallFault → DeskState → Type 0
-Asks me server asks old (Ok p) new = IsMade me server asks old p new
-Asks me server asks old (Err f) new = Watches me server old (Err f) new ⊎ IsUnsent me server asks old f new
+abbrev pub Asks : Pid → Pid → ℕ → Option ℕ → DeskState → Result Pending CallFault → DeskState → Type 0
+Asks me server asks deadline old (Ok p) new = IsMade me server asks deadline old p new
+Asks me server asks deadline old (Err f) new =
+    Watches me server old (Err f) new ⊎ IsUnsent me server asks old f new

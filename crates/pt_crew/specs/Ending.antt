@@ -1,9 +1,11 @@
--- How a call ends: by its answer or by the end of its server, once.
-use Rattle.std.specs.Prelude.{◌≡◌, ℕ, ◌+◌, cond, ◌&&◌, not, MatchBool, Bool, true, false, is_some, List, [], ◌∷◌}
+-- How a call ends: by its answer, by the end of its server or by its deadline, once.
+use Rattle.std.specs.Prelude.{◌≡◌, ℕ, ◌+◌, cond, ◌&&◌, not, MatchBool, Bool, true, false, is_some, nat_le}
+use Rattle.std.specs.Prelude.{List, [], ◌∷◌, ◌++◌}
 use Rattle.std.specs.Prelude.{Option, Some, None, Result}
 use Rattle.std.specs.List.{list_any}
 use Rattle.std.specs.Ordering.{int_eq}
 use Rattle.pt_signal.specs.declared.pid.Pid.{Pid}
+use Rattle.pt_signal.specs.declared.reason.Reason.{Reason}
 use Rattle.pt_signal.specs.declared.item.Body.{Body}
 use Rattle.pt_signal.specs.declared.item.Item.{Item}
 use Rattle.pt_signal.specs.declared.item.Item.TheVariants.{User, Down}
@@ -40,11 +42,14 @@ heard_by_call p item = heard_as p.waits (says_to_call p item)
 abbrev pub after_item : Pending → Item → Pending
 after_item p item = record p { waits = p.waits && not (is_some (says_to_call p item)) }
 
+-- its monitor is given up, if that is not refused
+abbrev pub IsGivenUp : Pending → DeskState → DeskState → Type 0
+IsGivenUp p old new = (result : Result Bool Fault) × Unwatches p.client p.monitor old result new
+
 -- as it ends its monitor is given up, if that is not refused; else nothing is done
 abbrev pub Closes : Pending → Item → DeskState → DeskState → Type 0
 Closes p item old new =
-    MatchBool (p.waits && is_some (says_to_call p item))
-    ((result : Result Bool Fault) × Unwatches p.client p.monitor old result new) (new ≡ old)
+    MatchBool (p.waits && is_some (says_to_call p item)) (IsGivenUp p old new) (new ≡ old)
 
 -- the call has ended by what was heard
 abbrev pub is_end : Heard → Bool
@@ -66,3 +71,84 @@ is_its p item = is_some (says_to_call p item)
 -- and one that has ended does not end again. So never by both.
 abbrev pub EndsOnce : Type 0
 EndsOnce = (p : Pending) (items : List Item) → ends_among p items ≡ cond (p.waits && list_any (is_its p) items) 1 0
+
+-- deadlines -------------------------------------------------------------------------------
+
+-- the deadline, if there is one, is not above this moment
+abbrev pub is_past : Option ℕ → ℕ → Bool
+is_past None now = false
+is_past (Some deadline) now = nat_le deadline now
+
+abbrev pub is_due : Pending → ℕ → Bool
+is_due p now = is_past p.deadline now
+
+-- the deadline of a call that is open
+abbrev pub waits_until : Pending → Option ℕ
+waits_until p = cond p.waits p.deadline None
+
+-- an open call ends at this moment
+abbrev pub is_expired : Pending → ℕ → Bool
+is_expired p now = p.waits && is_due p now
+
+abbrev pub after_moment : Pending → ℕ → Pending
+after_moment p now = record p { waits = p.waits && not (is_due p now) }
+
+-- as it ends its monitor is given up, if that is not refused; else nothing is done
+abbrev pub Expires : Pending → ℕ → DeskState → DeskState → Type 0
+Expires p now old new = MatchBool (is_expired p now) (IsGivenUp p old new) (new ≡ old)
+
+-- what a call is told of: an item that its client got, or the time
+pub data CallEvent : Type 0 where
+  item : Item → CallEvent
+  moment : ℕ → CallEvent
+
+-- what a call ends by
+pub data CallEnd : Type 0 where
+  answered : ℕ → CallEnd
+  server_down : Reason → CallEnd
+  timed_out : CallEnd
+
+-- the end that was heard, if any
+abbrev pub end_heard : Heard → List CallEnd
+end_heard (Heard.Answer n) = answered n ∷ []
+end_heard (Heard.Down reason) = server_down reason ∷ []
+end_heard Heard.Late = []
+end_heard Heard.NotMine = []
+
+-- the end that the call reports as it is told of the event, if any: by what `hear` or `expire` returns
+abbrev pub end_reported : Pending → CallEvent → List CallEnd
+end_reported p (item i) = end_heard (heard_by_call p i)
+end_reported p (moment now) = cond (is_expired p now) (timed_out ∷ []) []
+
+abbrev pub after_event : Pending → CallEvent → Pending
+after_event p (item i) = after_item p i
+after_event p (moment now) = after_moment p now
+
+-- the ends that a call reports, of events of which it is told in this order
+abbrev pub ends_reported : Pending → List CallEvent → List CallEnd
+ends_reported p [] = []
+ends_reported p (e ∷ events) = end_reported p e ++ ends_reported (after_event p e) events
+
+-- what the event is an end of the call by, if the call is open: its answer, the end of its server, or its deadline
+abbrev pub end_said : Option Heard → List CallEnd
+end_said None = []
+end_said (Some h) = end_heard h
+
+abbrev pub end_by : Pending → CallEvent → List CallEnd
+end_by p (item i) = end_said (says_to_call p i)
+end_by p (moment now) = cond (is_due p now) (timed_out ∷ []) []
+
+-- the first of them, if any
+abbrev pub or_first : List CallEnd → List CallEnd → List CallEnd
+or_first [] later = later
+or_first (first ∷ more) later = first ∷ []
+
+abbrev pub first_call_end : Pending → List CallEvent → List CallEnd
+first_call_end p [] = []
+first_call_end p (e ∷ events) = or_first (end_by p e) (first_call_end p events)
+
+-- Whatever items come, and whatever the time is in between, an open call reports one end: by the first event that is
+-- its answer, the end of its server or its deadline. It reports none where no event is, or where it had ended before.
+-- So never two of them.
+abbrev pub EndsFirst : Type 0
+EndsFirst = (p : Pending) (events : List CallEvent) → ends_reported p events ≡ cond p.waits (first_call_end p events) []

@@ -9,3 +9,4 @@ pub mod Parts
 pub mod Running
 pub mod Asking
 pub mod Ending
+pub mod Alarming

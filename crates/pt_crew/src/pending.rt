@@ -1,10 +1,11 @@
 //! The side that asks.
 
-ghost use Rattle.std.specs.Prelude.{◌≡◌, ◌<◌, ◌^◌, pos};
+ghost use Rattle.std.specs.Prelude.{◌≡◌, ◌<◌, ◌^◌, None, Some, false, pos};
 ghost use Rattle.pt_desk.specs.DeskState.{GoesOn};
 ghost use Rattle.pt_crew.specs.Visiting.{takes};
 ghost use Rattle.pt_crew.specs.Asking.{Asks, refusal};
-ghost use Rattle.pt_crew.specs.Ending.{Closes, EndsOnce, after_item, heard_by_call, is_answer_to_call, is_pending, says_to_call};
+ghost use Rattle.pt_crew.specs.Ending.{Closes, EndsFirst, EndsOnce, Expires, IsGivenUp, after_item, after_moment};
+ghost use Rattle.pt_crew.specs.Ending.{heard_by_call, is_answer_to_call, is_due, is_expired, is_pending, says_to_call, waits_until};
 
 use crate::call_fault::CallFault;
 use crate::calls::{demonitor, monitor, send};
@@ -25,9 +26,10 @@ pub enum Heard {
     NotMine,
 }
 
-/// A call that was made: the server that it waits for, and whether it still does.
+/// A call that was made: the server that it waits for, until when, and whether it still does.
 ///
-/// It ends once, by its answer or by the `DOWN` of its server, and reports this by [`Pending::hear`].
+/// It ends once: by its answer or by the `DOWN` of its server, which [`Pending::hear`] reports, or by its deadline, which
+/// [`Pending::expire`] reports.
 #[derive(Debug, Drop, PartialEq, Eq)]
 pub struct Pending {
     client: Pid,
@@ -35,6 +37,8 @@ pub struct Pending {
     monitor: Ref,
     /// The number that the answer carries.
     number: i64,
+    /// The moment at which it ends, if it is open then.
+    deadline: Option<u64>,
     waits: bool,
 }
 
@@ -46,7 +50,41 @@ impl Pending {
     /// that fails as well, its `DOWN` may arrive, and belongs to no call. If the server is seen to have exited only as
     /// the request is sent, the call is made, and ends by the `DOWN`.
     pub fn ask(desk: &mut Desk, me: Pid, server: Pid, asks: u32) -> Result<Pending, CallFault>
-        ensures does { Asks me server asks desk.old result desk.new }
+        ensures does { Asks me server asks None desk.old result desk.new }
+        ensures takes { takes desk.new.shard.journal ≡ takes desk.old.shard.journal }
+        ensures goes_on { GoesOn desk.old desk.new }
+    {
+        Pending::begin(desk, me, server, asks, None)
+    }
+
+    /// Asks a server, as [`Pending::ask`] does, by a call that ends at a moment if it is open then (the `Timeout` of
+    /// `gen_server:call`).
+    ///
+    /// The moment is a time of the program's own clock. It may have passed already: the call is made, and the first
+    /// [`Pending::expire`] ends it. It fails as [`Pending::ask`] does.
+    pub fn ask_until(
+        desk: &mut Desk,
+        me: Pid,
+        server: Pid,
+        asks: u32,
+        deadline: u64,
+    ) -> Result<Pending, CallFault>
+        ensures does { Asks me server asks (Some deadline) desk.old result desk.new }
+        ensures takes { takes desk.new.shard.journal ≡ takes desk.old.shard.journal }
+        ensures goes_on { GoesOn desk.old desk.new }
+    {
+        Pending::begin(desk, me, server, asks, Some(deadline))
+    }
+
+    /// Makes the monitor, and sends the request under its number.
+    fn begin(
+        desk: &mut Desk,
+        me: Pid,
+        server: Pid,
+        asks: u32,
+        deadline: Option<u64>,
+    ) -> Result<Pending, CallFault>
+        ensures does { Asks me server asks deadline desk.old result desk.new }
         ensures takes { takes desk.new.shard.journal ≡ takes desk.old.shard.journal }
         ensures goes_on { GoesOn desk.old desk.new }
     {
@@ -66,6 +104,7 @@ impl Pending {
             server,
             monitor: reference,
             number,
+            deadline,
             waits: true,
         })
     }
@@ -75,6 +114,33 @@ impl Pending {
         ensures { result ≡ is_pending self.now }
     {
         self.waits
+    }
+
+    /// The moment at which its client has to call [`Pending::expire`]: the deadline, if it has one and is open.
+    pub fn deadline(&self) -> Option<u64>
+        ensures { result ≡ waits_until self.now }
+    {
+        if self.waits { self.deadline } else { None }
+    }
+
+    /// Reports the time, and returns whether the call ends by its deadline now: it is open, and the deadline is not
+    /// above `now`.
+    ///
+    /// If it returns `false`, nothing has changed. As the call ends, its monitor is cancelled, as in [`Pending::hear`],
+    /// and an answer that arrives later is `Late`. An answer that has arrived is lost to a call that has expired. So
+    /// show the call what waits in the mailbox first, as Erlang's `receive .. after` does.
+    pub fn expire(&mut self, desk: &mut Desk, now: u64) -> bool
+        ensures expired { result ≡ is_expired self.old now }
+        ensures after { self.new ≡ after_moment self.old now }
+        ensures closes { Expires self.old now desk.old desk.new }
+        ensures takes { takes desk.new.shard.journal ≡ takes desk.old.shard.journal }
+        ensures goes_on { GoesOn desk.old desk.new }
+    {
+        if !self.waits || !self.is_due(now) {
+            return false;
+        }
+        self.close(desk);
+        true
     }
 
     /// Reads an item that the client got, and returns whether it is the answer of this call, or its `DOWN`, or neither.
@@ -94,9 +160,29 @@ impl Pending {
         if !self.waits {
             return Heard::Late;
         }
+        self.close(desk);
+        said
+    }
+
+    /// Ends the call, and cancels its monitor. If that fails, the failure is ignored.
+    fn close(&mut self, desk: &mut Desk)
+        ensures after { self.new ≡ record self.old { waits = false } }
+        ensures closes { IsGivenUp self.old desk.old desk.new }
+        ensures takes { takes desk.new.shard.journal ≡ takes desk.old.shard.journal }
+        ensures goes_on { GoesOn desk.old desk.new }
+    {
         self.waits = false;
         let _ = demonitor(desk, self.client, self.monitor);
-        said
+    }
+
+    /// Whether the deadline has come, if there is one.
+    fn is_due(&self, now: u64) -> bool
+        ensures { result ≡ is_due self.now now }
+    {
+        match self.deadline {
+            Some(deadline) => deadline <= now,
+            None => false,
+        }
     }
 
     /// What the item means to this call, while it is open.
@@ -141,8 +227,9 @@ fn refusal(told: Result<(), CallFault>) -> Option<CallFault>
     }
 }
 
-/// Each call ends once, by its answer or by the exit of its server, and never by both. A call to which neither arrives
-/// stays open.
+/// Each call ends once: by its answer, by the exit of its server or by its deadline, and never by two of them. A call
+/// to which none of them comes stays open. Of items and moments in any order, the first that ends it counts.
 pub fn calls_end_once()
-    ensures { EndsOnce }
+    ensures items { EndsOnce }
+    ensures events { EndsFirst }
 {}

@@ -33,7 +33,7 @@
 //! - **Names are unique.** `start` returns a name that no timer had before, or fails and changes nothing. (`Starts`)
 #![tactic(auto)]
 
-ghost use Rattle.std.specs.Prelude.{◌≡◌, length, MatchOption};
+ghost use Rattle.std.specs.Prelude.{◌≡◌, ◌+◌, cond, length, MatchOption};
 ghost use Rattle.std.specs.Option.{option_copied};
 ghost use Rattle.pt_timers.specs.State.{body_of};
 ghost use Rattle.pt_timers.specs.Calls.{Cancels, Fires, IsFirstDue, IsNext, IsNone, NoneDue, Starts};
@@ -167,7 +167,8 @@ impl<T: Drop> Timers<T> {
     ///
     /// If it has fired, was cancelled before or was never started, the answer is `false` and nothing changes.
     pub fn cancel(&mut self, timer: Timer) -> bool
-        ensures { Cancels timer self.old result self.new }
+        ensures cancels { Cancels timer self.old result self.new }
+        ensures fewer { length self.new.pending + cond result 1 0 ≡ length self.old.pending }
     {
         self.pending.remove(&timer).is_some()
     }

@@ -1,10 +1,10 @@
--- `Pending::ask`: its clauses `does` and `goes_on`, and what its call of `number_of` asks.
+-- `Pending::begin`: its clauses `does` and `goes_on`, and what its call of `number_of` asks.
 use Rattle.std.proofs.Common.{Some, true, inr, sym, ap, subst, ◌∙◌, ℤ}
 use Rattle.pt_desk.proofs.Turning.{goes_on_then}
 use Rattle.pt_crew.specs.declared.pending.Pending.{Pending}
 use Rattle.pt_crew.specs.Asking.{SendsTo}
 use Rattle.pt_crew.proofs.Fitting.{monitor_fits, carried}
-use Rattle.pt_crew.proofs.pending.Pending.ask.Goals as goal
+use Rattle.pt_crew.proofs.pending.Pending.begin.Goals as goal
 
 pub number_of-number-requires : goal.number_of-number-requires
 number_of-number-requires c = monitor_fits c.args.me c.args.server c.args.desk.now c.in_ok-reference.reference c.monitor.new.desk c.in_ok-reference.ensures.does
@@ -35,7 +35,7 @@ pub returns-clause-does : goal.returns-clause-does
 returns-clause-does c =
     let m = c.in_ok-reference.reference in
     let number = carried c.number_of-number.result m.number c.number_of-number.ensures (monitor_fits c.args.me c.args.server c.args.desk.now m c.monitor.new.desk c.in_ok-reference.ensures.does) in
-    let call : ℤ → Pending = λ n. record { client = c.args.me; server = c.args.server; monitor = m; number = n; waits = true } in
+    let call : ℤ → Pending = λ n. record { client = c.args.me; server = c.args.server; monitor = m; number = n; deadline = c.args.deadline; waits = true } in
     record {
       watching = c.monitor.new.desk;
       watches = c.in_ok-reference.ensures.does;
