@@ -18,7 +18,7 @@ ghost use Rattle.pt_crew.specs.Crews.{waiting, was_refused};
 ghost use Rattle.pt_crew.specs.Parts.{Admits, AdmitsFirst, CanEnter, QueueIsLonger, Serves, MemberTends, Wakes, WakesAt};
 ghost use Rattle.pt_crew.specs.Parts.{PutsMember, SleepsUntil, Stops, WakesBy, sleeper};
 ghost use Rattle.pt_crew.specs.Parts.{is_marked, kept_as};
-ghost use Rattle.pt_crew.specs.Waking.{IsAwake, is_queued, pick_of, timer_of, until_of};
+ghost use Rattle.pt_crew.specs.Waking.{IsAwake, is_queued, pick_of, timer_of, limit_of};
 ghost use Rattle.pt_timers.specs.Calls.{NoneDue};
 ghost use Rattle.pt_crew.specs.Running.{is_idle};
 
@@ -579,7 +579,7 @@ fn tend<B: Behaviour + Drop>(
         (kept_as result member.new) desk.new.shard (bore (born births.old) (born births.new)) }
     ensures role { result ≡ Tended.Gone → member.new ≡ member.old }
     ensures timer { member.new.timer ≡ member.old.timer }
-    ensures done { result ≡ Tended.Done → until_of member.new.next ≡ None }
+    ensures done { result ≡ Tended.Done → limit_of member.new.next ≡ None }
     ensures bears { BearsChildren result (born births.old) (born births.new) }
     ensures tends { MemberTends p result member.new desk.new.shard }
     ensures goes_on { GoesOn desk.old desk.new }
@@ -618,7 +618,7 @@ fn receive<B: Behaviour + Drop>(
         desk.new.shard (bore (born births.old) (born births.new)) }
     ensures role { result ≡ Tended.Gone → member.new ≡ member.old }
     ensures timer { member.new.timer ≡ member.old.timer }
-    ensures done { result ≡ Tended.Done → until_of member.new.next ≡ None }
+    ensures done { result ≡ Tended.Done → limit_of member.new.next ≡ None }
     ensures bears { BearsChildren result (born births.old) (born births.new) }
     ensures tends { MemberTends p result member.new desk.new.shard }
     ensures goes_on { GoesOn desk.old desk.new }
