@@ -49,9 +49,10 @@ pub enum Tended {
     Idle,
     /// It got an item, or `None`, and may have more to do: it joins the queue's end.
     Again,
-    /// It got an item, or `None`, and waits now with an empty mailbox: it leaves the queue.
+    /// It got an item, or `None`, and waits now without an end, with an empty mailbox: it leaves the queue.
     Done,
-    /// A call failed, since there was no memory or no stamp, and nothing has changed: it joins the queue's end.
+    /// A call failed, or its timer could not start, since there was no memory or no stamp, and nothing has changed: it
+    /// joins the queue's end.
     Refused,
     /// It has exited, and leaves the crew.
     Gone,
@@ -700,6 +701,7 @@ fn last_timer<B: Drop>(before: Option<Member<B>>) -> Option<Timer>
 }
 
 /// Cancels a timer, if there is one.
+#[inline(always)]
 fn stop_timer(timers: &mut Timers<Pid>, timer: Option<Timer>)
     ensures { Stops timer timers.old timers.new }
 {
