@@ -11,7 +11,7 @@
 //!
 //! - **The team.** On each desk every child that its supervisor wants alive is alive, once the node is gathered.
 //!   (`AllChildrenLive`)
-//! - **The others.** Each scene terminates without a fault. What they print is compared.
+//! - **The others.** Nothing goes wrong in a scene. That it ends, and what it prints, is seen by its run.
 #![tactic(auto)]
 
 mod bank;
