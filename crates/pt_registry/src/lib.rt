@@ -1,9 +1,9 @@
-//! Registered names, kept by a process that monitors each process that has one: Erlang's `register` and `whereis` for a
-//! crew.
+//! Registered names: a process keeps the names of others, and monitors each process that has one.
 //!
-//! A behaviour keeps a [`Registry`] in its state, and shows it each item that arrives. So a name whose process has
-//! exited is free again once its `DOWN` has come. A child that a supervisor starts asks for its name by a call, whose
-//! number stands for a name of a list ([`Registry::register_sender`]): `{via, ..}` of `gen_server:start_link`.
+//! It is Erlang's `register` and `whereis` for a crew. A behaviour keeps a [`Registry`] in its state, and shows it each
+//! item that arrives. So a name whose process has exited is free again once its `DOWN` has come. A child that a
+//! supervisor starts asks for its name by a call, whose number stands for a name of a list
+//! ([`Registry::register_sender`]): `{via, ..}` of `gen_server:start_link`.
 //!
 //! Tests: `checks/tried/test_calls/registry.rt.txt`.
 //!
