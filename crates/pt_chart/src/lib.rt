@@ -54,6 +54,7 @@ mod drawing;
 mod elements;
 mod follower;
 mod layout;
+mod mentions;
 mod page;
 mod part;
 mod point;
