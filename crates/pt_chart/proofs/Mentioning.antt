@@ -2,11 +2,11 @@
 -- takes.
 use Rattle.std.proofs.Common.{◌≡◌, ℕ, zero, suc, ◌+◌, ◌-◌, ◌<◌, ◌≤◌, Bool, true, false, cond, ◌||◌, List, [], ◌∷◌, ◌++◌, length, map, take, drop, get_or, Option, Some, None, refl, ap, sym, subst, ◌∙◌, add-one, append_assoc, append-nil, below_more, lt-ltb, le-ltb, eq-eqb, arith}
 use Rattle.std.specs.Prelude.{fold, position, nat_lt, ◌==◌, ⊤}
-use Rattle.std.specs.List.{list_any, position_or_len, insert}
+use Rattle.std.specs.List.{list_any, insert}
 use Rattle.std.proofs.Math.Seq.{drop-cons}
 use Rattle.std.proofs.Math.ListN.{take-append-drop}
 use Rattle.std.proofs.lemmas.Bool.{both_ways}
-use Rattle.std.proofs.lemmas.List.{drop_all, take_more}
+use Rattle.std.proofs.lemmas.List.{drop_all}
 use Rattle.std.proofs.lemmas.List.Folds.{list_any-append}
 use Rattle.std.proofs.lemmas.List.Sums.{position_or_len_is}
 use Rattle.pt_signal.specs.declared.pid.Pid.{Pid}
@@ -16,7 +16,7 @@ use Rattle.pt_signal.proofs.Same.{same_pid_is, same_pid_refl}
 use Rattle.pt_events.specs.declared.event.Event.{Event}
 use Rattle.pt_events.specs.declared.event.Event.TheVariants.{Born, Said, Came, Took, Flag, Left, Refused}
 use Rattle.pt_events.specs.declared.event.Stamped.{Stamped}
-use Rattle.pt_events.specs.History.{Past, Phase, unborn, living, ended, life, after, touches, sent_by, is_birth}
+use Rattle.pt_events.specs.History.{Past, Phase, unborn, living, ended, life, touches, sent_by, is_birth}
 use Rattle.pt_events.proofs.Steps.{untouched}
 use Rattle.pt_chart.specs.declared.layout.Sending.{Sending}
 use Rattle.pt_chart.specs.Following.{Followed, followed, seen_followed, sends_followed, ends_followed, OpensAnew, noted}

@@ -2,8 +2,8 @@
 use Rattle.std.proofs.Common.{None, length, arith}
 use Rattle.pt_events.specs.declared.event.Stamped.{Stamped}
 use Rattle.pt_events.specs.declared.event.Event.TheVariants.{Born}
-use Rattle.pt_chart.proofs.Arrivals.{Queues, queues_all}
-use Rattle.pt_chart.proofs.Mentioning.{seen_first, receipt_at, receipt_own, receipts_all}
+use Rattle.pt_chart.proofs.Arrivals.{queues_all}
+use Rattle.pt_chart.proofs.Mentioning.{receipt_at, receipt_own, receipts_all}
 use Rattle.pt_chart.proofs.receipts.receipts_of.Goals as goal
 
 abbrev nothing : Stamped

@@ -1,5 +1,5 @@
 -- `Mentions::note_both`: its contract.
-use Rattle.std.proofs.Common.{sym, ◌∙◌}
+use Rattle.std.proofs.Common.{sym}
 use Rattle.std.proofs.lemmas.Result.{on_ok_weaker}
 use Rattle.pt_chart.proofs.Mentioning.{noted_both}
 use Rattle.pt_chart.proofs.mentions.Mentions.note_both.Goals as goal
