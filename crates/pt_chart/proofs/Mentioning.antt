@@ -1,7 +1,7 @@
 -- The events that name a process: an event that does not name it changes nothing of it, so those that do are all that it
 -- takes.
 use Rattle.std.proofs.Common.{◌≡◌, ℕ, zero, suc, ◌+◌, ◌-◌, ◌<◌, ◌≤◌, Bool, true, false, cond, ◌||◌, List, [], ◌∷◌, ◌++◌, length, map, take, drop, get_or, Option, Some, None, refl, ap, sym, subst, ◌∙◌, add-one, append_assoc, append-nil, below_more, lt-ltb, le-ltb, eq-eqb, arith}
-use Rattle.std.specs.Prelude.{fold, position, nat_lt, ◌==◌, ⊤}
+use Rattle.std.specs.Prelude.{fold, position, nat_lt, ◌==◌, is_some, slice_get, ⊤}
 use Rattle.std.specs.List.{list_any, insert}
 use Rattle.std.proofs.Math.Seq.{drop-cons}
 use Rattle.std.proofs.Math.ListN.{take-append-drop}
@@ -21,6 +21,7 @@ use Rattle.pt_events.proofs.Steps.{untouched}
 use Rattle.pt_chart.specs.declared.layout.Sending.{Sending}
 use Rattle.pt_chart.specs.Following.{Followed, followed, seen_followed, sends_followed, ends_followed, OpensAnew, noted}
 use Rattle.pt_chart.specs.Chart.{named_columns, place_behind, join, joined_columns, everyone, past_of, sent_of, sent_at, end_of, end_between, is_receipt, MonitorsAnew}
+use Rattle.pt_chart.specs.Drawing.{is_in_block}
 use Rattle.pt_chart.specs.Mentioning.{names, mentions_from, mentions, AreMentions, begins_at}
 use Rattle.pt_chart.specs.Receiving.{QueuedRows, rows_queued, RowIsQueued, IsQueuedBy}
 use Rattle.pt_chart.proofs.Tracing.{Traces, trace_row, traced}
@@ -78,6 +79,15 @@ noted_both p r at old mid new apart first second q =
         absurd (both_ways (same_pid p r) apart (subst (λ z. same_pid z r ≡ true) same f))
     by true e false f = rw e (rw f (append-nil (rows_queued old q ++ at ∷ [])))
     by false e b f = rw e (ap (λ z. z ++ cond (same_pid q r || false) (at ∷ []) []) (append-nil (rows_queued old q)))
+
+-- who has a mention in a block is named in it
+pub mentioned : (p : Pid) (at : ℕ) (block : List Stamped) → is_some (slice_get (mentions_from at p block) 0) ≡ is_in_block block p
+mentioned p at [] = refl
+mentioned p at (s ∷ block) = by (names p s.event) (mentioned p (at + 1) block)
+  where
+    by : (t : Bool) → is_some (slice_get (mentions_from (at + 1) p block) 0) ≡ is_in_block block p → is_some (slice_get (cond t (at ∷ mentions_from (at + 1) p block) (mentions_from (at + 1) p block)) 0) ≡ (t || is_in_block block p)
+    by true later = refl
+    by false later = later
 
 -- from one mention to the next ------------------------------------------------------------------------
 

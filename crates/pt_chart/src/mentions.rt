@@ -1,6 +1,6 @@
 //! The events that name each process. So a process is followed through its own events alone.
 
-ghost use Rattle.std.specs.Prelude.{◌<◌, length, slice_index_or, ◌≡◌, ◌++◌, ◌∷◌, [], cond, slice_get, IfOk, OnOk};
+ghost use Rattle.std.specs.Prelude.{◌<◌, length, slice_index_or, ◌≡◌, ◌++◌, ◌∷◌, [], cond, is_some, slice_get, IfOk, OnOk};
 ghost use Rattle.std.specs.List.{list_any};
 ghost use Rattle.pt_signal.specs.Values.{same_pid};
 ghost use Rattle.pt_chart.specs.Chart.{named_columns};
@@ -83,6 +83,13 @@ impl Mentions {
             Some(places) => places.as_slice(),
             None => &[],
         }
+    }
+
+    /// Whether an event names the process.
+    pub(crate) fn has(&self, pid: Pid) -> bool
+        ensures { result ≡ is_some (slice_get (rows_queued self.now pid) 0) }
+    {
+        self.of(pid).first().is_some()
     }
 
     /// Whether an event, by its place, is the first that names one of its processes.
