@@ -22,7 +22,7 @@ use Rattle.pt_chart.specs.declared.layout.Sending.{Sending}
 use Rattle.pt_chart.specs.Following.{Followed, followed, seen_followed, sends_followed, ends_followed, OpensAnew, noted}
 use Rattle.pt_chart.specs.Chart.{named_columns, place_behind, join, joined_columns, everyone, past_of, sent_of, sent_at, end_of, end_between, is_receipt, MonitorsAnew}
 use Rattle.pt_chart.specs.Drawing.{is_in_block}
-use Rattle.pt_chart.specs.Mentioning.{names, mentions_from, mentions, AreMentions, begins_at}
+use Rattle.pt_chart.specs.Mentioning.{is_mentioned, mentions_from, mentions, AreMentions, begins_at}
 use Rattle.pt_chart.specs.Receiving.{QueuedRows, rows_queued, RowIsQueued, IsQueuedBy}
 use Rattle.pt_chart.proofs.Tracing.{Traces, trace_row, traced}
 use Rattle.pt_chart.proofs.Rows.{past_more, past_rows, everyone_more}
@@ -31,20 +31,20 @@ use Rattle.pt_chart.proofs.Arrivals.{Queues, queues_next, same_pid_turned}
 -- the index -------------------------------------------------------------------------------------------
 
 at_event : (p : Pid) (events : List Stamped) (at : ℕ) (d : Stamped) → at < length events
-    → mentions_from at p (drop at events) ≡ cond (names p (get_or events at d).event) (at ∷ mentions_from (at + 1) p (drop (at + 1) events)) (mentions_from (at + 1) p (drop (at + 1) events))
+    → mentions_from at p (drop at events) ≡ cond (is_mentioned p (get_or events at d).event) (at ∷ mentions_from (at + 1) p (drop (at + 1) events)) (mentions_from (at + 1) p (drop (at + 1) events))
 at_event p events at d h =
     ap (mentions_from at p) (drop-cons events at d h)
-    ∙ ap (λ k. cond (names p (get_or events at d).event) (at ∷ mentions_from (at + 1) p (drop k events)) (mentions_from (at + 1) p (drop k events))) (sym (add-one at))
+    ∙ ap (λ k. cond (is_mentioned p (get_or events at d).event) (at ∷ mentions_from (at + 1) p (drop k events)) (mentions_from (at + 1) p (drop k events))) (sym (add-one at))
 
 -- what is noted, and the mentions from an event on, are all mentions
 abbrev pub Notices : List Stamped → ℕ → QueuedRows → Type 0
 Notices events at queued = (p : Pid) → rows_queued queued p ++ mentions_from at p (drop at events) ≡ mentions p events
 
 pub notices_next : (events : List Stamped) (at : ℕ) (d : Stamped) (old new : QueuedRows) → at < length events → Notices events at old
-    → IsQueuedBy (λ q. cond (names q (get_or events at d).event) (at ∷ []) []) old new → Notices events (at + 1) new
+    → IsQueuedBy (λ q. cond (is_mentioned q (get_or events at d).event) (at ∷ []) []) old new → Notices events (at + 1) new
 notices_next events at d old new h before more p =
     ap (λ z. z ++ mentions_from (at + 1) p (drop (at + 1) events)) (more p)
-    ∙ by (names p (get_or events at d).event) (mentions_from (at + 1) p (drop (at + 1) events))
+    ∙ by (is_mentioned p (get_or events at d).event) (mentions_from (at + 1) p (drop (at + 1) events))
     ∙ ap (λ z. rows_queued old p ++ z) (sym (at_event p events at d h)) ∙ before p
   where
     by : (t : Bool) (rest : List ℕ) → (rows_queued old p ++ cond t (at ∷ []) []) ++ rest ≡ rows_queued old p ++ cond t (at ∷ rest) rest
@@ -83,7 +83,7 @@ noted_both p r at old mid new apart first second q =
 -- who has a mention in a block is named in it
 pub mentioned : (p : Pid) (at : ℕ) (block : List Stamped) → is_some (slice_get (mentions_from at p block) 0) ≡ is_in_block block p
 mentioned p at [] = refl
-mentioned p at (s ∷ block) = by (names p s.event) (mentioned p (at + 1) block)
+mentioned p at (s ∷ block) = by (is_mentioned p s.event) (mentioned p (at + 1) block)
   where
     by : (t : Bool) → is_some (slice_get (mentions_from (at + 1) p block) 0) ≡ is_in_block block p → is_some (slice_get (cond t (at ∷ mentions_from (at + 1) p block) (mentions_from (at + 1) p block)) 0) ≡ (t || is_in_block block p)
     by true later = refl
@@ -101,19 +101,19 @@ pub record Seen (p : Pid) (events : List Stamped) (left : List ℕ) (Holds : ℕ
 -- the next event that names it
 pub record Next (p : Pid) (events : List Stamped) (d : Stamped) (i : ℕ) (later : List ℕ) (Holds : ℕ → Type 0) : Type 0 where
   pub within : i < length events
-  pub named : names p (get_or events i d).event ≡ true
+  pub named : is_mentioned p (get_or events i d).event ≡ true
   pub rest : mentions_from (i + 1) p (drop (i + 1) events) ≡ later
   pub holds : Holds i
 
 -- an event that does not name it leaves what holds
 abbrev pub Stays : Pid → List Stamped → Stamped → (ℕ → Type 0) → Type 0
-Stays p events d Holds = (i : ℕ) → i < length events → names p (get_or events i d).event ≡ false → Holds i → Holds (i + 1)
+Stays p events d Holds = (i : ℕ) → i < length events → is_mentioned p (get_or events i d).event ≡ false → Holds i → Holds (i + 1)
 
 module _ (p : Pid) (events : List Stamped) (d : Stamped) (Holds : ℕ → Type 0) (stays : Stays p events d Holds) where
   abbrev left : ℕ → List ℕ
   left at = mentions_from at p (drop at events)
 
-  one : (at i : ℕ) (later : List ℕ) (t : Bool) → names p (get_or events at d).event ≡ t → at < length events → cond t (at ∷ left (at + 1)) (left (at + 1)) ≡ i ∷ later → Holds at
+  one : (at i : ℕ) (later : List ℕ) (t : Bool) → is_mentioned p (get_or events at d).event ≡ t → at < length events → cond t (at ∷ left (at + 1)) (left (at + 1)) ≡ i ∷ later → Holds at
       → (left (at + 1) ≡ i ∷ later → Holds (at + 1) → Next p events d i later Holds) → Next p events d i later Holds
   one at i later true e h is holds goes =
       let same : at ≡ i = cc in
@@ -128,9 +128,9 @@ module _ (p : Pid) (events : List Stamped) (d : Stamped) (Holds : ℕ → Type 0
       absurd (cc)
   skip (suc n) at i later e is holds =
       let h : at < length events = omega (arith, e) in
-      one at i later (names p (get_or events at d).event) refl h (sym (at_event p events at d h) ∙ is) holds (λ is' holds'. skip n (at + 1) i later (omega (arith, e)) is' holds')
+      one at i later (is_mentioned p (get_or events at d).event) refl h (sym (at_event p events at d h) ∙ is) holds (λ is' holds'. skip n (at + 1) i later (omega (arith, e)) is' holds')
 
-  none_left : (at : ℕ) (t : Bool) → names p (get_or events at d).event ≡ t → at < length events → cond t (at ∷ left (at + 1)) (left (at + 1)) ≡ [] → Holds at → (left (at + 1) ≡ []) × Holds (at + 1)
+  none_left : (at : ℕ) (t : Bool) → is_mentioned p (get_or events at d).event ≡ t → at < length events → cond t (at ∷ left (at + 1)) (left (at + 1)) ≡ [] → Holds at → (left (at + 1) ≡ []) × Holds (at + 1)
   none_left at true e h is holds = absurd (cc)
   none_left at false e h is holds = (is, stays at h e holds)
 
@@ -138,7 +138,7 @@ module _ (p : Pid) (events : List Stamped) (d : Stamped) (Holds : ℕ → Type 0
   to_end zero at e is holds = let same : at ≡ length events = omega (arith, e) in subst Holds same holds
   to_end (suc n) at e is holds =
       let h : at < length events = omega (arith, e) in
-      let k = none_left at (names p (get_or events at d).event) refl h (sym (at_event p events at d h) ∙ is) holds in
+      let k = none_left at (is_mentioned p (get_or events at d).event) refl h (sym (at_event p events at d h) ∙ is) holds in
       to_end n (at + 1) (omega (arith, e)) k.0 k.1
 
   pub seen_next : (own : List ℕ) (k : ℕ) → k < length own → Seen p events (drop k own) Holds → Next p events d (get_or own k 0) (drop (k + 1) own) Holds
@@ -166,7 +166,7 @@ or_right true b h = absurd (cc)
 or_right false b h = h
 
 -- an event that does not name it does not touch it
-pub unnamed_untouched : (p : Pid) (e : Event) → names p e ≡ false → touches p e ≡ false
+pub unnamed_untouched : (p : Pid) (e : Event) → is_mentioned p e ≡ false → touches p e ≡ false
 unnamed_untouched p (Born q None link) h = h
 unnamed_untouched p (Born q (Some r) link) h = turned (same_pid p r) (same_pid p q) h
   where
@@ -187,7 +187,7 @@ same_between (living s) row before = refl
 same_between (ended r s) row before = refl
 
 -- so it leaves a follower as it is
-pub traces_still : (past : Past) (p : Pid) (e : Event) (w : Followed) (start letters : List Sending) (over : Option (ℕ × Reason)) → names p e ≡ false → Traces past p w start letters over → Traces (e ∷ past) p w start letters over
+pub traces_still : (past : Past) (p : Pid) (e : Event) (w : Followed) (start letters : List Sending) (over : Option (ℕ × Reason)) → is_mentioned p e ≡ false → Traces past p w start letters over → Traces (e ∷ past) p w start letters over
 traces_still past p e w start letters over h t =
     let away : touches p e ≡ false = unnamed_untouched p e h in
     let same : life [] (e ∷ past) p ≡ life [] past p = untouched [] past e p away in
@@ -242,7 +242,7 @@ module _ (events : List Stamped) (d : Stamped) (p : Pid) (own : List ℕ) (k : �
 
 -- its receipts ----------------------------------------------------------------------------------------
 
-unnamed_receipt : (a b : Pid) (e : Event) → names a e ≡ false → is_receipt a b e ≡ false
+unnamed_receipt : (a b : Pid) (e : Event) → is_mentioned a e ≡ false → is_receipt a b e ≡ false
 unnamed_receipt a b (Came c d x) h = let no = or_left (same_pid a c) (same_pid a d || false) h in rw no refl
 unnamed_receipt a b _ h = refl
 
@@ -272,7 +272,7 @@ module _ (a : Pid) (events : List Stamped) (d : Stamped) (own : List ℕ) (k : �
 abbrev pub Unborn : Pid → List Stamped → Stamped → ℕ → Type 0
 Unborn p events d at = (k : ℕ) → k < at → is_birth p (get_or events k d).event ≡ false
 
-unnamed_birth : (p : Pid) (e : Event) → names p e ≡ false → is_birth p e ≡ false
+unnamed_birth : (p : Pid) (e : Event) → is_mentioned p e ≡ false → is_birth p e ≡ false
 unnamed_birth p (Born q None link) h = or_left (same_pid p q) false h
 unnamed_birth p (Born q (Some r) link) h = or_left (same_pid p q) false (or_right (same_pid p r) (same_pid p q || false) h)
 unnamed_birth p _ h = refl
@@ -354,29 +354,29 @@ joined_has p ps (q ∷ qs) h = joined_has p (join ps q) qs (by (same_pid p q) (l
     by false false c e i k = join_has p ps q (or_true_right (same_pid p q) (list_any (same_pid p) ps) (i ∙ k))
 
 abbrev naming : Pid → List Stamped → Bool
-naming p events = list_any (λ (s : Stamped). names p s.event) events
+naming p events = list_any (λ (s : Stamped). is_mentioned p s.event) events
 
 everyone_has : (p : Pid) (ps : List Pid) (events : List Stamped) → (naming p events || list_any (same_pid p) ps) ≡ true
     → list_any (same_pid p) (fold (λ (ps : List Pid) (s : Stamped). joined_columns ps (named_columns s.event)) ps events) ≡ true
 everyone_has p ps [] h = h
-everyone_has p ps (s ∷ events) h = everyone_has p (joined_columns ps (named_columns s.event)) events (by (names p s.event) (naming p events) (list_any (same_pid p) ps) refl refl h)
+everyone_has p ps (s ∷ events) h = everyone_has p (joined_columns ps (named_columns s.event)) events (by (is_mentioned p s.event) (naming p events) (list_any (same_pid p) ps) refl refl h)
   where
-    by : (a b c : Bool) → names p s.event ≡ a → list_any (same_pid p) ps ≡ c → ((a || b) || c) ≡ true → (b || list_any (same_pid p) (joined_columns ps (named_columns s.event))) ≡ true
+    by : (a b c : Bool) → is_mentioned p s.event ≡ a → list_any (same_pid p) ps ≡ c → ((a || b) || c) ≡ true → (b || list_any (same_pid p) (joined_columns ps (named_columns s.event))) ≡ true
     by a true c e i k = refl
     by true false c e i k = joined_has p ps (named_columns s.event) (ap (λ z. z || list_any (same_pid p) ps) e)
-    by false false c e i k = joined_has p ps (named_columns s.event) (or_true_right (names p s.event) (list_any (same_pid p) ps) (i ∙ k))
+    by false false c e i k = joined_has p ps (named_columns s.event) (or_true_right (is_mentioned p s.event) (list_any (same_pid p) ps) (i ∙ k))
 
 -- none of the first events names it, so its mentions begin behind them
 none_before : (p : Pid) (n b : ℕ) (events : List Stamped) → naming p (take n events) ≡ false → mentions_from b p events ≡ mentions_from (b + n) p (drop n events)
 none_before p zero b events h = let same : b ≡ b + 0 = omega arith in ap (λ k. mentions_from k p events) same
 none_before p (suc n) b [] h = refl
 none_before p (suc n) b (s ∷ events) h =
-    let no : names p s.event ≡ false = or_left (names p s.event) (naming p (take n events)) h in
+    let no : is_mentioned p s.event ≡ false = or_left (is_mentioned p s.event) (naming p (take n events)) h in
     let on : b + 1 + n ≡ b + suc n = omega arith in
-    rw no (none_before p n (b + 1) events (or_right (names p s.event) (naming p (take n events)) h) ∙ ap (λ k. mentions_from k p (drop n events)) on)
+    rw no (none_before p n (b + 1) events (or_right (is_mentioned p s.event) (naming p (take n events)) h) ∙ ap (λ k. mentions_from k p (drop n events)) on)
 
 -- it is named by this event, and not for the first time
-known : (p : Pid) (events : List Stamped) (at : ℕ) (d : Stamped) → at < length events → names p (get_or events at d).event ≡ true → begins_at at (mentions p events) ≡ false
+known : (p : Pid) (events : List Stamped) (at : ℕ) (d : Stamped) → at < length events → is_mentioned p (get_or events at d).event ≡ true → begins_at at (mentions p events) ≡ false
     → list_any (same_pid p) (everyone (take at events)) ≡ true
 known p events at d h named again = by (naming p (take at events)) refl
   where
@@ -400,7 +400,7 @@ joined_known : (ps qs : List Pid) → Each (λ (q : Pid). list_any (same_pid q) 
 joined_known ps [] h = refl
 joined_known ps (q ∷ qs) h = let there : join ps q ≡ ps = rw h.0 refl in ap (λ z. joined_columns z qs) there ∙ joined_known ps qs h.1
 
-each_known : (events : List Stamped) (queued : QueuedRows) (at : ℕ) (d : Stamped) → at < length events → AreMentions events queued → (qs : List Pid) → Each (λ (q : Pid). names q (get_or events at d).event ≡ true) qs
+each_known : (events : List Stamped) (queued : QueuedRows) (at : ℕ) (d : Stamped) → at < length events → AreMentions events queued → (qs : List Pid) → Each (λ (q : Pid). is_mentioned q (get_or events at d).event ≡ true) qs
     → list_any (λ (q : Pid). begins_at at (rows_queued queued q)) qs ≡ false → Each (λ (q : Pid). list_any (same_pid q) (everyone (take at events)) ≡ true) qs
 each_known events queued at d h are [] named none = tt
 each_known events queued at d h are (q ∷ qs) named none =
@@ -412,7 +412,7 @@ each_known events queued at d h are (q ∷ qs) named none =
 first_named : (p : Pid) (qs : List Pid) → list_any (same_pid p) (p ∷ qs) ≡ true
 first_named p qs = rw (same_pid_refl p) refl
 
-all_named : (e : Event) → Each (λ (q : Pid). names q e ≡ true) (named_columns e)
+all_named : (e : Event) → Each (λ (q : Pid). is_mentioned q e ≡ true) (named_columns e)
 all_named (Born p None link) = (first_named p [], tt)
 all_named (Born p (Some q) link) = (first_named q (p ∷ []), (or_true_right (same_pid p q) (list_any (same_pid p) (p ∷ [])) (first_named p []), tt))
 all_named (Said a b x) = (first_named a (b ∷ []), (or_true_right (same_pid b a) (list_any (same_pid b) (b ∷ [])) (first_named b []), tt))

@@ -8,14 +8,14 @@ use Rattle.pt_events.specs.declared.event.Stamped.{Stamped}
 use Rattle.pt_chart.specs.Chart.{named_columns}
 use Rattle.pt_chart.specs.Receiving.{QueuedRows, rows_queued}
 
-abbrev pub names : Pid → Event → Bool
-names p e = list_any (same_pid p) (named_columns e)
+abbrev pub is_mentioned : Pid → Event → Bool
+is_mentioned p e = list_any (same_pid p) (named_columns e)
 
 -- the events that name p, in order, where this is the first event's place
 abbrev pub mentions_from : ℕ → Pid → List Stamped → List ℕ
 mentions_from event p [] = []
 mentions_from event p (s ∷ events) =
-    cond (names p s.event) (event ∷ mentions_from (event + 1) p events) (mentions_from (event + 1) p events)
+    cond (is_mentioned p s.event) (event ∷ mentions_from (event + 1) p events) (mentions_from (event + 1) p events)
 
 abbrev pub mentions : Pid → List Stamped → List ℕ
 mentions p events = mentions_from 0 p events

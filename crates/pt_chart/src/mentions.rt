@@ -4,7 +4,7 @@ ghost use Rattle.std.specs.Prelude.{◌<◌, length, slice_index_or, ◌≡◌, 
 ghost use Rattle.std.specs.List.{list_any};
 ghost use Rattle.pt_signal.specs.Values.{same_pid};
 ghost use Rattle.pt_chart.specs.Chart.{named_columns};
-ghost use Rattle.pt_chart.specs.Mentioning.{AreMentions, begins_at, names};
+ghost use Rattle.pt_chart.specs.Mentioning.{AreMentions, begins_at, is_mentioned};
 ghost use Rattle.pt_chart.specs.Receiving.{RowIsQueued, IsQueuedBy, rows_queued};
 
 use indexmap::IndexMap;
@@ -121,7 +121,7 @@ impl Mentions {
 
     /// Notes an event for each process that it names.
     fn note(&mut self, at: usize, event: Event) -> Result<(), AllocError>
-        ensures { OnOk result (IsQueuedBy (λ q. cond (names q event) (at ∷ []) []) self.old self.new) }
+        ensures { OnOk result (IsQueuedBy (λ q. cond (is_mentioned q event) (at ∷ []) []) self.old self.new) }
     {
         match event {
             Event::Born(pid, Some(parent), _) => self.note_both(parent, pid, at),
