@@ -69,8 +69,8 @@ module _ {S B : Type 0} (starts : StartsOf S B) (me : Pid) where
   then_from true mid next new h = advances_from (last_alive mid.standing.children mid.standing.ending (length mid.standing.children)) mid next new h
   then_from false mid next new h = from_none mid.born new.born (ap (λ (x : SupervisorScene S B). x.born) h.1)
 
-  pub handles_bear : (item : Option Item) (old : SupervisorScene S B) (next : Next) (new : SupervisorScene S B) → SupervisorHandles starts me item old next new → BearsFrom starts me old.born new.born
-  handles_bear item old next new h = from_then old.born h.mid.born new.born (from_none old.born h.mid.born h.same.1) (then_from h.answer h.mid next new h.goes)
+  pub handles_bear : (time : ℕ) (item : Option Item) (old : SupervisorScene S B) (next : Next) (new : SupervisorScene S B) → SupervisorHandles starts me time item old next new → BearsFrom starts me old.born new.born
+  handles_bear time item old next new h = from_then old.born h.mid.born new.born (from_none old.born h.mid.born h.same.1) (then_from h.answer h.mid next new h.goes)
 
   -- so, where the program's `Start` gives only such as begin, all of them do
   pub bore_begin : (part : PartOf B) → ((was : S) (place : ℕ) (b : B) (first : Next) (later : S) → starts was me place (Ok (b, first)) later → SupervisorBegins (part b) first)

@@ -18,10 +18,11 @@ pub record Standing : Type 0 where
   pub strategy : Strategy
   -- with whose end it ends
   pub parent : Option Pid
-  -- when its last restarts were, and how many may be in how many stamps
+  -- when its last restarts were, how many may be within what span, and whether that is of time, or of stamps
   pub times : List ℕ
   pub most : ℕ
   pub span : ℕ
+  pub timed : Bool
   -- from this place on children are ended, from the last to the first, before any is started
   pub ending : ℕ
   -- with what it is to end, once all its children have
@@ -37,6 +38,7 @@ standing s = record {
   times = s.limit.times.items;
   most = s.limit.most;
   span = s.limit.span;
+  timed = s.limit.timed;
   ending = s.ending;
   stopping = s.stopping;
   started = s.started;
@@ -55,6 +57,7 @@ begun strategy children limit = record {
   times = limit.times.items;
   most = limit.most;
   span = limit.span;
+  timed = limit.timed;
   ending = length children;
   stopping = None;
   started = 0;

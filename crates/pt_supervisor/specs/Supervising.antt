@@ -25,6 +25,7 @@ use Rattle.pt_supervisor.specs.declared.restart.Restart.{Restart}
 use Rattle.pt_supervisor.specs.Children.{AreStarted, NoneLives, PermanentAreWanted}
 use Rattle.pt_supervisor.specs.Children.{is_missing, last_alive}
 use Rattle.pt_supervisor.specs.declared.supervisor.Supervisor.{Supervisor}
+use Rattle.pt_supervisor.specs.Limits.{moment}
 use Rattle.pt_supervisor.specs.Hearing.{Standing, heard, program_of, standing}
 
 -- the program's `Start`: it before, the supervisor, the place, what it answers, and it afterwards
@@ -151,13 +152,13 @@ Advances starts me old next new =
     AdvancesAs starts me (last_alive old.standing.children old.standing.ending (length old.standing.children)) old next
     new
 
--- It sees to an item: of an end it hears, and where it proceeds without one it sets its trap; whether nothing was
--- refused.
-abbrev pub SupervisorAttends : Pid → Option Item → Standing → DeskState → Bool → Standing → DeskState → Type 0
-SupervisorAttends me (Some (Exit from reason)) old d answer new e =
-    (answer ≡ true) × (new ≡ heard d.shard.clock from reason old) × (e ≡ d)
-SupervisorAttends me (Some _) old d answer new e = (answer ≡ true) × (new ≡ old) × (e ≡ d)
-SupervisorAttends me None old d answer new e =
+-- It sees to an item at a time: of an end it hears, and where it goes on without one it sets its trap; whether nothing
+-- was refused.
+abbrev pub SupervisorAttends : Pid → ℕ → Option Item → Standing → DeskState → Bool → Standing → DeskState → Type 0
+SupervisorAttends me time (Some (Exit from reason)) old d answer new e =
+    (answer ≡ true) × (new ≡ heard (moment old.timed d.shard.clock time) from reason old) × (e ≡ d)
+SupervisorAttends me time (Some _) old d answer new e = (answer ≡ true) × (new ≡ old) × (e ≡ d)
+SupervisorAttends me time None old d answer new e =
     (result : Result Bool Fault)
     × Calls me (Some (Flag me true)) (state_in d.shard me).traps d.shard result e.shard × (answer ≡ is_ok result)
     × (new ≡ old)
@@ -166,12 +167,12 @@ abbrev pub after_attending : {S B : Type 0} → StartsOf S B → Pid → Bool �
 after_attending starts me true mid next new = Advances starts me mid next new
 after_attending starts me false mid next new = (next ≡ Proceed) × (new ≡ mid)
 
--- so it handles an item, or none
-pub record SupervisorHandles {S B : Type 0} (starts : StartsOf S B) (me : Pid) (item : Option Item) (old : SupervisorScene S B)
-    (next : Next) (new : SupervisorScene S B) : Type 0 where
+-- so it handles an item, or none, at a time
+pub record SupervisorHandles {S B : Type 0} (starts : StartsOf S B) (me : Pid) (time : ℕ) (item : Option Item)
+    (old : SupervisorScene S B) (next : Next) (new : SupervisorScene S B) : Type 0 where
   pub mid : SupervisorScene S B
   pub answer : Bool
-  pub attends : SupervisorAttends me item old.standing old.desk answer mid.standing mid.desk
+  pub attends : SupervisorAttends me time item old.standing old.desk answer mid.standing mid.desk
   pub same : (mid.start ≡ old.start) × (mid.born ≡ old.born)
   pub goes : after_attending starts me answer mid next new
 

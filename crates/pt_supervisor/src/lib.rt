@@ -10,7 +10,7 @@
 //!
 //! - **Restarts.** After an exit, which children are started again, and which others the strategy ends, is one function
 //!   of what the supervisor knows. (`starts_again`, `ends_from`)
-//! - **Limits.** When a restart is still allowed is exact. (`Limit::allows`)
+//! - **Limits.** When a restart is still allowed is exact, by stamps or by time. (`Limit::allows`, `Limit::moment`)
 //! - **Handling.** The contract of `handle` says all that it does on the desk, also if a call fails.
 //!   (`SupervisorHandles`)
 //! - **Children are restarted.** Once the node is quiet and the crew idle, each child that a live supervisor wants

@@ -47,7 +47,7 @@ pub struct Supervisor<S> {
 impl<S> Supervisor<S> {
     ghost use Rattle.std.specs.Prelude.{◌<◌, true, length, slice_get};
     ghost use Rattle.pt_desk.specs.DeskState.{GoesOn};
-    ghost use Rattle.pt_crew.specs.Births.{born, kept_roles};
+    ghost use Rattle.pt_crew.specs.Births.{born, kept_roles, time_told};
     ghost use Rattle.pt_crew.specs.Visiting.{takes};
     ghost use Rattle.pt_supervisor.specs.Children.{AreStarted, PermanentAreWanted};
     ghost use Rattle.pt_supervisor.specs.Hearing.{begun, heard, lost, program_of, standing, started_again, stopped};
@@ -142,7 +142,7 @@ impl<S> Supervisor<S> {
     ) -> Next
     where
         S: Start<B>,
-        ensures does { SupervisorHandles S.starts me item
+        ensures does { SupervisorHandles S.starts me (time_told births.old) item
             (supervisor_scene self.old desk.old births.old)
             result
             (supervisor_scene self.new desk.new births.new) }
@@ -155,7 +155,8 @@ impl<S> Supervisor<S> {
         ensures kept { kept_roles births.new ≡ kept_roles births.old }
         ensures goes_on { GoesOn desk.old desk.new }
     {
-        if !self.attend(desk, me, item) {
+        let now = births.now();
+        if !self.attend(desk, now, me, item) {
             return Next::Proceed;
         }
         self.advance(desk, births, me)
@@ -163,8 +164,8 @@ impl<S> Supervisor<S> {
 
     /// Takes in an exit, or begins to trap exits. Returns whether no call failed.
     #[tactic(auto, using(pt_workers::proofs::GoingOn::stays))]
-    fn attend(&mut self, desk: &mut Desk, me: Pid, item: Option<Item>) -> bool
-        ensures does { SupervisorAttends me item (standing self.old) desk.old result (standing self.new) desk.new }
+    fn attend(&mut self, desk: &mut Desk, now: u64, me: Pid, item: Option<Item>) -> bool
+        ensures does { SupervisorAttends me now item (standing self.old) desk.old result (standing self.new) desk.new }
         ensures permanent { PermanentAreWanted (standing self.old).children
             → PermanentAreWanted (standing self.new).children }
         ensures start { program_of self.new ≡ program_of self.old }
@@ -173,7 +174,8 @@ impl<S> Supervisor<S> {
     {
         match item {
             Some(Item::Exit(from, reason)) => {
-                self.hear(desk.clock(), from, reason);
+                let moment = self.limit.moment(desk.clock(), now);
+                self.hear(moment, from, reason);
                 true
             }
             Some(_) => true,
