@@ -1,8 +1,9 @@
 -- What a supervisor knows, and what it makes of an end of which it hears.
-use Rattle.std.specs.Prelude.{ℕ, nat_le, cond, Bool, true, false, ◌&&◌, not, List, length, Option, Some, None}
+use Rattle.std.specs.Prelude.{ℕ, nat_le, cond, Bool, true, false, ◌&&◌, not, List, length, Option, Some, None, Result, Ok, Err}
 use Rattle.std.specs.Prelude.{position, slice_get, slice_set}
 use Rattle.pt_signal.specs.declared.pid.Pid.{Pid}
 use Rattle.pt_signal.specs.declared.reason.Reason.{Reason}
+use Rattle.pt_signal.specs.Values.{same_pid}
 use Rattle.pt_supervisor.specs.declared.children.Child.{Child}
 use Rattle.pt_supervisor.specs.declared.limit.Limit.{Limit}
 use Rattle.pt_supervisor.specs.declared.restart.Restart.{Restart}
@@ -27,6 +28,8 @@ pub record Standing : Type 0 where
   pub ending : ℕ
   -- with what it is to end, once all its children have
   pub stopping : Option Reason
+  -- whom it has told to end within a time, and until when that is
+  pub asked : Option (Pid × ℕ)
   -- how many children it has started
   pub started : ℕ
 
@@ -41,6 +44,7 @@ standing s = record {
   timed = s.limit.timed;
   ending = s.ending;
   stopping = s.stopping;
+  asked = s.asked;
   started = s.started;
 }
 
@@ -60,12 +64,24 @@ begun strategy children limit = record {
   timed = limit.timed;
   ending = length children;
   stopping = None;
+  asked = None;
   started = 0;
 }
 
 -- all its children are to end, and then it with this reason
 abbrev pub stopped : Reason → Standing → Standing
 stopped reason s = record s { ending = 0; stopping = Some reason }
+
+-- until when a process has to end, if it was told to end within a time
+abbrev pub deadline : Pid → Option (Pid × ℕ) → Option ℕ
+deadline p None = None
+deadline p (Some (q, at)) = cond (same_pid q p) (Some at) None
+
+-- a process that was told to end, within a time if there is one, and unless that was refused
+abbrev pub asked_until : {E : Type 0} → Pid → Result (Unit {0}) E → Option ℕ → Standing → Standing
+asked_until p (Err f) until s = s
+asked_until p (Ok done) None s = s
+asked_until p (Ok done) (Some at) s = record s { asked = Some (p, at) }
 
 abbrev pub is_temporary : Restart → Bool
 is_temporary Permanent = false

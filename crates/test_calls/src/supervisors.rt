@@ -35,7 +35,11 @@ fn a_child_says_how_it_ends(rt: HostRuntime) {
     assert_eq!(rt; child.shutdown.bids(), Reason::Kill);
     assert!(rt; child.is_missing());
     assert!(rt; KILLED.is_of(PARENT));
-    assert_eq!(rt; KILLED.leaving(), Some((PARENT, Reason::Kill)));
+    assert_eq!(rt; KILLED.leaving(), Some((PARENT, Shutdown::BrutalKill)));
+    assert_eq!(rt; Shutdown::After(5).bids(), Reason::Shutdown);
+    assert_eq!(rt; Shutdown::After(5).until(7), Some(12));
+    assert_eq!(rt; Shutdown::After(5).until(u64::MAX), Some(u64::MAX));
+    assert_eq!(rt; Shutdown::Infinity.until(7), None);
 }
 
 #[test]

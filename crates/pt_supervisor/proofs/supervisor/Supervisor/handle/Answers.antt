@@ -1,7 +1,7 @@
 -- `Supervisor::handle`: its clauses `does`, `tends` and `bears`.
 use Rattle.std.proofs.Common.{ℕ, true, false, refl, subst}
 use Rattle.pt_supervisor.specs.Hearing.{standing}
-use Rattle.pt_supervisor.specs.Supervising.{SupervisorAttends, supervisor_scene}
+use Rattle.pt_supervisor.specs.Supervising.{Advances, SupervisorAttends, supervisor_scene}
 use Rattle.pt_supervisor.proofs.Bearing.{handles_bear}
 use Rattle.pt_supervisor.proofs.Tending.{handles_tend}
 use Rattle.pt_supervisor.proofs.supervisor.Supervisor.handle.Goals as goal
@@ -23,7 +23,8 @@ returns-clause-does g c = record {
   attends = subst (λ (t : ℕ). SupervisorAttends c.args.me t c.args.item (standing c.args.self.now) c.args.desk.now true (standing c.attend.new.self) c.attend.new.desk) c.now-now.ensures
       c.if-not-attend.ensures.does;
   same = (c.attend.ensures.start, refl);
-  goes = c.advance.ensures.does;
+  goes = subst (λ (t : ℕ). Advances g.S.Start.starts c.args.me t (supervisor_scene c.attend.new.self c.attend.new.desk c.args.births.now) c.advance.result
+      (supervisor_scene c.advance.new.self c.advance.new.desk c.advance.new.births)) c.now-now.ensures c.advance.ensures.does;
 }
 
 pub returns-then-not-attend-clause-tends : goal.returns-then-not-attend-clause-tends
