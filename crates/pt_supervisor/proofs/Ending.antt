@@ -1,5 +1,5 @@
 -- What a supervisor waits for as it ends a child.
-use Rattle.std.proofs.Common.{◌≡◌, ℕ, Bool, true, false, cond, length, Option, Some, None, Result, Ok, Err, sym, subst}
+use Rattle.std.proofs.Common.{◌≡◌, ℕ, Bool, true, false, cond, Option, Some, None, Result, Ok, Err, sym, subst}
 use Rattle.std.specs.Prelude.{MatchBool, nat_lt}
 use Rattle.pt_signal.specs.declared.pid.Pid.{Pid}
 use Rattle.pt_signal.specs.declared.item.Pick.{Pick}
@@ -10,7 +10,7 @@ use Rattle.pt_crew.specs.declared.behaviour.Next.{Next}
 use Rattle.pt_crew.specs.declared.behaviour.Next.TheVariants.{WaitUntil}
 use Rattle.pt_crew.specs.declared.call_fault.CallFault.{CallFault}
 use Rattle.pt_supervisor.specs.declared.children.Shutdown.{Shutdown}
-use Rattle.pt_supervisor.specs.Children.{bids, last_alive, until}
+use Rattle.pt_supervisor.specs.Children.{bids, until}
 use Rattle.pt_supervisor.specs.Hearing.{Standing, asked_until, deadline}
 use Rattle.pt_supervisor.specs.Supervising.{Bids, Ends, Supervises, WaitsFor, after_bid}
 
