@@ -5,9 +5,9 @@ use Rattle.std.specs.Option.{option_map}
 use Rattle.std.proofs.lemmas.Bool.{cases_lt}
 use Rattle.std.proofs.lemmas.Option.{slice_get_within}
 use Rattle.pt_signal.specs.declared.pid.Pid.{Pid}
-use Rattle.pt_signal.specs.declared.reason.Reason.{Reason}
 use Rattle.pt_supervisor.specs.declared.children.Child.{Child}
-use Rattle.pt_supervisor.specs.Children.{AreStarted, NoneLives, bids, last_alive, leaving_in, or_before}
+use Rattle.pt_supervisor.specs.declared.children.Shutdown.{Shutdown}
+use Rattle.pt_supervisor.specs.Children.{AreStarted, NoneLives, last_alive, leaving_in, or_before}
 use Rattle.pt_supervisor.specs.Supervising.{SetsAt, StartsOf, Nursery, StartsFirst, StartsOne}
 
 pub one_started : (n : ℕ) (answer : Bool) (old new : List Child) → answer ≡ true → SetsAt n answer old new → AreStarted old n → AreStarted new (n + 1)
@@ -24,7 +24,7 @@ none_before true None before is e = (refl, e)
 none_before true (Some a) before is e = absurd (cc)
 none_before false o before is e = absurd (cc)
 
-no_pid : (pid : Option Pid) (r : Reason) → option_map {U = Pid × Reason} (λ p. (p, r)) pid ≡ None → pid ≡ None
+no_pid : (pid : Option Pid) (r : Shutdown) → option_map {U = Pid × Shutdown} (λ p. (p, r)) pid ≡ None → pid ≡ None
 no_pid None r e = refl
 no_pid (Some p) r e = absurd (cc)
 
@@ -33,7 +33,7 @@ same_child c d e = cc
 
 not_leaving : (o : Option Child) (c : Child) → leaving_in o ≡ None → o ≡ Some c → c.pid ≡ None
 not_leaving None c e is = absurd (cc)
-not_leaving (Some d) c e is = subst (λ (x : Child). x.pid ≡ None) (same_child d c is) (no_pid d.pid (bids d.shutdown) e)
+not_leaving (Some d) c e is = subst (λ (x : Child). x.pid ≡ None) (same_child d c is) (no_pid d.pid d.shutdown e)
 
 none_below : (children : List Child) (n : ℕ) → last_alive children 0 n ≡ None → (place : ℕ) (c : Child) → place < n → slice_get children place ≡ Some c → c.pid ≡ None
 none_below children zero e place c l at = absurd (omega (arith, l))

@@ -1,6 +1,6 @@
 -- A supervisor upholds that its children are held.
 use Rattle.std.proofs.Common.{◌≡◌, ◌⊎◌, inl, inr, ℕ, zero, suc, ◌-◌, ◌^◌, Bool, true, false, cond, not, ◌&&◌, List, [], ◌∷◌, length, take, slice_get, Option, Some, None, is_some, Result, Ok, Err, refl, sym, ap, subst, ◌∙◌}
-use Rattle.std.specs.Prelude.{MatchBool, is_ok}
+use Rattle.std.specs.Prelude.{MatchBool, is_ok, nat_lt}
 use Rattle.std.specs.List.{find, list_any}
 use Rattle.pt_signal.specs.declared.pid.Pid.{Pid}
 use Rattle.pt_signal.specs.declared.item.Item.{Item}
@@ -22,19 +22,22 @@ use Rattle.pt_shard.specs.Known.{knows}
 use Rattle.pt_shard.specs.Calls.{Calls, BearsChild, new_link}
 use Rattle.pt_desk.specs.DeskState.{DeskState}
 use Rattle.pt_crew.specs.declared.behaviour.Next.{Next}
-use Rattle.pt_crew.specs.declared.behaviour.Next.TheVariants.{Wait, WaitUntil, Proceed, Stop}
+use Rattle.pt_crew.specs.declared.behaviour.Next.TheVariants.{WaitUntil, Proceed, Stop}
 use Rattle.pt_crew.specs.declared.births.Role.{Role}
 use Rattle.pt_crew.specs.Births.{Bore}
 use Rattle.pt_crew.proofs.Telling.{called_or_same}
-use Rattle.pt_crew.specs.Waking.{pick_of, limit_of}
+use Rattle.pt_crew.specs.Waking.{pick_of}
 use Rattle.pt_crew.specs.Visiting.{Answers}
-use Rattle.pt_crew.specs.Upholding.{IsLater, IsLeftAlone, ActsFor, GoesOnWithout, ItemIsTaken, AllFirst, IsUpheld, children_by}
+use Rattle.pt_crew.specs.Upholding.{IsLater, IsLeftAlone, ActsFor, ItemIsTaken, AllFirst, IsUpheld, children_by}
 use Rattle.pt_crew.proofs.Waking.{by_cases}
 use Rattle.pt_crew.proofs.Upholding.{later_after, later_handled, born_then, phase_is, same_pid_sym}
+use Rattle.pt_crew.specs.declared.call_fault.CallFault.{CallFault}
 use Rattle.pt_supervisor.specs.declared.children.Child.{Child}
-use Rattle.pt_supervisor.specs.Children.{NoneLives, is_missing, last_alive}
-use Rattle.pt_supervisor.specs.Hearing.{Standing, heard}
-use Rattle.pt_supervisor.specs.Supervising.{StartsOf, Nursery, BearsAs, StartsAt, StartsOne, StartsFirst, StartsAll, SupervisorScene, nursery, SupervisorSettles, AdvancesAs, SupervisorAttends, SupervisorHandles, Supervises, with_pid, with_one, after_attending}
+use Rattle.pt_supervisor.specs.declared.children.Shutdown.{Shutdown}
+use Rattle.pt_supervisor.specs.Children.{NoneLives, bids, is_missing, last_alive, until}
+use Rattle.pt_supervisor.specs.Limits.{moment}
+use Rattle.pt_supervisor.specs.Hearing.{Standing, asked_until, deadline, heard}
+use Rattle.pt_supervisor.specs.Supervising.{Bids, Ends, StartsOf, Nursery, BearsAs, StartsAt, StartsOne, StartsFirst, StartsAll, SupervisorScene, nursery, SupervisorSettles, AdvancesAs, SupervisorAttends, SupervisorHandles, Supervises, with_pid, with_one, after_attending}
 use Rattle.pt_supervisor.specs.Keeping.{is_exit_of, is_cut, has_cut, IsTied, IsHeld, Family, was_started, Remembers, Holds, Tends, PartOf, HoldsAs, Keeps, SupervisorBegins, AllBegin, ActsAs, SuperviseAs}
 use Rattle.pt_supervisor.proofs.Tying.{or_left, stays_in, tied_by, is_unlink, handled_tied, handled_traps}
 use Rattle.pt_supervisor.proofs.Telling.{found_any, waits_told}
@@ -159,15 +162,50 @@ module _ {S B : Type 0} (starts : StartsOf S B) (me : Pid) where
       (all_kept starts me (length old.standing.children) (nursery old) (nursery new) h.0 h.1
       (subst (λ (o : Option Reason). Kept old.standing.children old.standing.started o me old.desk.shard) is k))
 
-  advances_goes : (last : Option (Pid × Reason)) (old : SupervisorScene S B) (next : Next) (new : SupervisorScene S B) → AdvancesAs starts me last old next new → Goes me old.desk.shard new.desk.shard
-  advances_goes (Some (p, reason)) old next new h = bid_goes p reason old.desk new.desk (called_or_same (knows old.desk.shard p) (BidsOn p reason old.desk new.desk) old.desk h.result new.desk h.signal)
-  advances_goes None old next new h = settles_goes old.standing.stopping old next new h
+  bids_goes : (p : Pid) (reason : Reason) (until : Option ℕ) (s : Standing) (d : DeskState) (next : Next) (t : Standing) (e : DeskState) → Bids me p reason until s d next t e → Goes me d.shard e.shard
+  bids_goes p reason until s d next t e h = bid_goes p reason d e (called_or_same (knows d.shard p) (BidsOn p reason d e) d h.result e h.signal)
 
-  advances_kept : (last : Option (Pid × Reason)) (old : SupervisorScene S B) (next : Next) (new : SupervisorScene S B) → AdvancesAs starts me last old next new → KeptAt me old → KeptAt me new
-  advances_kept (Some (p, reason)) old next new h k =
-      subst (λ (s : Standing). Kept s.children s.started s.stopping me new.desk.shard) (sym h.same.1)
-      (bid_kept p reason old.desk new.desk old.standing.children old.standing.started old.standing.stopping (called_or_same (knows old.desk.shard p) (BidsOn p reason old.desk new.desk) old.desk h.result new.desk h.signal) k)
-  advances_kept None old next new h k = settles_kept old.standing.stopping old next new refl h k
+  asked_kept : (p : Pid) (until : Option ℕ) (result : Result (Unit {0}) CallFault) (s : Standing) (e : ShardState) → Kept s.children s.started s.stopping me e
+      → (let t = asked_until p result until s in Kept t.children t.started t.stopping me e)
+  asked_kept p until (Err f) s e k = k
+  asked_kept p None (Ok done) s e k = k
+  asked_kept p (Some at) (Ok done) s e k = k
+
+  bids_kept : (p : Pid) (reason : Reason) (until : Option ℕ) (s : Standing) (d : DeskState) (next : Next) (t : Standing) (e : DeskState) → Bids me p reason until s d next t e
+      → Kept s.children s.started s.stopping me d.shard → Kept t.children t.started t.stopping me e.shard
+  bids_kept p reason until s d next t e h k =
+      subst (λ (x : Standing). Kept x.children x.started x.stopping me e.shard) (sym h.new_is)
+      (asked_kept p until h.result s e.shard (bid_kept p reason d e s.children s.started s.stopping (called_or_same (knows d.shard p) (BidsOn p reason d e) d h.result e h.signal) k))
+
+  over_goes : (early : Bool) (p : Pid) (at : ℕ) (s : Standing) (d : DeskState) (next : Next) (t : Standing) (e : DeskState)
+      → MatchBool early ((next ≡ WaitUntil (Pick.ExitOf p) at) × (t ≡ s) × (e ≡ d)) (Bids me p Reason.Kill None s d next t e) → Goes me d.shard e.shard
+  over_goes true p at s d next t e h = goes_is me d.shard e.shard (ap (λ (x : DeskState). x.shard) h.2)
+  over_goes false p at s d next t e h = bids_goes p Reason.Kill None s d next t e h
+
+  over_kept : (early : Bool) (p : Pid) (at : ℕ) (s : Standing) (d : DeskState) (next : Next) (t : Standing) (e : DeskState)
+      → MatchBool early ((next ≡ WaitUntil (Pick.ExitOf p) at) × (t ≡ s) × (e ≡ d)) (Bids me p Reason.Kill None s d next t e)
+      → Kept s.children s.started s.stopping me d.shard → Kept t.children t.started t.stopping me e.shard
+  over_kept true p at s d next t e h k =
+      subst (λ (x : Standing). Kept x.children x.started x.stopping me e.shard) (sym h.1)
+      (kept_is s.children s.started s.stopping me d.shard e.shard (ap (λ (x : DeskState). x.shard) h.2) k)
+  over_kept false p at s d next t e h k = bids_kept p Reason.Kill None s d next t e h k
+
+  ends_goes : (now : ℕ) (p : Pid) (shutdown : Shutdown) (by : Option ℕ) (s : Standing) (d : DeskState) (next : Next) (t : Standing) (e : DeskState) → Ends me now p shutdown by s d next t e → Goes me d.shard e.shard
+  ends_goes now p shutdown None s d next t e h = bids_goes p (bids shutdown) (until now shutdown) s d next t e h
+  ends_goes now p shutdown (Some at) s d next t e h = over_goes (nat_lt now at) p at s d next t e h
+
+  ends_kept : (now : ℕ) (p : Pid) (shutdown : Shutdown) (by : Option ℕ) (s : Standing) (d : DeskState) (next : Next) (t : Standing) (e : DeskState) → Ends me now p shutdown by s d next t e
+      → Kept s.children s.started s.stopping me d.shard → Kept t.children t.started t.stopping me e.shard
+  ends_kept now p shutdown None s d next t e h k = bids_kept p (bids shutdown) (until now shutdown) s d next t e h k
+  ends_kept now p shutdown (Some at) s d next t e h k = over_kept (nat_lt now at) p at s d next t e h k
+
+  advances_goes : (now : ℕ) (last : Option (Pid × Shutdown)) (old : SupervisorScene S B) (next : Next) (new : SupervisorScene S B) → AdvancesAs starts me now last old next new → Goes me old.desk.shard new.desk.shard
+  advances_goes now (Some (p, shutdown)) old next new h = ends_goes now p shutdown (deadline p old.standing.asked) old.standing old.desk next new.standing new.desk h.0
+  advances_goes now None old next new h = settles_goes old.standing.stopping old next new h
+
+  advances_kept : (now : ℕ) (last : Option (Pid × Shutdown)) (old : SupervisorScene S B) (next : Next) (new : SupervisorScene S B) → AdvancesAs starts me now last old next new → KeptAt me old → KeptAt me new
+  advances_kept now (Some (p, shutdown)) old next new h k = ends_kept now p shutdown (deadline p old.standing.asked) old.standing old.desk next new.standing new.desk h.0 k
+  advances_kept now None old next new h k = settles_kept old.standing.stopping old next new refl h k
 
 -- what it makes of an item -----------------------------------------------------------------------------
 
@@ -227,20 +265,19 @@ flag_goes me on d e (Err NoProc) c = absurd c
 abbrev Attended : Bool → Standing → Pid → ShardState → Type 0
 Attended answer m me e = MatchBool answer (Kept m.children m.started m.stopping me e) (Holds m Proceed me e)
 
-refused_holds : (s m : Standing) (me : Pid) (before : Next) (was d e : ShardState) → m ≡ s → before ≡ Proceed → d ≡ was → e ≡ d → Holds s before me was → Holds m Proceed me e
-refused_holds s m me before was d e same proceeds is as_is h =
-    subst (λ (x : Standing). Holds x Proceed me e) (sym same) (subst (λ (n : Next). Holds s n me e) proceeds (subst (Holds s before me) (sym (as_is ∙ is)) h))
+-- where it goes on without an item, it does so again
+goes_again : (traps : Bool) (before : Next) (children : List Child) → (traps ≡ true) ⊎ ((before ≡ Proceed) × NoneLives children) → (traps ≡ true) ⊎ ((Proceed ≡ Proceed) × NoneLives children)
+goes_again traps before children (inl h) = inl h
+goes_again traps before children (inr h) = inr (refl, h.1)
 
--- a supervisor waits until no time
-no_until : (before : Next) (s : Standing) → Supervises before s → is_some (limit_of before) ≡ true → ⊥
-no_until (Wait pick) s waits until = cc
-no_until (WaitUntil pick at) s waits until = waits
-no_until Proceed s waits until = cc
-no_until (Stop reason) s waits until = cc
-
-proceeds_then : (me : Pid) (before : Next) (was : ShardState) (s : Standing) → GoesOnWithout me before was → Supervises before s → before ≡ Proceed
-proceeds_then me before was s (inl proceeds) waits = proceeds
-proceeds_then me before was s (inr until) waits = absurd (no_until before s waits until.2)
+refused_holds : (s m : Standing) (me : Pid) (before : Next) (was d e : ShardState) → m ≡ s → d ≡ was → e ≡ d → Holds s before me was → Holds m Proceed me e
+refused_holds s m me before was d e same is as_is h =
+    subst (λ (x : Standing). Holds x Proceed me e) (sym same) (subst (Holds s Proceed me) (sym (as_is ∙ is)) (record {
+      waits = tt;
+      remembers = h.remembers;
+      traps = goes_again (state_in was me).traps before s.children h.traps;
+      family = h.family;
+    }))
 
 flag_attends : (me : Pid) (s m : Standing) (before : Next) (was d e : ShardState) (on answer : Bool) (result : Result Bool Fault) → Calls me (Some (Flag me true)) on d result e → answer ≡ is_ok result → m ≡ s
     → ItemIsTaken me before None was d → Holds s before me was → Attended answer m me e
@@ -259,9 +296,9 @@ flag_attends me s m before was d e on answer (Ok x) c ok same taken h =
   where
     st : (s : ProcessState) × (phase_of d me ≡ living s)
     st = living_of (phase_of d me) c.0
-flag_attends me s m before was d e on answer (Err Gone) c ok same taken h = subst (λ (a : Bool). Attended a m me e) (sym ok) (refused_holds s m me before was d e same (proceeds_then me before was s taken.0 h.waits) taken.2 c.1 h)
-flag_attends me s m before was d e on answer (Err Worn) c ok same taken h = subst (λ (a : Bool). Attended a m me e) (sym ok) (refused_holds s m me before was d e same (proceeds_then me before was s taken.0 h.waits) taken.2 c.3 h)
-flag_attends me s m before was d e on answer (Err Memory) c ok same taken h = subst (λ (a : Bool). Attended a m me e) (sym ok) (refused_holds s m me before was d e same (proceeds_then me before was s taken.0 h.waits) taken.2 c.3 h)
+flag_attends me s m before was d e on answer (Err Gone) c ok same taken h = subst (λ (a : Bool). Attended a m me e) (sym ok) (refused_holds s m me before was d e same taken.2 c.1 h)
+flag_attends me s m before was d e on answer (Err Worn) c ok same taken h = subst (λ (a : Bool). Attended a m me e) (sym ok) (refused_holds s m me before was d e same taken.2 c.3 h)
+flag_attends me s m before was d e on answer (Err Memory) c ok same taken h = subst (λ (a : Bool). Attended a m me e) (sym ok) (refused_holds s m me before was d e same taken.2 c.3 h)
 flag_attends me s m before was d e on answer (Err Full) c ok same taken h = absurd c
 flag_attends me s m before was d e on answer (Err Myself) c ok same taken h = absurd c
 flag_attends me s m before was d e on answer (Err NoProc) c ok same taken h = absurd c
@@ -276,45 +313,45 @@ heard_attends me item s m n before was d e answer on is same less taken h =
     (subst (λ (x : Standing). Kept x.children x.started x.stopping me e.shard) (sym is)
     (kept_is n.children n.started n.stopping me d.shard e.shard (ap (λ (x : DeskState). x.shard) same) (taken_kept me item s n before was d.shard less taken h)))
 
-attends_to : (me : Pid) (item : Option Item) (s m : Standing) (before : Next) (was : ShardState) (d e : DeskState) (answer : Bool) → SupervisorAttends me item s d answer m e
+attends_to : (me : Pid) (time : ℕ) (item : Option Item) (s m : Standing) (before : Next) (was : ShardState) (d e : DeskState) (answer : Bool) → SupervisorAttends me time item s d answer m e
     → ItemIsTaken me before item was d.shard → Holds s before me was → Attended answer m me e.shard
-attends_to me (Some (Exit from r)) s m before was d e answer a taken h =
-    heard_attends me (Exit from r) s m (heard d.shard.clock from r s) before was d e answer a.0 a.1 a.2 (less_heard d.shard.clock from r s h.family.apart) taken h
-attends_to me (Some (User from b)) s m before was d e answer a taken h = heard_attends me (User from b) s m s before was d e answer a.0 a.1 a.2 (less_same (User from b) s (λ q. refl)) taken h
-attends_to me (Some (Down x from r)) s m before was d e answer a taken h = heard_attends me (Down x from r) s m s before was d e answer a.0 a.1 a.2 (less_same (Down x from r) s (λ q. refl)) taken h
-attends_to me (Some (Alive x from y)) s m before was d e answer a taken h = heard_attends me (Alive x from y) s m s before was d e answer a.0 a.1 a.2 (less_same (Alive x from y) s (λ q. refl)) taken h
-attends_to me None s m before was d e answer a taken h = flag_attends me s m before was d.shard e.shard (state_in d.shard me).traps answer a.0 a.1 a.2 a.3 taken h
+attends_to me time (Some (Exit from r)) s m before was d e answer a taken h =
+    heard_attends me (Exit from r) s m (heard (moment s.timed d.shard.clock time) from r s) before was d e answer a.0 a.1 a.2 (less_heard (moment s.timed d.shard.clock time) from r s h.family.apart) taken h
+attends_to me time (Some (User from b)) s m before was d e answer a taken h = heard_attends me (User from b) s m s before was d e answer a.0 a.1 a.2 (less_same (User from b) s (λ q. refl)) taken h
+attends_to me time (Some (Down x from r)) s m before was d e answer a taken h = heard_attends me (Down x from r) s m s before was d e answer a.0 a.1 a.2 (less_same (Down x from r) s (λ q. refl)) taken h
+attends_to me time (Some (Alive x from y)) s m before was d e answer a taken h = heard_attends me (Alive x from y) s m s before was d e answer a.0 a.1 a.2 (less_same (Alive x from y) s (λ q. refl)) taken h
+attends_to me time None s m before was d e answer a taken h = flag_attends me s m before was d.shard e.shard (state_in d.shard me).traps answer a.0 a.1 a.2 a.3 taken h
 
-attends_goes : (me : Pid) (item : Option Item) (s m : Standing) (d e : DeskState) (answer : Bool) → SupervisorAttends me item s d answer m e → Goes me d.shard e.shard
-attends_goes me (Some (Exit from r)) s m d e answer a = goes_is me d.shard e.shard (ap (λ (x : DeskState). x.shard) a.2)
-attends_goes me (Some (User from b)) s m d e answer a = goes_is me d.shard e.shard (ap (λ (x : DeskState). x.shard) a.2)
-attends_goes me (Some (Down x from r)) s m d e answer a = goes_is me d.shard e.shard (ap (λ (x : DeskState). x.shard) a.2)
-attends_goes me (Some (Alive x from y)) s m d e answer a = goes_is me d.shard e.shard (ap (λ (x : DeskState). x.shard) a.2)
-attends_goes me None s m d e answer a = flag_goes me (state_in d.shard me).traps d.shard e.shard a.0 a.1
+attends_goes : (me : Pid) (time : ℕ) (item : Option Item) (s m : Standing) (d e : DeskState) (answer : Bool) → SupervisorAttends me time item s d answer m e → Goes me d.shard e.shard
+attends_goes me time (Some (Exit from r)) s m d e answer a = goes_is me d.shard e.shard (ap (λ (x : DeskState). x.shard) a.2)
+attends_goes me time (Some (User from b)) s m d e answer a = goes_is me d.shard e.shard (ap (λ (x : DeskState). x.shard) a.2)
+attends_goes me time (Some (Down x from r)) s m d e answer a = goes_is me d.shard e.shard (ap (λ (x : DeskState). x.shard) a.2)
+attends_goes me time (Some (Alive x from y)) s m d e answer a = goes_is me d.shard e.shard (ap (λ (x : DeskState). x.shard) a.2)
+attends_goes me time None s m d e answer a = flag_goes me (state_in d.shard me).traps d.shard e.shard a.0 a.1
 
 -- so it handles an item, or none ---------------------------------------------------------------------------
 
 module _ {S B : Type 0} (starts : StartsOf S B) (me : Pid) where
-  then_goes : (answer : Bool) (mid : SupervisorScene S B) (next : Next) (new : SupervisorScene S B) → after_attending starts me answer mid next new → Goes me mid.desk.shard new.desk.shard
-  then_goes true mid next new h = advances_goes starts me (last_alive mid.standing.children mid.standing.ending (length mid.standing.children)) mid next new h
-  then_goes false mid next new h = goes_is me mid.desk.shard new.desk.shard (ap (λ (x : SupervisorScene S B). x.desk.shard) h.1)
+  then_goes : (now : ℕ) (answer : Bool) (mid : SupervisorScene S B) (next : Next) (new : SupervisorScene S B) → after_attending starts me now answer mid next new → Goes me mid.desk.shard new.desk.shard
+  then_goes now true mid next new h = advances_goes starts me now (last_alive mid.standing.children mid.standing.ending (length mid.standing.children)) mid next new h
+  then_goes now false mid next new h = goes_is me mid.desk.shard new.desk.shard (ap (λ (x : SupervisorScene S B). x.desk.shard) h.1)
 
   kept_holds : (s : Standing) (next : Next) (e : ShardState) → Supervises next s → Kept s.children s.started s.stopping me e → Holds s next me e
   kept_holds s next e waits k = record { waits = waits; remembers = k.remembers; traps = inl (subst (λ (f : Phase). (state_of f).traps ≡ true) (sym k.living_is) k.traps); family = k.family }
 
-  then_holds : (answer : Bool) (mid : SupervisorScene S B) (next : Next) (new : SupervisorScene S B) → after_attending starts me answer mid next new → Supervises next new.standing → Attended answer mid.standing me mid.desk.shard
+  then_holds : (now : ℕ) (answer : Bool) (mid : SupervisorScene S B) (next : Next) (new : SupervisorScene S B) → after_attending starts me now answer mid next new → Supervises next new.standing → Attended answer mid.standing me mid.desk.shard
       → Holds new.standing next me new.desk.shard
-  then_holds true mid next new h waits k =
-      kept_holds new.standing next new.desk.shard waits (advances_kept starts me (last_alive mid.standing.children mid.standing.ending (length mid.standing.children)) mid next new h k)
-  then_holds false mid next new h waits k =
+  then_holds now true mid next new h waits k =
+      kept_holds new.standing next new.desk.shard waits (advances_kept starts me now (last_alive mid.standing.children mid.standing.ending (length mid.standing.children)) mid next new h k)
+  then_holds now false mid next new h waits k =
       subst (λ (x : SupervisorScene S B). Holds x.standing next me x.desk.shard) (sym h.1) (subst (λ (n : Next). Holds mid.standing n me mid.desk.shard) (sym h.0) k)
 
-  pub handles_tend : (item : Option Item) (old : SupervisorScene S B) (next : Next) (new : SupervisorScene S B) → SupervisorHandles starts me item old next new → Supervises next new.standing
+  pub handles_tend : (time : ℕ) (item : Option Item) (old : SupervisorScene S B) (next : Next) (new : SupervisorScene S B) → SupervisorHandles starts me time item old next new → Supervises next new.standing
       → Tends me item old.standing old.desk.shard next new.standing new.desk.shard
-  handles_tend item old next new h waits = record {
-    acts = (goes_then me old.desk.shard h.mid.desk.shard new.desk.shard (attends_goes me item old.standing h.mid.standing old.desk h.mid.desk h.answer h.attends) (then_goes h.answer h.mid next new h.goes)).acts;
+  handles_tend time item old next new h waits = record {
+    acts = (goes_then me old.desk.shard h.mid.desk.shard new.desk.shard (attends_goes me time item old.standing h.mid.standing old.desk h.mid.desk h.answer h.attends) (then_goes time h.answer h.mid next new h.goes)).acts;
     keeps = λ before was taken born holds.
-        then_holds h.answer h.mid next new h.goes waits (attends_to me item old.standing h.mid.standing before was old.desk h.mid.desk h.answer h.attends taken holds);
+        then_holds time h.answer h.mid next new h.goes waits (attends_to me time item old.standing h.mid.standing before was old.desk h.mid.desk h.answer h.attends taken holds);
   }
 
 -- what comes to it ---------------------------------------------------------------------------------------------

@@ -1,8 +1,9 @@
 -- What a supervisor knows, and what it makes of an end of which it hears.
-use Rattle.std.specs.Prelude.{ℕ, nat_le, cond, Bool, true, false, ◌&&◌, not, List, length, Option, Some, None}
+use Rattle.std.specs.Prelude.{ℕ, nat_le, cond, Bool, true, false, ◌&&◌, not, List, length, Option, Some, None, Result, Ok, Err}
 use Rattle.std.specs.Prelude.{position, slice_get, slice_set}
 use Rattle.pt_signal.specs.declared.pid.Pid.{Pid}
 use Rattle.pt_signal.specs.declared.reason.Reason.{Reason}
+use Rattle.pt_signal.specs.Values.{same_pid}
 use Rattle.pt_supervisor.specs.declared.children.Child.{Child}
 use Rattle.pt_supervisor.specs.declared.limit.Limit.{Limit}
 use Rattle.pt_supervisor.specs.declared.restart.Restart.{Restart}
@@ -18,14 +19,17 @@ pub record Standing : Type 0 where
   pub strategy : Strategy
   -- with whose end it ends
   pub parent : Option Pid
-  -- when its last restarts were, and how many may be in how many stamps
+  -- when its last restarts were, how many may be within what span, and whether that is of time, or of stamps
   pub times : List ℕ
   pub most : ℕ
   pub span : ℕ
+  pub timed : Bool
   -- from this place on children are ended, from the last to the first, before any is started
   pub ending : ℕ
   -- with what it is to end, once all its children have
   pub stopping : Option Reason
+  -- whom it has told to end within a time, and until when that is
+  pub asked : Option (Pid × ℕ)
   -- how many children it has started
   pub started : ℕ
 
@@ -37,8 +41,10 @@ standing s = record {
   times = s.limit.times.items;
   most = s.limit.most;
   span = s.limit.span;
+  timed = s.limit.timed;
   ending = s.ending;
   stopping = s.stopping;
+  asked = s.asked;
   started = s.started;
 }
 
@@ -55,14 +61,27 @@ begun strategy children limit = record {
   times = limit.times.items;
   most = limit.most;
   span = limit.span;
+  timed = limit.timed;
   ending = length children;
   stopping = None;
+  asked = None;
   started = 0;
 }
 
 -- all its children are to end, and then it with this reason
 abbrev pub stopped : Reason → Standing → Standing
 stopped reason s = record s { ending = 0; stopping = Some reason }
+
+-- until when a process has to end, if it was told to end within a time
+abbrev pub deadline : Pid → Option (Pid × ℕ) → Option ℕ
+deadline p None = None
+deadline p (Some (q, at)) = cond (same_pid q p) (Some at) None
+
+-- a process that was told to end, within a time if there is one, and unless that was refused
+abbrev pub asked_until : {E : Type 0} → Pid → Result (Unit {0}) E → Option ℕ → Standing → Standing
+asked_until p (Err f) until s = s
+asked_until p (Ok done) None s = s
+asked_until p (Ok done) (Some at) s = record s { asked = Some (p, at) }
 
 abbrev pub is_temporary : Restart → Bool
 is_temporary Permanent = false

@@ -1,12 +1,16 @@
 -- How many restarts a supervisor makes.
-use Rattle.std.specs.Prelude.{◌≡◌, ℕ, ◌-◌, nat_lt, Bool, true, false, List, [], ◌∷◌, ◌++◌, length, filter}
+use Rattle.std.specs.Prelude.{◌≡◌, ℕ, ◌-◌, nat_lt, cond, Bool, true, false, List, [], ◌∷◌, ◌++◌, length, filter}
 use Rattle.pt_supervisor.specs.declared.limit.Limit.{Limit}
 
 -- no restart was made
-abbrev pub is_none : ℕ → ℕ → Limit → Type 0
-is_none most span l = (l.times.items ≡ []) × (l.most ≡ most) × (l.span ≡ span)
+abbrev pub is_none : ℕ → ℕ → Bool → Limit → Type 0
+is_none most span timed l = (l.times.items ≡ []) × (l.most ≡ most) × (l.span ≡ span) × (l.timed ≡ timed)
 
--- of these times those that were within the last span of stamps
+-- the moment by which a limit counts: a time, or a stamp of the desk
+abbrev pub moment : Bool → ℕ → ℕ → ℕ
+moment timed stamp time = cond timed time stamp
+
+-- of these moments those that were within the last span
 abbrev pub recent : ℕ → ℕ → List ℕ → List ℕ
 recent now span times = filter (λ time. nat_lt (now - time) span) times
 
@@ -23,4 +27,4 @@ abbrev pub Allows : ℕ → Limit → Bool → Limit → Type 0
 Allows now old answer new =
     (answer ≡ allows now old.span old.most old.times.items)
     × (new.times.items ≡ counted_restarts answer now (recent now old.span old.times.items))
-    × (new.most ≡ old.most) × (new.span ≡ old.span)
+    × (new.most ≡ old.most) × (new.span ≡ old.span) × (new.timed ≡ old.timed)

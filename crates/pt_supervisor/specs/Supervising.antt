@@ -1,5 +1,5 @@
 -- What a supervisor does with an item, and what it does next.
-use Rattle.std.specs.Prelude.{◌≡◌, ℕ, zero, suc, ◌+◌, ◌-◌, ◌^◌, min, ◌<◌, cond, Bool, true, false, List, length}
+use Rattle.std.specs.Prelude.{◌≡◌, ℕ, zero, suc, ◌+◌, ◌-◌, ◌^◌, min, ◌<◌, nat_lt, cond, Bool, true, false, List, length}
 use Rattle.std.specs.Prelude.{Option, Some, None, MatchBool, Result, Ok, Err, is_ok, is_some, slice_get, slice_set}
 use Rattle.pt_signal.specs.declared.pid.Pid.{Pid}
 use Rattle.pt_signal.specs.declared.item.Item.{Item}
@@ -21,11 +21,13 @@ use Rattle.pt_crew.specs.Births.{Bore, born}
 use Rattle.pt_crew.specs.declared.call_fault.CallFault.{CallFault}
 use Rattle.pt_crew.specs.Telling.{IfKnown}
 use Rattle.pt_supervisor.specs.declared.children.Child.{Child}
+use Rattle.pt_supervisor.specs.declared.children.Shutdown.{Shutdown}
 use Rattle.pt_supervisor.specs.declared.restart.Restart.{Restart}
 use Rattle.pt_supervisor.specs.Children.{AreStarted, NoneLives, PermanentAreWanted}
-use Rattle.pt_supervisor.specs.Children.{is_missing, last_alive}
+use Rattle.pt_supervisor.specs.Children.{bids, is_missing, last_alive, until}
 use Rattle.pt_supervisor.specs.declared.supervisor.Supervisor.{Supervisor}
-use Rattle.pt_supervisor.specs.Hearing.{Standing, heard, program_of, standing}
+use Rattle.pt_supervisor.specs.Limits.{moment}
+use Rattle.pt_supervisor.specs.Hearing.{Standing, asked_until, deadline, heard, program_of, standing}
 
 -- the program's `Start`: it before, the supervisor, the place, what it answers, and it afterwards
 abbrev pub StartsOf : Type 0 → Type 0 → Type 1
@@ -113,20 +115,29 @@ nursery s = record {
   born = s.born;
 }
 
--- it waits for the end of one whom it has told to end, and tries again where that was refused
-abbrev pub after_bid : Pid → Result (Unit {0}) CallFault → Next
-after_bid p (Ok done) = Wait (Pick.ExitOf p)
-after_bid p (Err f) = Proceed
+-- it waits for the end of one whom it has told to end, until a time if there is one, and tries again where that was
+-- refused
+abbrev pub after_bid : Pid → Result (Unit {0}) CallFault → Option ℕ → Next
+after_bid p (Err f) until = Proceed
+after_bid p (Ok done) None = Wait (Pick.ExitOf p)
+after_bid p (Ok done) (Some at) = WaitUntil (Pick.ExitOf p) at
 
 -- it tells one to end, by an exit signal
-pub record Bids {S B : Type 0} (me p : Pid) (reason : Reason) (old : SupervisorScene S B) (next : Next) (new : SupervisorScene S B)
-    : Type 0 where
+pub record Bids (me p : Pid) (reason : Reason) (until : Option ℕ) (old : Standing) (d : DeskState) (next : Next)
+    (new : Standing) (e : DeskState) : Type 0 where
   pub result : Result (Unit {0}) CallFault
-  pub signal : IfKnown (knows old.desk.shard p)
-      (λ r. Calls me (Some (Said me p (Signal.Exit reason))) (tt {0}) old.desk.shard r new.desk.shard) old.desk result
-      new.desk
-  pub next_is : next ≡ after_bid p result
-  pub same : (new.start ≡ old.start) × (new.standing ≡ old.standing) × (new.born ≡ old.born)
+  pub signal : IfKnown (knows d.shard p)
+      (λ r. Calls me (Some (Said me p (Signal.Exit reason))) (tt {0}) d.shard r e.shard) d result e
+  pub next_is : next ≡ after_bid p result until
+  pub new_is : new ≡ asked_until p result until old
+
+-- One that was not told to end within a time is told to end now. One that was is killed once its time has come, and then
+-- has no further time. Before that it is told nothing, and has the time that it had.
+abbrev pub Ends : Pid → ℕ → Pid → Shutdown → Option ℕ → Standing → DeskState → Next → Standing → DeskState → Type 0
+Ends me now p shutdown None old d next new e = Bids me p (bids shutdown) (until now shutdown) old d next new e
+Ends me now p shutdown (Some at) old d next new e =
+    MatchBool (nat_lt now at) ((next ≡ WaitUntil (Pick.ExitOf p) at) × (new ≡ old) × (e ≡ d))
+    (Bids me p Reason.Kill None old d next new e)
 
 -- nobody is to end any more: it ends, if it is to, or starts who is missing, and tries again where that was refused
 abbrev pub SupervisorSettles : {S B : Type 0} → StartsOf S B → Pid → Option Reason → SupervisorScene S B → Next → SupervisorScene S B → Type 0
@@ -138,55 +149,64 @@ SupervisorSettles starts me None old next new =
       children = new.standing.children;
       started = new.standing.started;
       ending = length old.standing.children;
+      asked = None;
     })
 
-abbrev pub AdvancesAs : {S B : Type 0} → StartsOf S B → Pid → Option (Pid × Reason) → SupervisorScene S B → Next → SupervisorScene S B
-    → Type 0
-AdvancesAs starts me (Some (p, reason)) old next new = Bids me p reason old next new
-AdvancesAs starts me None old next new = SupervisorSettles starts me old.standing.stopping old next new
+abbrev pub AdvancesAs : {S B : Type 0} → StartsOf S B → Pid → ℕ → Option (Pid × Shutdown) → SupervisorScene S B → Next
+    → SupervisorScene S B → Type 0
+AdvancesAs starts me now (Some (p, shutdown)) old next new =
+    Ends me now p shutdown (deadline p old.standing.asked) old.standing old.desk next new.standing new.desk
+    × (new.start ≡ old.start) × (new.born ≡ old.born)
+AdvancesAs starts me now None old next new = SupervisorSettles starts me old.standing.stopping old next new
 
--- the last of those that are to end is told so; where none of them lives, it goes on
-abbrev pub Advances : {S B : Type 0} → StartsOf S B → Pid → SupervisorScene S B → Next → SupervisorScene S B → Type 0
-Advances starts me old next new =
-    AdvancesAs starts me (last_alive old.standing.children old.standing.ending (length old.standing.children)) old next
+-- the last of those that are to end is told so, or killed; where none of them lives, it goes on
+abbrev pub Advances : {S B : Type 0} → StartsOf S B → Pid → ℕ → SupervisorScene S B → Next → SupervisorScene S B → Type 0
+Advances starts me now old next new =
+    AdvancesAs starts me now (last_alive old.standing.children old.standing.ending (length old.standing.children)) old next
     new
 
--- It sees to an item: of an end it hears, and where it proceeds without one it sets its trap; whether nothing was
--- refused.
-abbrev pub SupervisorAttends : Pid → Option Item → Standing → DeskState → Bool → Standing → DeskState → Type 0
-SupervisorAttends me (Some (Exit from reason)) old d answer new e =
-    (answer ≡ true) × (new ≡ heard d.shard.clock from reason old) × (e ≡ d)
-SupervisorAttends me (Some _) old d answer new e = (answer ≡ true) × (new ≡ old) × (e ≡ d)
-SupervisorAttends me None old d answer new e =
+-- It sees to an item at a time: of an end it hears, and where it goes on without one it sets its trap; whether nothing
+-- was refused.
+abbrev pub SupervisorAttends : Pid → ℕ → Option Item → Standing → DeskState → Bool → Standing → DeskState → Type 0
+SupervisorAttends me time (Some (Exit from reason)) old d answer new e =
+    (answer ≡ true) × (new ≡ heard (moment old.timed d.shard.clock time) from reason old) × (e ≡ d)
+SupervisorAttends me time (Some _) old d answer new e = (answer ≡ true) × (new ≡ old) × (e ≡ d)
+SupervisorAttends me time None old d answer new e =
     (result : Result Bool Fault)
     × Calls me (Some (Flag me true)) (state_in d.shard me).traps d.shard result e.shard × (answer ≡ is_ok result)
     × (new ≡ old)
 
-abbrev pub after_attending : {S B : Type 0} → StartsOf S B → Pid → Bool → SupervisorScene S B → Next → SupervisorScene S B → Type 0
-after_attending starts me true mid next new = Advances starts me mid next new
-after_attending starts me false mid next new = (next ≡ Proceed) × (new ≡ mid)
+abbrev pub after_attending : {S B : Type 0} → StartsOf S B → Pid → ℕ → Bool → SupervisorScene S B → Next
+    → SupervisorScene S B → Type 0
+after_attending starts me now true mid next new = Advances starts me now mid next new
+after_attending starts me now false mid next new = (next ≡ Proceed) × (new ≡ mid)
 
--- so it handles an item, or none
-pub record SupervisorHandles {S B : Type 0} (starts : StartsOf S B) (me : Pid) (item : Option Item) (old : SupervisorScene S B)
-    (next : Next) (new : SupervisorScene S B) : Type 0 where
+-- so it handles an item, or none, at a time
+pub record SupervisorHandles {S B : Type 0} (starts : StartsOf S B) (me : Pid) (time : ℕ) (item : Option Item)
+    (old : SupervisorScene S B) (next : Next) (new : SupervisorScene S B) : Type 0 where
   pub mid : SupervisorScene S B
   pub answer : Bool
-  pub attends : SupervisorAttends me item old.standing old.desk answer mid.standing mid.desk
+  pub attends : SupervisorAttends me time item old.standing old.desk answer mid.standing mid.desk
   pub same : (mid.start ≡ old.start) × (mid.born ≡ old.born)
-  pub goes : after_attending starts me answer mid next new
+  pub goes : after_attending starts me time answer mid next new
 
 -- What it waits for tells how its children stand: for any item where each that is to live was started, and none is to
--- end; for the end of one, where that is the last of those that are to end; and it ends where none lives.
+-- end; for the end of one, where that is the last of those that are to end, and until a time, where it has to end by
+-- then; and it ends where none lives.
 abbrev pub WaitsFor : Pick → Standing → Type 0
 WaitsFor Pick.Any s =
-    AreStarted s.children (length s.children) × (s.ending ≡ length s.children) × (s.stopping ≡ None)
+    AreStarted s.children (length s.children) × (s.ending ≡ length s.children) × (s.stopping ≡ None) × (s.asked ≡ None)
 WaitsFor (Pick.ExitOf p) s =
-    (reason : Reason) × (last_alive s.children s.ending (length s.children) ≡ Some (p, reason))
+    (shutdown : Shutdown) × (last_alive s.children s.ending (length s.children) ≡ Some (p, shutdown))
 WaitsFor _ s = ⊥
+
+abbrev pub WaitsUntil : Pick → ℕ → Standing → Type 0
+WaitsUntil (Pick.ExitOf p) at s = WaitsFor (Pick.ExitOf p) s × (deadline p s.asked ≡ Some at)
+WaitsUntil _ at s = ⊥
 
 abbrev pub Supervises : Next → Standing → Type 0
 Supervises (Wait pick) s = WaitsFor pick s
-Supervises (WaitUntil pick at) s = ⊥
+Supervises (WaitUntil pick at) s = WaitsUntil pick at s
 Supervises Proceed s = Unit {0}
 Supervises (Stop reason) s = (s.stopping ≡ Some reason) × NoneLives s.children
 

@@ -2,7 +2,7 @@
 
 ghost use Rattle.std.specs.Prelude.{◌≡◌, ◌<◌, IfSome, None, true, position, length};
 ghost use Rattle.std.specs.Option.{option_map};
-ghost use Rattle.pt_supervisor.specs.Children.{bids, is_missing, is_child, last_alive, leaving};
+ghost use Rattle.pt_supervisor.specs.Children.{bids, is_missing, is_child, last_alive, leaving, until};
 
 use crate::restart::Restart;
 use pt_node::{Pid, Reason};
@@ -13,18 +13,34 @@ pub enum Shutdown {
     /// By an exit signal `shutdown`. The supervisor waits for the exit however long that takes, as with Erlang's
     /// `infinity`. A child that traps exits gets the signal as an item, and exits by itself.
     Infinity,
+    /// By an exit signal `shutdown`, and if the child has not exited after this time, by an exit signal `kill`: the
+    /// timeout of Erlang's child specifications. The time is that of the crew's steps
+    /// ([`Births::now`](pt_crew::Births::now)).
+    After(u64),
     /// By an exit signal `kill`, which cannot be trapped: `brutal_kill`.
     BrutalKill,
 }
 
 impl Shutdown {
-    /// The reason of the exit signal.
+    /// The reason of the first exit signal.
     pub fn bids(&self) -> Reason
         ensures { result ≡ bids self.now }
     {
         match *self {
             Shutdown::Infinity => Reason::Shutdown,
+            Shutdown::After(_) => Reason::Shutdown,
             Shutdown::BrutalKill => Reason::Kill,
+        }
+    }
+
+    /// The time at which a child is killed that is told now to exit, if it has not exited before; at most `u64::MAX`.
+    /// `None` if no time ends the wait.
+    pub fn until(&self, now: u64) -> Option<u64>
+        ensures { result ≡ until now self.now }
+    {
+        match *self {
+            Shutdown::After(time) => Some(now.saturating_add(time)),
+            _ => None,
         }
     }
 }
@@ -74,12 +90,12 @@ impl Child {
         is_process(self.pid, pid)
     }
 
-    /// Its pid, if it has one, and the reason of the exit signal that ends it.
-    pub fn leaving(&self) -> Option<(Pid, Reason)>
+    /// Its pid, if it has one, and how it is ended.
+    pub fn leaving(&self) -> Option<(Pid, Shutdown)>
         ensures { result ≡ leaving self.now }
     {
         match self.pid {
-            Some(pid) => Some((pid, self.shutdown.bids())),
+            Some(pid) => Some((pid, self.shutdown)),
             None => None,
         }
     }
@@ -103,8 +119,8 @@ pub fn place_of(children: &[Child], pid: Pid) -> Option<usize>
     children.iter().position(|child| child.is_of(pid))
 }
 
-/// The last child from the place `first` on that has a pid, and the reason of the exit signal that ends it.
-pub fn last_alive(children: &[Child], first: usize) -> Option<(Pid, Reason)>
+/// The last child from the place `first` on that has a pid, and how it is ended.
+pub fn last_alive(children: &[Child], first: usize) -> Option<(Pid, Shutdown)>
     ensures { result ≡ last_alive children.now first (length children.now) }
 {
     let mut last = None;

@@ -4,31 +4,61 @@ ghost use Rattle.std.specs.Prelude.{◌≤◌, vec_capacity};
 
 use std::alloc::{AllocError, Global};
 
-/// At most so many restarts in so many stamps of the desk's clock.
+/// At most so many restarts within a span, of stamps or of time.
 ///
-/// A desk has no other clock: each event on it has the next stamp, or a later one.
+/// A desk's clock counts stamps: each event on the desk has the next stamp, or a later one. The time is that of the
+/// crew's steps ([`Births::now`](pt_crew::Births::now)), in the unit of the program.
 #[derive(Drop)]
 pub struct Limit {
-    /// The times of the last restarts, the newest at the end.
+    /// The moments of the last restarts, the newest at the end.
     times: Vec<u64>,
     most: usize,
     span: u64,
+    /// Whether its moments are times of steps, and not stamps.
+    timed: bool,
     ghost room: { most ≤ vec_capacity times },
 }
 
 impl Limit {
-    ghost use Rattle.std.specs.Prelude.{◌≡◌, IfOk, [], cond, nat_lt, length};
-    ghost use Rattle.pt_supervisor.specs.Limits.{Allows, is_none};
+    ghost use Rattle.std.specs.Prelude.{◌≡◌, IfOk, [], cond, false, nat_lt, length, true};
+    ghost use Rattle.pt_supervisor.specs.Limits.{Allows, is_none, moment};
 
     /// At most `most` restarts within `span` stamps. Fails if there is no memory for their times.
     pub fn new(alloc: Global, most: usize, span: u64) -> Result<Limit, AllocError>
-        ensures { IfOk result (λ l. is_none most span l) }
+        ensures { IfOk result (λ l. is_none most span false l) }
     {
         let times = Vec::with_capacity(alloc, most)?;
-        Ok(Limit { times, most, span })
+        Ok(Limit {
+            times,
+            most,
+            span,
+            timed: false,
+        })
     }
 
-    /// Whether one more restart is allowed now; if so, it is counted.
+    /// At most `most` restarts within a `span` of time. Fails if there is no memory for their times.
+    pub fn by_time(alloc: Global, most: usize, span: u64) -> Result<Limit, AllocError>
+        ensures { IfOk result (λ l. is_none most span true l) }
+    {
+        let times = Vec::with_capacity(alloc, most)?;
+        Ok(Limit {
+            times,
+            most,
+            span,
+            timed: true,
+        })
+    }
+
+    /// The moment that the limit counts by: the time if it is a limit by time, else the stamp.
+    pub fn moment(&self, stamp: u64, time: u64) -> u64
+        ensures { result ≡ moment self.now.timed stamp time }
+    {
+        if self.timed { time } else { stamp }
+    }
+
+    /// Whether one more restart is allowed at this moment; if so, it is counted.
+    ///
+    /// A restart of a later moment counts as one of now, if the clock went backwards.
     pub fn allows(&mut self, now: u64) -> bool
         ensures { Allows now self.old result self.new }
     {

@@ -6,7 +6,7 @@ ghost use Rattle.pt_signal.specs.declared.pid.Pid.{Pid};
 ghost use Rattle.pt_shard.specs.declared.fault.Fault.{Fault};
 ghost use Rattle.pt_crew.specs.declared.behaviour.Next.{Next};
 
-use crate::children::{Child, is_process, last_alive, place_of};
+use crate::children::{Child, Shutdown, is_process, last_alive, place_of};
 use crate::limit::Limit;
 use crate::restart::{Restart, Strategy};
 use pt_crew::{Births, Next, exit_signal, spawn_child, trap};
@@ -39,6 +39,8 @@ pub struct Supervisor<S> {
     ending: usize,
     /// The reason with which it is to exit, once all its children have.
     stopping: Option<Reason>,
+    /// The child that it has told to exit within a time, and until when.
+    asked: Option<(Pid, u64)>,
     /// The number of children that it has started.
     started: u64,
     ghost all: { ForSome stopping (λ r. ending ≡ 0) },
@@ -47,12 +49,14 @@ pub struct Supervisor<S> {
 impl<S> Supervisor<S> {
     ghost use Rattle.std.specs.Prelude.{◌<◌, true, length, slice_get};
     ghost use Rattle.pt_desk.specs.DeskState.{GoesOn};
-    ghost use Rattle.pt_crew.specs.Births.{born, kept_roles};
+    ghost use Rattle.pt_crew.specs.Births.{born, kept_roles, time_told};
     ghost use Rattle.pt_crew.specs.Visiting.{takes};
     ghost use Rattle.pt_supervisor.specs.Children.{AreStarted, PermanentAreWanted};
-    ghost use Rattle.pt_supervisor.specs.Hearing.{begun, heard, lost, program_of, standing, started_again, stopped};
-    ghost use Rattle.pt_supervisor.specs.Supervising.{Advances, SupervisorAttends, SupervisorHandles, SetsAt, StartsAll};
-    ghost use Rattle.pt_supervisor.specs.Supervising.{StartsOne, Supervises, nursery, supervisor_scene};
+    ghost use Rattle.pt_supervisor.specs.Hearing.{begun, deadline, heard, lost, program_of, standing, started_again};
+    ghost use Rattle.pt_supervisor.specs.Hearing.{stopped};
+    ghost use Rattle.pt_supervisor.specs.Supervising.{Advances, Bids, Ends, SupervisorAttends, SupervisorHandles};
+    ghost use Rattle.pt_supervisor.specs.Supervising.{SetsAt, StartsAll, StartsOne, Supervises, nursery};
+    ghost use Rattle.pt_supervisor.specs.Supervising.{supervisor_scene};
     ghost use Rattle.pt_supervisor.specs.Keeping.{BearsFrom, Tends};
 
     /// A supervisor of these children, each with the rule by which it is started again. It has no parent: see
@@ -70,6 +74,7 @@ impl<S> Supervisor<S> {
             parent: None,
             ending,
             stopping: None,
+            asked: None,
             started: 0,
         }
     }
@@ -90,6 +95,7 @@ impl<S> Supervisor<S> {
             parent: _,
             ending,
             stopping,
+            asked,
             started,
         } = self;
         Supervisor {
@@ -100,6 +106,7 @@ impl<S> Supervisor<S> {
             parent: Some(parent),
             ending,
             stopping,
+            asked,
             started,
         }
     }
@@ -142,7 +149,7 @@ impl<S> Supervisor<S> {
     ) -> Next
     where
         S: Start<B>,
-        ensures does { SupervisorHandles S.starts me item
+        ensures does { SupervisorHandles S.starts me (time_told births.old) item
             (supervisor_scene self.old desk.old births.old)
             result
             (supervisor_scene self.new desk.new births.new) }
@@ -155,16 +162,17 @@ impl<S> Supervisor<S> {
         ensures kept { kept_roles births.new ≡ kept_roles births.old }
         ensures goes_on { GoesOn desk.old desk.new }
     {
-        if !self.attend(desk, me, item) {
+        let now = births.now();
+        if !self.attend(desk, now, me, item) {
             return Next::Proceed;
         }
-        self.advance(desk, births, me)
+        self.advance(desk, births, now, me)
     }
 
     /// Takes in an exit, or begins to trap exits. Returns whether no call failed.
     #[tactic(auto, using(pt_workers::proofs::GoingOn::stays))]
-    fn attend(&mut self, desk: &mut Desk, me: Pid, item: Option<Item>) -> bool
-        ensures does { SupervisorAttends me item (standing self.old) desk.old result (standing self.new) desk.new }
+    fn attend(&mut self, desk: &mut Desk, now: u64, me: Pid, item: Option<Item>) -> bool
+        ensures does { SupervisorAttends me now item (standing self.old) desk.old result (standing self.new) desk.new }
         ensures permanent { PermanentAreWanted (standing self.old).children
             → PermanentAreWanted (standing self.new).children }
         ensures start { program_of self.new ≡ program_of self.old }
@@ -173,7 +181,8 @@ impl<S> Supervisor<S> {
     {
         match item {
             Some(Item::Exit(from, reason)) => {
-                self.hear(desk.clock(), from, reason);
+                let moment = self.limit.moment(desk.clock(), now);
+                self.hear(moment, from, reason);
                 true
             }
             Some(_) => true,
@@ -235,10 +244,16 @@ impl<S> Supervisor<S> {
 
     /// Ends the last of the children that are to end. If none is left, it exits, or starts the missing children.
     #[tactic(auto, using(pt_workers::proofs::GoingOn::stays))]
-    fn advance<B: Drop>(&mut self, desk: &mut Desk, births: &mut Births<B>, me: Pid) -> Next
+    fn advance<B: Drop>(
+        &mut self,
+        desk: &mut Desk,
+        births: &mut Births<B>,
+        now: u64,
+        me: Pid,
+    ) -> Next
     where
         S: Start<B>,
-        ensures does { Advances S.starts me
+        ensures does { Advances S.starts me now
             (supervisor_scene self.old desk.old births.old)
             result
             (supervisor_scene self.new desk.new births.new) }
@@ -249,20 +264,71 @@ impl<S> Supervisor<S> {
         ensures kept { kept_roles births.new ≡ kept_roles births.old }
         ensures goes_on { GoesOn desk.old desk.new }
     {
-        if let Some((pid, reason)) = last_alive(self.children.as_slice(), self.ending) {
-            return match exit_signal(desk, me, pid, reason) {
-                Ok(()) => Next::Wait(Pick::ExitOf(pid)),
-                Err(_) => Next::Proceed,
-            };
+        if let Some((pid, shutdown)) = last_alive(self.children.as_slice(), self.ending) {
+            return self.end(desk, now, me, pid, shutdown);
         }
         if let Some(reason) = self.stopping {
             return Next::Stop(reason);
         }
         self.ending = self.children.len();
+        self.asked = None;
         if self.start_missing(desk, births, me) {
             Next::Wait(Pick::Any)
         } else {
             Next::Proceed
+        }
+    }
+
+    /// Tells a child to exit. If it was told to exit within a time before, it is killed once the time has come.
+    #[tactic(auto, using(pt_workers::proofs::GoingOn::stays))]
+    fn end(&mut self, desk: &mut Desk, now: u64, me: Pid, pid: Pid, shutdown: Shutdown) -> Next
+        ensures does { Ends me now pid shutdown (deadline pid (standing self.old).asked) (standing self.old) desk.old
+            result (standing self.new) desk.new }
+        ensures rest { standing self.new ≡ record (standing self.old) { asked = (standing self.new).asked } }
+        ensures start { program_of self.new ≡ program_of self.old }
+        ensures takes { takes desk.new.shard.journal ≡ takes desk.old.shard.journal }
+        ensures goes_on { GoesOn desk.old desk.new }
+    {
+        match self.deadline(pid) {
+            None => self.bid(desk, me, pid, shutdown.bids(), shutdown.until(now)),
+            Some(at) if now < at => Next::WaitUntil(Pick::ExitOf(pid), at),
+            Some(_) => self.bid(desk, me, pid, Reason::Kill, None),
+        }
+    }
+
+    /// Until when a process has to exit, if it was told to exit within a time.
+    fn deadline(&self, pid: Pid) -> Option<u64>
+        ensures { result ≡ deadline pid (standing self.now).asked }
+    {
+        match self.asked {
+            Some((asked, at)) if asked == pid => Some(at),
+            _ => None,
+        }
+    }
+
+    /// Sends a child an exit signal, and waits for its exit, until a time if there is one. Proceeds if the call fails.
+    #[tactic(auto, using(pt_workers::proofs::GoingOn::stays))]
+    fn bid(
+        &mut self,
+        desk: &mut Desk,
+        me: Pid,
+        pid: Pid,
+        reason: Reason,
+        until: Option<u64>,
+    ) -> Next
+        ensures does { Bids me pid reason until (standing self.old) desk.old result (standing self.new) desk.new }
+        ensures rest { standing self.new ≡ record (standing self.old) { asked = (standing self.new).asked } }
+        ensures start { program_of self.new ≡ program_of self.old }
+        ensures takes { takes desk.new.shard.journal ≡ takes desk.old.shard.journal }
+        ensures goes_on { GoesOn desk.old desk.new }
+    {
+        match (exit_signal(desk, me, pid, reason), until) {
+            (Err(_), _) => Next::Proceed,
+            (Ok(()), None) => Next::Wait(Pick::ExitOf(pid)),
+            (Ok(()), Some(at)) => {
+                self.asked = Some((pid, at));
+                Next::WaitUntil(Pick::ExitOf(pid), at)
+            }
         }
     }
 

@@ -10,7 +10,7 @@ returns-then-len-self c =
     let kept : c.retain.new.self.items ≡ recent c.args.now c.args.self.now.span c.args.self.now.times.items = filter_same _ _ _ (λ x b f k. search rules) _ _ c.retain.ensures.filtered in
     let n = ap length kept in
     let l = c.len.ensures in
-    (not_below (length (recent c.args.now c.args.self.now.span c.args.self.now.times.items)) c.args.self.now.most (omega (arith, n, l, c.if-len-self.true)), kept, refl, refl)
+    (not_below (length (recent c.args.now c.args.self.now.span c.args.self.now.times.items)) c.args.self.now.most (omega (arith, n, l, c.if-len-self.true)), kept, refl, refl, refl)
 
 pub returns : goal.returns
 returns c =
@@ -19,6 +19,7 @@ returns c =
     let l = c.len.ensures in (
       below (length (recent c.args.now c.args.self.now.span c.args.self.now.times.items)) c.args.self.now.most (omega (arith, n, l, c.if-len-self.false)),
       c.push_reserved.ensures.items ∙ ap (λ (ts : List ℕ). ts ++ c.args.now ∷ []) kept,
+      refl,
       refl,
       refl,
     )

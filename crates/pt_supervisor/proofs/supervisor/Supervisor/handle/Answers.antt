@@ -1,6 +1,7 @@
 -- `Supervisor::handle`: its clauses `does`, `tends` and `bears`.
-use Rattle.std.proofs.Common.{true, false, refl}
-use Rattle.pt_supervisor.specs.Supervising.{supervisor_scene}
+use Rattle.std.proofs.Common.{ℕ, true, false, refl, subst}
+use Rattle.pt_supervisor.specs.Hearing.{standing}
+use Rattle.pt_supervisor.specs.Supervising.{Advances, SupervisorAttends, supervisor_scene}
 use Rattle.pt_supervisor.proofs.Bearing.{handles_bear}
 use Rattle.pt_supervisor.proofs.Tending.{handles_tend}
 use Rattle.pt_supervisor.proofs.supervisor.Supervisor.handle.Goals as goal
@@ -9,7 +10,8 @@ pub returns-then-not-attend-clause-does : goal.returns-then-not-attend-clause-do
 returns-then-not-attend-clause-does g c = record {
   mid = supervisor_scene c.attend.new.self c.attend.new.desk c.args.births.now;
   answer = false;
-  attends = c.if-not-attend.ensures.does;
+  attends = subst (λ (t : ℕ). SupervisorAttends c.args.me t c.args.item (standing c.args.self.now) c.args.desk.now false (standing c.attend.new.self) c.attend.new.desk) c.now-now.ensures
+      c.if-not-attend.ensures.does;
   same = (c.attend.ensures.start, refl);
   goes = (refl, refl);
 }
@@ -18,22 +20,24 @@ pub returns-clause-does : goal.returns-clause-does
 returns-clause-does g c = record {
   mid = supervisor_scene c.attend.new.self c.attend.new.desk c.args.births.now;
   answer = true;
-  attends = c.if-not-attend.ensures.does;
+  attends = subst (λ (t : ℕ). SupervisorAttends c.args.me t c.args.item (standing c.args.self.now) c.args.desk.now true (standing c.attend.new.self) c.attend.new.desk) c.now-now.ensures
+      c.if-not-attend.ensures.does;
   same = (c.attend.ensures.start, refl);
-  goes = c.advance.ensures.does;
+  goes = subst (λ (t : ℕ). Advances g.S.Start.starts c.args.me t (supervisor_scene c.attend.new.self c.attend.new.desk c.args.births.now) c.advance.result
+      (supervisor_scene c.advance.new.self c.advance.new.desk c.advance.new.births)) c.now-now.ensures c.advance.ensures.does;
 }
 
 pub returns-then-not-attend-clause-tends : goal.returns-then-not-attend-clause-tends
 returns-then-not-attend-clause-tends g c =
-    handles_tend g.S.Start.starts c.args.me c.args.item _ _ _ (returns-then-not-attend-clause-does g c) tt
+    handles_tend g.S.Start.starts c.args.me _ c.args.item _ _ _ (returns-then-not-attend-clause-does g c) tt
 
 pub returns-clause-tends : goal.returns-clause-tends
 returns-clause-tends g c =
-    handles_tend g.S.Start.starts c.args.me c.args.item _ _ _ (returns-clause-does g c) c.advance.ensures.supervises
+    handles_tend g.S.Start.starts c.args.me _ c.args.item _ _ _ (returns-clause-does g c) c.advance.ensures.supervises
 
 pub returns-then-not-attend-clause-bears : goal.returns-then-not-attend-clause-bears
 returns-then-not-attend-clause-bears g c =
-    handles_bear g.S.Start.starts c.args.me c.args.item _ _ _ (returns-then-not-attend-clause-does g c)
+    handles_bear g.S.Start.starts c.args.me _ c.args.item _ _ _ (returns-then-not-attend-clause-does g c)
 
 pub returns-clause-bears : goal.returns-clause-bears
-returns-clause-bears g c = handles_bear g.S.Start.starts c.args.me c.args.item _ _ _ (returns-clause-does g c)
+returns-clause-bears g c = handles_bear g.S.Start.starts c.args.me _ c.args.item _ _ _ (returns-clause-does g c)
