@@ -15,7 +15,6 @@ use Rattle.pt_events.specs.declared.event.Event.TheVariants.{Born, Said, Came, T
 use Rattle.pt_events.specs.History.{Past, is_between, landed, flying, sent_by}
 use Rattle.pt_events.specs.Journal.{in_lane, content, letter}
 use Rattle.pt_judge.specs.Judging.{JudgeState, IsStep, judge_sends, lived}
-use Rattle.pt_judge.specs.Judge.{IsAfter}
 use Rattle.pt_auditor.specs.Lanes.{Laid, is_lane, letters_laid, IsLaid, goes_between, lane, letters_landed, IsFirstInLane}
 use Rattle.pt_auditor.specs.Foreigners.{IsCarried, landed_laid}
 use Rattle.pt_auditor.proofs.Laid.{lane_is}
@@ -121,11 +120,11 @@ said_carried n a b x (Ok u) old new h = pushed_lane (letter n (sent a b x)) old 
 said_carried n a b x (Err e) old new h = tt
 
 -- what an event sends, by the judge's state after it and by the definition
-pub sends_are : (past : Past) (e : Event) (old new : JudgeState) → IsStep old e new → IsAfter [] past old → IsAfter [] (e ∷ past) new → judge_sends new.lives (lived old.lives e) e ≡ sent_by [] past e
+pub sends_are : (past : Past) (e : Event) (old new : JudgeState) → IsStep old e new → old.flights ≡ flying [] past → new.flights ≡ flying [] (e ∷ past) → judge_sends new.lives (lived old.lives e) e ≡ sent_by [] past e
 sends_are past e old new step before after =
     let base = landed e (flying [] past) in
     let both : base ++ judge_sends new.lives (lived old.lives e) e ≡ base ++ sent_by [] past e =
-    ap (λ f. landed e f ++ judge_sends new.lives (lived old.lives e) e) (sym before.flies) ∙ sym step.flights ∙ after.flies
+    ap (λ f. landed e f ++ judge_sends new.lives (lived old.lives e) e) (sym before) ∙ sym step.flights ∙ after
     in
     sym (drop-append_seam base (judge_sends new.lives (lived old.lives e) e)) ∙ ap (drop (length base)) both ∙ drop-append_seam base (sent_by [] past e)
 

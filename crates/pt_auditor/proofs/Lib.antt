@@ -5,3 +5,5 @@ pub mod Origins
 pub mod Heard
 pub mod Lengths
 pub mod Read
+pub mod Rested
+pub mod Resting

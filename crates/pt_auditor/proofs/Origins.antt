@@ -15,7 +15,6 @@ use Rattle.pt_events.specs.History.{Past, Phase, unborn, living, ended, is_livin
 use Rattle.pt_events.specs.Journal.{events, clock, IsHome, IsLinkAt, IsNewAt, IsKnown}
 use Rattle.pt_events.specs.Refusals.{stamped_below}
 use Rattle.pt_judge.specs.Judging.{JudgeState, now_is}
-use Rattle.pt_judge.specs.Judge.{IsAfter}
 use Rattle.pt_texts.specs.declared.left_over.LeftOver.{LeftOver}
 use Rattle.pt_auditor.specs.declared.desks.Desks.{Desks}
 use Rattle.pt_auditor.specs.declared.foreign.Foreign.{Foreign}
@@ -24,7 +23,8 @@ use Rattle.pt_auditor.specs.declared.foreign.NoNode.TheVariants.{Desk, Stamp, Sl
 use Rattle.pt_auditor.specs.Lanes.{letters_laid, stamp_noted, goes_between, letters_flying, letters_still, lane, IsFirstInLane, clock_of}
 use Rattle.pt_auditor.specs.Foreigners.{IsToDesk, IsNodeDesk, IsNodeStamp, IsNodeSlot, is_newborn, top_of, ComesInOrder, IsNextStamp, IsStillBelow, MayBegin, IsInTime, IsNamedByNode, IsNoNode, IsJudgedForeign, HasItsStamp, IsJudgedLeft, AllFromNode, IsOrigin}
 use Rattle.pt_auditor.specs.Foreigners.{Decides, is_to_desk, is_node_desk, is_node_stamp, is_node_slot, is_home, is_link_at, is_new_at, has_ended, is_next_version, was_born, is_known, is_in_turn, first_laid, is_between_them, is_in_order, is_begin, may_begin, is_above_both, is_in_time, no_place, no_name, first_reason, no_node, has_its_stamp, no_left, first_foreign}
-use Rattle.pt_auditor.specs.Hearings.{follows, newest, is_above, EventsAreRising, IsNodeAfter}
+use Rattle.pt_auditor.specs.Hearings.{follows, newest, is_above, EventsAreRising, IsNodeAfter, IsAfterRest}
+use Rattle.pt_auditor.proofs.Rested.{same_ended, same_unborn}
 
 tells : (b : Bool) (P : Type 0) → (b ≡ true → P) → (b ≡ false → ¬ P) → Decides b P
 tells true P h k = h refl
@@ -171,18 +171,18 @@ place past s n true true false h t o i = (n, t, o)
 place past s n true true true false t o i = (n, t, o, i)
 place past s n true true true true t o i = record { named = n; known = t; order = o; time = i }
 
-module _ (k : JudgeState) (past : Past) (after : IsAfter [] past k) where
+module _ (since : Option Stamped) (k : JudgeState) (past : Past) (after : IsAfterRest since past k) where
   next_version : (p : Pid) → Decides (is_next_version k p) ((0 < p.version) × (p.version ≤ p.version) × (1 < p.version → is_ended (life [] past (record p { version = pred p.version })) ≡ true))
   next_version p =
       let q : Pid = record p { version = p.version - 1 } in
       let over : has_ended k q ≡ is_ended (life [] past (record p { version = pred p.version })) =
-      ended_is (now_is k q) ∙ ap is_ended (after.alike q) ∙ ap (λ n. is_ended (life [] past (record p { version = n }))) (sub-one p.version)
+      ended_is (now_is k q) ∙ same_ended (now_is k q) (life [] past q) (after.alike q) ∙ ap (λ n. is_ended (life [] past (record p { version = n }))) (sub-one p.version)
       in
       subst (λ c. Decides (cond (nat_lt p.version 2) (p.version == 1) (has_ended k q)) ((0 < p.version) × (p.version ≤ p.version) × (1 < p.version → c ≡ true))) over
       (version_of p.version (has_ended k q))
 
   said_known : (d : ℕ) (b : Pid) → Decides (not (b.shard == d) || was_born k b) (b.shard ≡ d → is_unborn (life [] past b) ≡ false)
-  said_known d b = said_of b.shard d (was_born k b) (is_unborn (life [] past b)) (born_is (now_is k b) ∙ ap (λ f. not (is_unborn f)) (after.alike b))
+  said_known d b = said_of b.shard d (was_born k b) (is_unborn (life [] past b)) (born_is (now_is k b) ∙ ap not (same_unborn (now_is k b) (life [] past b) (after.alike b)))
 
   turn_of : (d : ℕ) (e : Event) → Turn d past e (is_in_turn k e) (is_known k d e)
   turn_of d (Born p parent link) = go (is_next_version k p) (next_version p)
@@ -317,7 +317,7 @@ begin_told (t ∷ past) k j s node all rising above some flies = by (s.stamp == 
         (subst (λ f. Decides (length j.flights == 0) (f ≡ [])) flies (nothing j.flights))
         (subst (λ m. Decides (is_begin m s.stamp) (s.stamp ≡ t.stamp + 1)) (sym node.newest) (next_to t.stamp s.stamp all.0.named.stamp.0))))
 
-module _ (past : List Stamped) (k : Desks) (j : JudgeState) (s : Stamped) (node : IsNodeAfter past [] k) (all : AllFromNode past) (rising : EventsAreRising past) (above : is_above (newest past) s ≡ true) (after : IsAfter [] (events past) j) where
+module _ (past : List Stamped) (k : Desks) (j : JudgeState) (s : Stamped) (node : IsNodeAfter past [] k) (all : AllFromNode past) (rising : EventsAreRising past) (above : is_above (newest past) s ≡ true) (since : Option Stamped) (after : IsAfterRest since (events past) j) where
   order_told : (e : Event) → Decides (is_in_order k e) (ComesInOrder past e)
   order_told (Came a b x) = first_told (letters_flying past) a b (first_laid k a b) (ap (λ z. slice_get z 0) (node.lanes a.shard b.shard))
   order_told (Born p parent link) = tt
@@ -346,7 +346,7 @@ module _ (past : List Stamped) (k : Desks) (j : JudgeState) (s : Stamped) (node 
 
   place_judged : IsNamedByNode s → IsJudgedForeign past s (no_place k j s)
   place_judged n =
-      place past s n (is_in_turn j s.event) (is_known j s.desk s.event) (is_in_order k s.event) (is_in_time k j s.desk s.stamp s.event) (turn_of j (events past) after s.desk s.event)
+      place past s n (is_in_turn j s.event) (is_known j s.desk s.event) (is_in_order k s.event) (is_in_time k j s.desk s.stamp s.event) (turn_of since j (events past) after s.desk s.event)
       (order_told s.event) (time_told n.stamp.0 s.event)
 
   pub judged : IsJudgedForeign past s (no_node k j s)

@@ -1,5 +1,5 @@
 -- A text read byte by byte.
-use Rattle.std.proofs.Common.{◌≡◌, ℕ, ◌+◌, ◌-◌, ◌^◌, ◌<◌, ◌==◌, min, Bool, true, false, inl, inr, List, [], ◌∷◌, ◌++◌, append-nil, append_assoc, add-one, length, take, drop, get_or, Ok, Err, Result, refl, ap, sym, ◌∙◌, subst, arith, cond, is_ok, is_err}
+use Rattle.std.proofs.Common.{◌≡◌, Option, ℕ, ◌+◌, ◌-◌, ◌^◌, ◌<◌, ◌==◌, min, Bool, true, false, inl, inr, List, [], ◌∷◌, ◌++◌, append-nil, append_assoc, add-one, length, take, drop, get_or, Ok, Err, Result, refl, ap, sym, ◌∙◌, subst, arith, cond, is_ok, is_err}
 use Rattle.std.proofs.lemmas.Bool.{eqb-true}
 use Rattle.std.proofs.lemmas.List.{take-append-drop}
 use Rattle.std.proofs.Math.Seq.{take-suc, drop-cons}
@@ -13,8 +13,13 @@ use Rattle.pt_auditor.specs.declared.fault.Why.{Why}
 use Rattle.pt_auditor.specs.declared.fault.Why.TheVariants.{Unread, Event, Letter, Over, Long, Memory}
 use Rattle.pt_auditor.specs.declared.hearing.Hearing.{Hearing}
 use Rattle.pt_auditor.specs.declared.hearing.Verdict.{Verdict}
-use Rattle.pt_auditor.specs.Hearings.{Heard, IsHeard, MayHear, with_event, with_letter}
-use Rattle.pt_auditor.specs.Reading.{without_return, IsEventLine, HistoryLines, IsPlain, joined_lines, OneMore, IsFault, IsRead, LineIsOver, LineGoesOn, IsWhy, IsFaulty, IsWholeText, Concludes, ClosesText, Grows}
+use Rattle.pt_auditor.specs.declared.rest.Rest.{Rest}
+use Rattle.pt_auditor.specs.declared.rest.Restless.{Restless}
+use Rattle.pt_auditor.specs.declared.rest.Restless.TheVariants.{Line, Letters, OfNoNode}
+use Rattle.pt_auditor.specs.declared.rest.Restless.TheVariants as restless
+use Rattle.pt_auditor.specs.Rests.{IsTextOf, LeavesRest, RestsText}
+use Rattle.pt_auditor.specs.Hearings.{Heard, IsHeard, MayHear, with_event, with_letter, capped_count}
+use Rattle.pt_auditor.specs.Reading.{without_return, IsEventLine, EventLines, ArePlain, HistoryLines, IsPlain, joined_lines, OneMore, IsFault, IsRead, LineIsOver, LineGoesOn, IsWhy, IsFaulty, IsWholeText, Concludes, ClosesText, Grows}
 
 -- the line tells an event, or a letter ----------------------------------------------------
 
@@ -156,3 +161,42 @@ module _ (text bytes : List ℕ) (n : ℕ) where
 
   pub goes_on_at : (b : ℕ) → n < length bytes → b ≡ get_or bytes n 0 → (b == 10) ≡ false → LineGoesOn (drop n bytes)
   goes_on_at b h e k = subst LineGoesOn (sym (drop-cons bytes n 0 h)) (ap (λ c. c == 10) (sym e) ∙ k)
+
+-- at rest -----------------------------------------------------------------------------------
+
+event_lines : (lines : List (List ℕ)) (left : List LeftOver) (past : List Stamped) → left ≡ [] → HistoryLines lines left past → EventLines lines past
+event_lines lines [] past e h = h
+event_lines lines (l ∷ left) past e h = absurd (cc)
+
+lines_length : (lines : List (List ℕ)) (past : List Stamped) → EventLines lines past → length lines ≡ length past
+lines_length [] [] h = refl
+lines_length [] (s ∷ past) h = absurd h
+lines_length (l ∷ lines) [] h = absurd h
+lines_length (l ∷ lines) (s ∷ past) h = omega (arith, lines_length lines past h.1)
+
+pub text_of : (text : List ℕ) (t : Heard) (h : Hearing) (line : List ℕ) (count : ℕ) → IsRead text t h line count → line ≡ [] → t.left ≡ [] → IsTextOf text t.events
+text_of text t h line count r e n = record {
+  lines = r.lines;
+  splits = r.splits ∙ ap (λ z. joined_lines r.lines ++ z) e ∙ append-nil (joined_lines r.lines);
+  plain = r.plain;
+  tells = event_lines r.lines t.left t.events n r.tells;
+}
+
+pub rests_text : (text : List ℕ) (t : Heard) (h : Hearing) (line : List ℕ) (count : ℕ) → IsRead text t h line count → line ≡ [] → (o : Result Rest Restless) → LeavesRest t o → RestsText text t line o
+rests_text text t h line count r e (Ok rest) k = (text_of text t h line count r e k.0, k.1)
+rests_text text t h line count r e (Err Line) k = absurd k
+rests_text text t h line count r e (Err Letters) k = (e, k)
+rests_text text t h line count r e (Err (OfNoNode f)) k = (e, k)
+rests_text text t h line count r e (Err restless.Memory) k = (e, k)
+
+pub read_over : (text : List ℕ) (past : List Stamped) (since : Option Stamped) (h : Hearing) (line : List ℕ) (count : ℕ) → IsTextOf text past → IsHeard (record { events = past; left = []; since = since }) h → line ≡ [] → count ≡ capped_count (length past)
+    → IsRead text (record { events = past; left = []; since = since }) h line count
+read_over text past since h line count t k e n = record {
+  lines = t.lines;
+  splits = t.splits ∙ sym (append-nil (joined_lines t.lines)) ∙ ap (λ z. joined_lines t.lines ++ z) (sym e);
+  plain = t.plain;
+  open_plain = subst IsPlain (sym e) tt;
+  count_is = n ∙ ap capped_count (sym (lines_length t.lines past t.tells));
+  tells = t.tells;
+  heard = k;
+}

@@ -1,32 +1,38 @@
 -- What was heard of a history, and what may be heard next.
-use Rattle.std.specs.Prelude.{◌≡◌, ℕ, ◌+◌, ◌-◌, ◌^◌, ◌==◌, min, max, nat_lt, Bool, true, false, ◌&&◌, ◌||◌, Option}
-use Rattle.std.specs.Prelude.{Some, None, List, [], ◌∷◌, drop, length, slice_get, Result, Ok, Err, ⊤}
-use Rattle.std.specs.List.{find}
+use Rattle.std.specs.Prelude.{◌≡◌, ℕ, ◌+◌, ◌-◌, ◌^◌, ◌==◌, min, max, nat_lt, Bool, true, false, cond, ◌&&◌, ◌||◌, Option}
+use Rattle.std.specs.Prelude.{Some, None, is_some, List, [], ◌∷◌, drop, length, slice_get, Result, Ok, Err, ⊤}
+use Rattle.std.specs.List.{find, list_any}
 use Rattle.std.specs.Option.{option_map}
 use Rattle.pt_signal.specs.declared.pid.Pid.{Pid}
-use Rattle.pt_signal.specs.Values.{without_first}
+use Rattle.pt_signal.specs.declared.ids.LinkId.{LinkId}
+use Rattle.pt_signal.specs.declared.ids.Ref.{Ref}
+use Rattle.pt_signal.specs.Values.{without_first, same_link, same_ref}
 use Rattle.pt_signal.specs.Process.{Sent, sent}
 use Rattle.pt_events.specs.declared.event.Stamped.{Stamped}
 use Rattle.pt_events.specs.Journal.{events, clock}
-use Rattle.pt_events.specs.History.{Past, May, IsLegal, flying, is_between}
-use Rattle.pt_judge.specs.Judging.{JudgeState, IsStep, known_after, lived}
-use Rattle.pt_judge.specs.Judge.{IsCause, IsAfter}
+use Rattle.pt_events.specs.History.{Past, May, IsLegal, flying, is_between, life, made_link, made_ref}
+use Rattle.pt_events.specs.Leaving.{outcome}
+use Rattle.pt_judge.specs.Judging.{JudgeState, IsStep, known_after, lived, now_is}
+use Rattle.pt_judge.specs.Judge.{IsCause}
 use Rattle.pt_texts.specs.declared.left_over.LeftOver.{LeftOver}
 use Rattle.pt_auditor.specs.declared.objection.Objection.{Objection}
 use Rattle.pt_auditor.specs.declared.objection.Objection.TheVariants.{Behind, Sinks, MayNot, OtherDesks, OtherLetter}
-use Rattle.pt_auditor.specs.declared.objection.Objection.TheVariants.{Untold, Memory}
+use Rattle.pt_auditor.specs.declared.objection.Objection.TheVariants.{Untold, OfNoNode, Memory}
 use Rattle.pt_auditor.specs.declared.hearing.Hearing.{Hearing}
 use Rattle.pt_auditor.specs.declared.hearing.Verdict.{Verdict}
 use Rattle.pt_auditor.specs.Objecting.{contradiction}
 use Rattle.pt_auditor.specs.declared.desks.Desks.{Desks}
 use Rattle.pt_auditor.specs.declared.foreign.Foreign.{Foreign}
+use Rattle.pt_auditor.specs.declared.foreign.NoNode.{NoNode}
 use Rattle.pt_auditor.specs.Lanes.{IsLaid, letters_laid, letters_flying, letters_still, lane, clock_of, stamp_noted}
-use Rattle.pt_auditor.specs.Foreigners.{IsOrigin, MayBegin, Decides, IsMovedOn, first_foreign, no_left, may_begin}
+use Rattle.pt_auditor.specs.Foreigners.{IsOrigin, IsNoNode, MayBegin, Decides, IsMovedOn, first_foreign, no_node, no_left, may_begin}
 
--- the events, the newest first, and the letters left over, the last told first
+-- the events, the newest first, and the letters left over, the last told first; and the last event of the rest from
+-- which the hearing went on, if it did
 pub record Heard : Type 0 where
   pub events : List Stamped
   pub left : List LeftOver
+  pub since : Option Stamped
 
 -- the second comes after the first by stamp, and by desk where the stamps are the same
 abbrev pub follows : Stamped → Stamped → Bool
@@ -94,11 +100,26 @@ pub record IsNodeAfter (past : List Stamped) (left : List LeftOver) (k : Desks) 
   pub newest : k.newest ≡ clock 0 past
   pub begun : TellsBegin past k.begun
 
+-- what is made on the desk at the stamp is made after the rest
+abbrev pub is_late : Option Stamped → ℕ → ℕ → Bool
+is_late None d n = true
+is_late (Some t) d n = nat_lt t.stamp n || ((t.stamp == n) && nat_lt t.desk d)
+
+-- what the judge knows is what the history leads to: of a process that has ended why, and nothing that it held; of ids of
+-- links and references all that are made after the rest
+pub record IsAfterRest (since : Option Stamped) (past : Past) (s : JudgeState) : Type 0 where
+  pub links_made : (i : LinkId) → is_late since i.desk i.number ≡ true → list_any (same_link i) s.links ≡ made_link past i
+  pub links_only : (i : LinkId) → list_any (same_link i) s.links ≡ true → made_link past i ≡ true
+  pub refs_made : (m : Ref) → is_late since m.desk m.number ≡ true → list_any (same_ref m) s.refs ≡ made_ref past m
+  pub refs_only : (m : Ref) → list_any (same_ref m) s.refs ≡ true → made_ref past m ≡ true
+  pub alike : (p : Pid) → outcome (now_is s p) ≡ outcome (life [] past p)
+  pub flies : s.flights ≡ flying [] past
+
 -- the hearing heard this, and it may be as it is
 pub record IsHeard (t : Heard) (h : Hearing) : Type 0 where
   pub stands : IsStanding t
   -- what the judge knows is what the events lead to, without the letters that were told of
-  pub knows : IsAfter [] (events t.events) (record h.state { flights = left_flying t.events })
+  pub knows : IsAfterRest t.since (events t.events) (record h.state { flights = left_flying t.events })
   pub flies : h.state.flights ≡ still (left_flying t.events) t.left
   pub last : h.last ≡ newest t.events
   pub count : h.events ≡ capped_count (length t.events)
@@ -106,16 +127,20 @@ pub record IsHeard (t : Heard) (h : Hearing) : Type 0 where
   pub letters : h.letters ≡ capped_count (length t.left)
   pub origin : IsOrigin t.events t.left h.foreign
   pub node : h.foreign ≡ None → IsNodeAfter t.events t.left h.node
+  pub since : h.since ≡ t.since
+  -- what comes next comes after the rest, and over a rest a node prints each event
+  pub late : (s : Stamped) → is_above (newest t.events) s ≡ true → is_late t.since s.desk s.stamp ≡ true
+  pub of_node : is_some t.since ≡ true → t.left ≡ [] → h.foreign ≡ None
 
 -- the event may be heard next: no letter was told of, it is above the event before, and it may come
 abbrev pub MayHear : Heard → Stamped → Type 0
 MayHear t s = (t.left ≡ []) × (is_above (newest t.events) s ≡ true) × May [] (events t.events) s.event
 
 abbrev pub with_event : Stamped → Heard → Heard
-with_event s t = record { events = s ∷ t.events; left = t.left }
+with_event s t = record { events = s ∷ t.events; left = t.left; since = t.since }
 
 abbrev pub with_letter : LeftOver → Heard → Heard
-with_letter l t = record { events = t.events; left = l ∷ t.left }
+with_letter l t = record { events = t.events; left = l ∷ t.left; since = t.since }
 
 -- why the event may not be heard next: the first of these that holds, in this order
 abbrev pub IsObjection : Heard → Stamped → Objection → Type 0
@@ -126,6 +151,11 @@ IsObjection t s (MayNot c against) =
     × (is_above (newest t.events) s ≡ true)
     × IsCause [] (events t.events) s.event c
     × (against ≡ contradiction (known_after [] (events t.events)) s.event c)
+IsObjection t s (OfNoNode why) =
+    (t.left ≡ [])
+    × (is_above (newest t.events) s ≡ true)
+    × (is_some t.since ≡ true)
+    × IsNoNode t.events s why
 IsObjection t s Memory = MayHear t s
 IsObjection t s _ = ⊥
 
@@ -182,6 +212,7 @@ pub record IsWithout (l : LeftOver) (old new : Hearing) : Type 0 where
   pub last : new.last ≡ old.last
   pub count : new.events ≡ old.events
   pub desks : new.desks ≡ old.desks
+  pub since : new.since ≡ old.since
   pub letters : new.letters ≡ min (old.letters + 1) (2 ^ 64 - 1)
   pub lanes : IsLaid l.letter.from.shard l.letter.to.shard
       (drop 1 (letters_laid old.node.lanes l.letter.from.shard l.letter.to.shard)) old.node.lanes new.node.lanes
@@ -193,5 +224,8 @@ pub record IsWithout (l : LeftOver) (old new : Hearing) : Type 0 where
 pub record IsAfterEvent (is_of_node : Bool) (s : Stamped) (old : JudgeState) (k : Desks) (new : JudgeState) (m : Desks)
     : Type 0 where
   pub step : IsStep old s.event new
-  pub goes_on : (past : Past) → IsAfter [] past old → IsAfter [] (s.event ∷ past) new
   pub node : is_of_node ≡ true → IsMovedOn new (lived old.lives s.event) (may_begin k old s.stamp) s k m
+
+-- why no node prints the event, if the hearing went on from a rest
+abbrev pub strange : Hearing → Stamped → Option NoNode
+strange h s = cond (is_some h.since) (no_node h.node h.state s) None

@@ -7,3 +7,4 @@ pub mod Reading
 pub mod Selecting
 pub mod Standings
 pub mod Text
+pub mod Rests

@@ -81,6 +81,7 @@ objection_text (no.OtherLetter x) =
     codes "it is not the oldest on its way between the two, which is: " ++ any_signal_text x
 objection_text (no.Untold a b x) =
     codes "no line tells of what is on its way: " ++ pid_text a ++ codes " -> " ++ pid_text b ++ codes " " ++ signal_text x
+objection_text (no.OfNoNode why) = codes "no node prints it: " ++ no_node_text why
 objection_text no.Memory = codes "memory refused"
 
 unfoldable pub line_fault_text : Why → List ℕ

@@ -1,11 +1,13 @@
 //! A history read from bytes.
 
-ghost use Rattle.std.specs.Prelude.{◌≡◌, ℕ, ◌+◌, ◌-◌, ◌^◌, [], List, min};
+ghost use Rattle.std.specs.Prelude.{◌≡◌, ℕ, ◌+◌, ◌-◌, ◌^◌, [], List, min, IfOk};
 ghost use Rattle.pt_auditor.specs.Hearings.{Heard, IsHeard};
+ghost use Rattle.pt_events.specs.declared.event.Stamped.{Stamped};
 ghost use Rattle.pt_auditor.specs.Reading.{IsRead, AuditReads, ClosesText, Concludes, Grows};
+ghost use Rattle.pt_auditor.specs.Rests.{IsRestOf, IsTextOf, RestsText};
 
 use crate::line::hear_line;
-use crate::{Fault, Hearing, MOST_LINE, Verdict, Why};
+use crate::{Fault, Hearing, MOST_LINE, Rest, Restless, Unfit, Verdict, Why};
 use std::alloc::Global;
 
 /// A history as far as its text was read.
@@ -66,13 +68,45 @@ fn stop(_hearing: Hearing, lines: u64, why: Why) -> Fault
 impl Audit {
     /// An audit that has read nothing.
     pub fn new(alloc: Global) -> Audit
-        ensures { IsRead [] (record { events = []; left = [] }) result.hearing result.line.items result.lines }
+        ensures { IsRead [] (record { events = []; left = []; since = None }) result.hearing result.line.items result.lines }
     {
         Audit {
             hearing: Hearing::new(alloc),
             line: Vec::new(alloc),
             lines: 0,
         }
+    }
+
+    /// An audit that goes on from a rest: what it reads comes after the text of the history that was at rest. Fails as
+    /// [`Hearing::over`] does.
+    pub fn over(alloc: Global, rest: Rest) -> Result<Audit, Unfit>
+        ensures { (text : List ℕ) (past : List Stamped) → IsTextOf text past → IsRestOf past rest
+            → IfOk result (λ audit. IsRead text (record { events = past; left = []; since = rest.last })
+            audit.hearing audit.line.items audit.lines) }
+    {
+        let lines = rest.events;
+        match Hearing::over(alloc, rest) {
+            Ok(hearing) => Ok(Audit {
+                hearing,
+                line: Vec::new(alloc),
+                lines,
+            }),
+            Err(unfit) => Err(unfit),
+        }
+    }
+
+    /// What is known of the history, if it is at rest, so that the next one can go on from it. Fails with
+    /// [`Restless::Line`] if the last line has no line feed, and else as [`Hearing::rest`] does.
+    pub fn rest(self, alloc: Global) -> Result<Rest, Restless>
+        ensures { (text : List ℕ) (heard : Heard) → IsRead text heard self.hearing self.line.items self.lines
+            → RestsText text heard self.line.items result }
+    {
+        let Audit { hearing, line, .. } = self;
+        let open = line.as_slice();
+        if open.len() == 0 {
+            return hearing.rest(alloc);
+        }
+        Err(Restless::Line)
     }
 
     /// Reads the next bytes; any number may be passed. Fails with the first line at fault, as soon as its line feed is

@@ -37,6 +37,27 @@ impl Desks {
         }
     }
 
+    /// Nothing is on its way, and the clocks are these; the newest stamp, and whether all clocks may have stood just below
+    /// it.
+    pub(crate) fn over(alloc: Global, clocks: Clocks, newest: u64, begun: bool) -> Desks
+        ensures { result ≡ record { lanes = []; clocks = clocks; newest = newest; begun = begun } }
+    {
+        Desks {
+            lanes: Lanes::new(alloc),
+            clocks,
+            newest,
+            begun,
+        }
+    }
+
+    /// The clocks, and whether all of them may have stood just below the newest stamp.
+    pub(crate) fn at_rest(self) -> (Clocks, bool)
+        ensures { result ≡ (self.clocks, self.begun) }
+    {
+        let Desks { clocks, begun, .. } = self;
+        (clocks, begun)
+    }
+
     /// The oldest letter from the desk of the one process to that of the other.
     pub(crate) fn first(&self, from: Pid, to: Pid) -> Option<Letter>
         ensures { result ≡ slice_get (letters_laid self.now.lanes from.shard to.shard) 0 }

@@ -5,7 +5,7 @@ ghost use Rattle.std.specs.Map.{keys_of};
 ghost use Rattle.std.specs.Option.{option_map};
 ghost use Rattle.pt_judge.specs.Judging.{cause, known_state, now_is};
 ghost use Rattle.pt_auditor.specs.Hearings.{Heard, IsHeard, Hears, TellsLetter, EndsHearing, IsSunk, IsWithout, Objects, follows};
-ghost use Rattle.pt_auditor.specs.Hearings.{IsAfterEvent};
+ghost use Rattle.pt_auditor.specs.Hearings.{IsAfterEvent, strange};
 ghost use Rattle.pt_auditor.specs.Foreigners.{first_foreign, no_node, no_left, IsOrigin};
 ghost use Rattle.pt_auditor.specs.Standings.{StandingIsTrue, standing_of, waiting_of};
 
@@ -25,17 +25,19 @@ use std::alloc::{AllocError, Global};
 /// hearing, and each call says what was read after it.
 #[derive(Drop)]
 pub struct Hearing {
-    state: State,
+    pub(crate) state: State,
     /// The event read last.
-    last: Option<Stamped>,
-    events: u64,
+    pub(crate) last: Option<Stamped>,
+    pub(crate) events: u64,
     /// One more than the greatest desk of an event.
-    desks: u16,
-    letters: u64,
+    pub(crate) desks: u16,
+    pub(crate) letters: u64,
     /// What the desks of a node have, as long as a node prints the lines.
-    node: Desks,
+    pub(crate) node: Desks,
     /// The first line that no node prints.
-    foreign: Option<Foreign>,
+    pub(crate) foreign: Option<Foreign>,
+    /// The last event of the rest from which the hearing went on, if it did.
+    pub(crate) since: Option<Stamped>,
 }
 
 /// The verdict on a legal history. Counts stop at the greatest number of 64 bits.
@@ -92,6 +94,7 @@ fn sunk(last: Option<Stamped>, stamped: Stamped) -> Option<Stamped>
 fn objection(hearing: &Hearing, stamped: Stamped) -> Option<Objection>
     ensures objects { (heard : Heard) → IsHeard heard hearing.now → Objects heard stamped result }
     ensures free { result ≡ None → cause (known_state hearing.now.state) stamped.event ≡ None }
+    ensures own { result ≡ None → strange hearing.now stamped ≡ None }
 {
     if hearing.letters > 0 {
         return Some(Objection::Behind);
@@ -104,6 +107,19 @@ fn objection(hearing: &Hearing, stamped: Stamped) -> Option<Objection>
             let against = contradiction(&hearing.state, stamped.event, cause);
             Some(Objection::MayNot(cause, against))
         }
+        None => match strange(hearing, stamped) {
+            Some(why) => Some(Objection::OfNoNode(why)),
+            None => None,
+        },
+    }
+}
+
+/// Why no node prints the event, if the hearing went on from a rest.
+fn strange(hearing: &Hearing, stamped: Stamped) -> Option<NoNode>
+    ensures { result ≡ strange hearing.now stamped }
+{
+    match hearing.since {
+        Some(_) => no_node(&hearing.node, &hearing.state, stamped),
         None => None,
     }
 }
@@ -166,7 +182,7 @@ fn move_on(
 impl Hearing {
     /// A hearing that has read nothing.
     pub fn new(alloc: Global) -> Hearing
-        ensures { IsHeard (record { events = []; left = [] }) result }
+        ensures { IsHeard (record { events = []; left = []; since = None }) result }
     {
         Hearing {
             state: State::new(alloc),
@@ -176,6 +192,7 @@ impl Hearing {
             letters: 0,
             node: Desks::new(alloc),
             foreign: None,
+            since: None,
         }
     }
 
@@ -184,6 +201,7 @@ impl Hearing {
     /// - [`Objection::Behind`]: a letter left over was read before.
     /// - [`Objection::Sinks`]: it does not follow the event before by stamp and desk.
     /// - [`Objection::MayNot`]: it may not come next.
+    /// - [`Objection::OfNoNode`]: the hearing went on from a rest, and no node prints the event.
     /// - [`Objection::Memory`]: there is no memory.
     ///
     /// If it fails, the hearing is dropped.
@@ -199,6 +217,7 @@ impl Hearing {
             events,
             desks,
             node,
+            since,
             ..
         } = self;
         match move_on(alloc, state, node, stamped, foreign.is_none()) {
@@ -210,6 +229,7 @@ impl Hearing {
                 letters: 0,
                 node,
                 foreign,
+                since,
             }),
             Err(_) => Err(Objection::Memory),
         }
@@ -249,6 +269,7 @@ impl Hearing {
             desks,
             letters,
             mut node,
+            since,
             ..
         } = self;
         node.drop_first(from, to);
@@ -260,6 +281,7 @@ impl Hearing {
             letters: one_more(letters),
             node,
             foreign,
+            since,
         }
     }
 

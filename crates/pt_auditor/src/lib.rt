@@ -8,6 +8,8 @@
 //! letter left over. It takes the bytes in pieces of any size, keeps one line of them, and returns the first line at
 //! fault by its number.
 //!
+//! A [`Rest`] is what is known of a history at rest, so that the history of a node's next epoch can be judged over it.
+//!
 //! Tests: `checks/audit` and `checks/tried/test_calls/auditor.rt.txt`.
 //!
 //! # What is proved
@@ -26,6 +28,10 @@
 //!   with a slot's versions in turn, and with the stamp that the desk gives next.
 //! - **Letters of a node.** Letters from one desk to another come, and are left over, in the order of their sending.
 //!   Each letter left over has the stamp of its sending.
+//! - **Epoch by epoch.** An audit over the rest of a history has the verdict of both together, or an event is at fault
+//!   that no node prints. (`Audit::rest`, `over`, `Hearing::rest`, `over`)
+//! - **A rest.** It has the clocks of the desks, each process that lives with all that it holds, and why each other one
+//!   exited. There is none only if letters are on their way, no node prints the history, or memory is wanting. (`Rest`)
 //! - **Faults.** A fault names the first line at fault.
 //! - **Short lines.** Each event and each letter left over prints fewer bytes than a line may have.
 //!   (`lines_are_short`)
@@ -45,6 +51,7 @@ mod lanes;
 mod laws;
 mod line;
 mod objection;
+mod rest;
 mod selection;
 mod standing;
 mod text;
@@ -55,5 +62,6 @@ pub use foreign::{Foreign, NoNode};
 pub use hearing::{Hearing, Verdict};
 pub use laws::lines_are_short;
 pub use objection::{Contradiction, Objection};
+pub use rest::{Resident, Rest, Restless, Unfit};
 pub use selection::Selection;
 pub use standing::Standing;

@@ -1,5 +1,6 @@
 //! Why something may not come at its place in a history.
 
+use crate::NoNode;
 use pt_events::Stamped;
 use pt_judge::Cause;
 use pt_signal::{Item, Pid, Reason, Signal};
@@ -33,6 +34,9 @@ pub enum Objection {
     OtherLetter(Option<Signal>),
     /// A signal is in flight, from the first to the second, and no line names it.
     Untold(Pid, Pid, Signal),
+    /// A hearing that went on from a rest reads an event that no node prints, and knows no older ids and references. This says why
+    /// none prints it.
+    OfNoNode(NoNode),
     /// There was no memory to judge an event that may come next.
     Memory,
 }

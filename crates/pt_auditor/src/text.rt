@@ -205,6 +205,7 @@ impl fmt::Display for Objection {
                     "no line tells of what is on its way: {from} -> {to} {signal}"
                 )
             }
+            Objection::OfNoNode(why) => write!(f, "no node prints it: {why}"),
             Objection::Memory => f.write_str("memory refused"),
         }
     }

@@ -1,0 +1,342 @@
+//! A history at rest, from which another one goes on.
+
+ghost use Rattle.std.specs.Prelude.{◌≡◌, ◌∷◌, ◌++◌, [], List, None, true, map, IfOk, OnOk};
+ghost use Rattle.std.specs.Map.{keys_of};
+ghost use Rattle.pt_events.specs.declared.event.Stamped.{Stamped};
+ghost use Rattle.pt_events.specs.History.{is_living, state_of};
+ghost use Rattle.pt_judge.specs.Judging.{now_is};
+ghost use Rattle.pt_auditor.specs.Hearings.{Heard, IsHeard};
+ghost use Rattle.pt_auditor.specs.Rests.{AreResidents, IsAdded, IsDrained, IsListed, IsRestOf, IsRestless, IsTakenOut, LeavesRest, life_of};
+ghost use Rattle.pt_auditor.specs.Rests.{stamp_of};
+
+use crate::clocks::Clocks;
+use crate::desks::Desks;
+use crate::{Foreign, Hearing};
+use pt_events::{Event, Stamped};
+use pt_judge::{Holding, State};
+use pt_signal::{Ids, Item, Pid, Reason, Ref, Signal};
+use std::alloc::{AllocError, Global};
+use std::collections::VecDeque;
+
+/// What became of a process of a history at rest.
+#[derive(Drop)]
+pub enum Resident {
+    /// It lives, and holds this.
+    Lives(Pid, Holding),
+    /// It has exited, for this reason.
+    Ended(Pid, Reason),
+}
+
+/// What is known of a history at rest, so that another one can go on from it: what became of its processes, and the
+/// clocks of its desks.
+///
+/// It knows no ids of links and no references. A node never makes one again.
+#[derive(Drop)]
+pub struct Rest {
+    /// The number of events, up to the greatest number of 64 bits.
+    pub(crate) events: u64,
+    /// One more than the greatest desk of an event.
+    pub(crate) desks: u16,
+    /// The last event.
+    pub(crate) last: Option<Stamped>,
+    /// Whether all clocks may have stood just below the stamp of the last event before the first event of that stamp.
+    pub(crate) begun: bool,
+    /// The stamp of each desk's newest event.
+    pub(crate) clocks: Clocks,
+    /// The processes, in the order in which they were spawned.
+    pub(crate) residents: VecDeque<Resident>,
+}
+
+/// Why nothing can go on from a history.
+#[derive(Clone, Copy, Debug, PartialEq, Eq)]
+pub enum Restless {
+    /// The last line has no line feed.
+    Line,
+    /// Letters are on their way.
+    Letters,
+    /// No node prints the history. This is the first line that none prints.
+    OfNoNode(Foreign),
+    /// There was no memory.
+    Memory,
+}
+
+/// The pids of all processes that were born.
+fn born(alloc: Global, state: &State) -> Result<VecDeque<Pid>, AllocError>
+    ensures { IfOk result (λ pids. pids.items ≡ keys_of state.now.lives) }
+{
+    let mut pids = VecDeque::new(alloc);
+    for number in 0..usize::MAX {
+        match state.born(number) {
+            Some(pid) => pids.push_back(pid)?,
+            None => return Ok(pids),
+        }
+    }
+    Err(AllocError)
+}
+
+/// A copy of the items.
+fn copied(alloc: Global, items: &[Item]) -> Result<Vec<Item>, AllocError>
+    ensures { IfOk result (λ copy. copy.items ≡ items.now) }
+{
+    let mut copy = Vec::new(alloc);
+    for place in 0..items.len() {
+        copy.push(items[place])?;
+    }
+    Ok(copy)
+}
+
+/// What a process that ends now would leave to others: its links, the watches that it keeps, and its own monitors.
+#[derive(Drop)]
+struct Estate {
+    links: Vec<(Pid, Ids)>,
+    kept: Vec<(Ref, Pid)>,
+    watching: Vec<(Ref, Pid)>,
+}
+
+impl Estate {
+    fn new(alloc: Global) -> Estate
+        ensures links { result.links.items ≡ [] }
+        ensures kept { result.kept.items ≡ [] }
+        ensures watching { result.watching.items ≡ [] }
+    {
+        Estate {
+            links: Vec::new(alloc),
+            kept: Vec::new(alloc),
+            watching: Vec::new(alloc),
+        }
+    }
+
+    /// Adds what a signal says that goes to the process when the other ends.
+    fn add(&mut self, to: Pid, signal: Signal) -> Result<(), AllocError>
+        ensures { OnOk result (IsAdded to signal self.old self.new) }
+    {
+        match signal {
+            Signal::LinkExit(ids, _) => self.links.push((to, ids))?,
+            Signal::Down(monitor, _) => self.kept.push((monitor, to))?,
+            Signal::Demonitor(monitor) => self.watching.push((monitor, to))?,
+            _ => {}
+        }
+        Ok(())
+    }
+}
+
+/// Collects all that is on its way, and takes it off.
+fn drained(alloc: Global, state: State) -> Result<(State, Estate), AllocError>
+    ensures { IfOk result (λ new. IsDrained state new.0 new.1) }
+{
+    let mut state = state;
+    let mut estate = Estate::new(alloc);
+    while let Some((from, to, signal)) = state.front() {
+        estate.add(to, signal)?;
+        state = state.without_oldest(from, to);
+    }
+    Ok((state, estate))
+}
+
+/// A copy of what waits in the mailbox of a process that lives.
+fn waiting(alloc: Global, state: &State, pid: Pid) -> Result<Vec<Item>, AllocError>
+    requires { is_living (now_is state.now pid) ≡ true }
+    ensures { IfOk result (λ copy. copy.items ≡ (state_of (now_is state.now pid)).waiting) }
+{
+    match state.waiting(pid) {
+        Some(items) => copied(alloc, items),
+        None => Ok(Vec::new(alloc)),
+    }
+}
+
+/// Takes a process that lives out of a state at rest, with what it holds. It ends in what is left.
+fn take_out(alloc: Global, state: State, pid: Pid) -> Result<(State, Holding), AllocError>
+    requires living { is_living (now_is state pid) ≡ true }
+    requires still { state.flights ≡ [] }
+    ensures { IfOk result (λ new. IsTakenOut pid state new.0 new.1) }
+{
+    let waiting = waiting(alloc, &state, pid)?;
+    let traps = state.traps(pid);
+    let state = state.after(alloc, Event::Left(pid, Reason::Normal))?;
+    let (state, estate) = drained(alloc, state)?;
+    let Estate {
+        links,
+        kept,
+        watching,
+    } = estate;
+    let holding = Holding {
+        waiting,
+        links,
+        watching,
+        kept,
+        traps,
+    };
+    Ok((state, holding))
+}
+
+/// Adds what became of the process. If it lives, it is taken out of the state.
+fn list(
+    alloc: Global,
+    state: State,
+    residents: VecDeque<Resident>,
+    pid: Pid,
+) -> Result<(State, VecDeque<Resident>), AllocError>
+    requires { state.flights ≡ [] }
+    ensures { IfOk result (λ new. IsListed pid state residents.items new.0 new.1.items) }
+{
+    let mut residents = residents;
+    if let Some(reason) = state.ended(pid) {
+        residents.push_back(Resident::Ended(pid, reason))?;
+        return Ok((state, residents));
+    }
+    if !state.alive(pid) {
+        return Ok((state, residents));
+    }
+    let (state, holding) = take_out(alloc, state, pid)?;
+    residents.push_back(Resident::Lives(pid, holding))?;
+    Ok((state, residents))
+}
+
+/// What became of all processes of a state at rest, in the order in which they were spawned.
+fn residents_of(alloc: Global, state: State) -> Result<VecDeque<Resident>, AllocError>
+    requires { state.flights ≡ [] }
+    ensures { IfOk result (λ residents. AreResidents state residents.items) }
+{
+    let mut pids = born(alloc, &state)?;
+    let mut state = state;
+    let mut residents = VecDeque::new(alloc);
+    while let Some(pid) = pids.pop_front() {
+        let next = list(alloc, state, residents, pid)?;
+        state = next.0;
+        residents = next.1;
+    }
+    Ok(residents)
+}
+
+/// Why nothing can go on from the history, beside memory.
+fn hindrance(hearing: &Hearing) -> Option<Restless>
+    ensures why { (heard : Heard) → IsHeard heard hearing.now → IsRestless heard result }
+    ensures still { result ≡ None → hearing.now.state.flights ≡ [] }
+    ensures of_node { result ≡ None → hearing.now.foreign ≡ None }
+{
+    if hearing.letters > 0 || hearing.state.in_flight() > 0 {
+        return Some(Restless::Letters);
+    }
+    match hearing.foreign {
+        Some(foreign) => Some(Restless::OfNoNode(foreign)),
+        None => None,
+    }
+}
+
+impl Hearing {
+    /// What is known of the history, if it is at rest, so that the next one can go on from it. Fails with the first of
+    /// these that holds:
+    ///
+    /// - [`Restless::Letters`]: letters are on their way, or letters left over were read.
+    /// - [`Restless::OfNoNode`]: an event is of no node.
+    /// - [`Restless::Memory`]: there is no memory.
+    pub fn rest(self, alloc: Global) -> Result<Rest, Restless>
+        ensures { (heard : Heard) → IsHeard heard self → LeavesRest heard result }
+    {
+        if let Some(why) = hindrance(&self) {
+            return Err(why);
+        }
+        let Hearing {
+            state,
+            last,
+            events,
+            desks,
+            node,
+            ..
+        } = self;
+        match residents_of(alloc, state) {
+            Ok(residents) => {
+                let (clocks, begun) = node.at_rest();
+                Ok(Rest {
+                    events,
+                    desks,
+                    last,
+                    begun,
+                    clocks,
+                    residents,
+                })
+            }
+            Err(_) => Err(Restless::Memory),
+        }
+    }
+
+    /// A hearing that goes on from a rest, or the pid that it has twice. What it hears next comes after the history
+    /// that was at rest.
+    pub fn over(alloc: Global, rest: Rest) -> Result<Hearing, Unfit>
+        ensures { (past : List Stamped) → IsRestOf past rest
+            → IfOk result (λ hearing. IsHeard (record { events = past; left = []; since = rest.last }) hearing) }
+    {
+        let Rest {
+            events,
+            desks,
+            last,
+            begun,
+            clocks,
+            residents,
+        } = rest;
+        let state = rebuilt(alloc, residents)?;
+        Ok(Hearing {
+            state,
+            last,
+            events,
+            desks,
+            letters: 0,
+            node: Desks::over(alloc, clocks, newest_of(last), begun),
+            foreign: None,
+            since: last,
+        })
+    }
+}
+
+/// The stamp of the event, or 0.
+fn newest_of(last: Option<Stamped>) -> u64
+    ensures { result ≡ stamp_of last }
+{
+    match last {
+        Some(last) => last.stamp,
+        None => 0,
+    }
+}
+
+/// Why no hearing goes on from a rest.
+#[derive(Clone, Copy, Debug, PartialEq, Eq)]
+pub enum Unfit {
+    /// It has a process twice.
+    Twice(Pid),
+    /// There was no memory.
+    Memory,
+}
+
+/// The state with one process more.
+fn with(alloc: Global, state: State, resident: Resident) -> Result<State, Unfit>
+    ensures { IfOk result (λ new. new ≡ record state { lives = state.lives ++ life_of resident ∷ [] }) }
+{
+    let pid = match &resident {
+        Resident::Lives(pid, _) => *pid,
+        Resident::Ended(pid, _) => *pid,
+    };
+    if state.alive(pid) || state.ended(pid).is_some() {
+        return Err(Unfit::Twice(pid));
+    }
+    let made = match resident {
+        Resident::Lives(pid, holding) => state.with_living(pid, holding),
+        Resident::Ended(pid, reason) => state.with_ended(alloc, pid, reason),
+    };
+    match made {
+        Ok(state) => Ok(state),
+        Err(_) => Err(Unfit::Memory),
+    }
+}
+
+/// The state that has these processes.
+fn rebuilt(alloc: Global, residents: VecDeque<Resident>) -> Result<State, Unfit>
+    ensures { IfOk result
+        (λ state. state ≡ record { links = []; refs = []; lives = map life_of residents.items; flights = [] }) }
+{
+    let mut residents = residents;
+    let mut state = State::new(alloc);
+    while let Some(resident) = residents.pop_front() {
+        state = with(alloc, state, resident)?;
+    }
+    Ok(state)
+}
