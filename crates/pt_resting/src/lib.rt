@@ -5,7 +5,11 @@
 //! and lets every worker continue until [`Bells::stop`]. A [`RestingWork`] is the work that reports to it. A [`Door`] takes
 //! messages from a thread without a desk; a [`Porter`] sends them on, as a process of its desk.
 //!
-//! Tests: `checks/tried/test_calls/resting.rt.txt` and `crates/test_stress`.
+//! A [`Clocked`] work takes its steps at the time that a [`TimeSource`] says. A [`TimedGate`] rests no longer than until
+//! the next time at which the desk has something to do.
+//!
+//! Tests: `checks/tried/test_calls/resting.rt.txt`, `checks/tried/test_calls/timed_rests.rt.txt` and
+//! `crates/test_stress`.
 //!
 //! # What is proved
 //!
@@ -18,7 +22,10 @@
 //!   at the desk of the process that sends on.
 //! - **Work left.** A crew has work exactly while a process is queued or waits to enter; a porter also while it knows
 //!   of a message. (`busy`)
-//! - **The work within.** A `RestingWork` does what its work does.
+//! - **The work within.** A `RestingWork` does what its work does. A `Clocked` work sets its work's time, and does what
+//!   that does then.
+//! - **Next time.** A crew that attends its desk has no process outside its queue that waits until an earlier time than
+//!   the one it tells. (`next`)
 #![tactic(auto)]
 
 mod bells;
