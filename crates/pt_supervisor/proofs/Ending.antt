@@ -12,7 +12,7 @@ use Rattle.pt_crew.specs.declared.call_fault.CallFault.{CallFault}
 use Rattle.pt_supervisor.specs.declared.children.Shutdown.{Shutdown}
 use Rattle.pt_supervisor.specs.Children.{bids, until}
 use Rattle.pt_supervisor.specs.Hearing.{Standing, asked_until, deadline}
-use Rattle.pt_supervisor.specs.Supervising.{Bids, Ends, Supervises, WaitsFor, after_bid}
+use Rattle.pt_supervisor.specs.Supervising.{Bids, EndsChild, Supervises, WaitsFor, after_bid}
 
 told_supervises : (p : Pid) (result : Result (Unit {0}) CallFault) (by : Option ℕ) (s : Standing) → WaitsFor (Pick.ExitOf p) s → Supervises (after_bid p result by) (asked_until p result by s)
 told_supervises p (Err f) by s last = tt
@@ -28,6 +28,6 @@ module _ (me p : Pid) (s : Standing) (d : DeskState) (next : Next) (t : Standing
   over_supervises true at is h = subst (λ (n : Next). Supervises n t) (sym h.0) (subst (Supervises (WaitUntil (Pick.ExitOf p) at)) (sym h.1) (last, is))
   over_supervises false at is h = bids_supervise Reason.Kill None h
 
-  pub ends_supervise : (now : ℕ) (shutdown : Shutdown) (by : Option ℕ) → deadline p s.asked ≡ by → Ends me now p shutdown by s d next t e → Supervises next t
+  pub ends_supervise : (now : ℕ) (shutdown : Shutdown) (by : Option ℕ) → deadline p s.asked ≡ by → EndsChild me now p shutdown by s d next t e → Supervises next t
   ends_supervise now shutdown None is h = bids_supervise (bids shutdown) (until now shutdown) h
   ends_supervise now shutdown (Some at) is h = over_supervises (nat_lt now at) at is h

@@ -37,7 +37,7 @@ use Rattle.pt_supervisor.specs.declared.children.Shutdown.{Shutdown}
 use Rattle.pt_supervisor.specs.Children.{NoneLives, bids, is_missing, last_alive, until}
 use Rattle.pt_supervisor.specs.Limits.{moment}
 use Rattle.pt_supervisor.specs.Hearing.{Standing, asked_until, deadline, heard}
-use Rattle.pt_supervisor.specs.Supervising.{Bids, Ends, StartsOf, Nursery, BearsAs, StartsAt, StartsOne, StartsFirst, StartsAll, SupervisorScene, nursery, SupervisorSettles, AdvancesAs, SupervisorAttends, SupervisorHandles, Supervises, with_pid, with_one, after_attending}
+use Rattle.pt_supervisor.specs.Supervising.{Bids, EndsChild, StartsOf, Nursery, BearsAs, StartsAt, StartsOne, StartsFirst, StartsAll, SupervisorScene, nursery, SupervisorSettles, AdvancesAs, SupervisorAttends, SupervisorHandles, Supervises, with_pid, with_one, after_attending}
 use Rattle.pt_supervisor.specs.Keeping.{is_exit_of, is_cut, has_cut, IsTied, IsHeld, Family, was_started, Remembers, Holds, Tends, PartOf, HoldsAs, Keeps, SupervisorBegins, AllBegin, ActsAs, SuperviseAs}
 use Rattle.pt_supervisor.proofs.Tying.{or_left, stays_in, tied_by, is_unlink, handled_tied, handled_traps}
 use Rattle.pt_supervisor.proofs.Telling.{found_any, waits_told}
@@ -190,11 +190,11 @@ module _ {S B : Type 0} (starts : StartsOf S B) (me : Pid) where
       (kept_is s.children s.started s.stopping me d.shard e.shard (ap (λ (x : DeskState). x.shard) h.2) k)
   over_kept false p at s d next t e h k = bids_kept p Reason.Kill None s d next t e h k
 
-  ends_goes : (now : ℕ) (p : Pid) (shutdown : Shutdown) (by : Option ℕ) (s : Standing) (d : DeskState) (next : Next) (t : Standing) (e : DeskState) → Ends me now p shutdown by s d next t e → Goes me d.shard e.shard
+  ends_goes : (now : ℕ) (p : Pid) (shutdown : Shutdown) (by : Option ℕ) (s : Standing) (d : DeskState) (next : Next) (t : Standing) (e : DeskState) → EndsChild me now p shutdown by s d next t e → Goes me d.shard e.shard
   ends_goes now p shutdown None s d next t e h = bids_goes p (bids shutdown) (until now shutdown) s d next t e h
   ends_goes now p shutdown (Some at) s d next t e h = over_goes (nat_lt now at) p at s d next t e h
 
-  ends_kept : (now : ℕ) (p : Pid) (shutdown : Shutdown) (by : Option ℕ) (s : Standing) (d : DeskState) (next : Next) (t : Standing) (e : DeskState) → Ends me now p shutdown by s d next t e
+  ends_kept : (now : ℕ) (p : Pid) (shutdown : Shutdown) (by : Option ℕ) (s : Standing) (d : DeskState) (next : Next) (t : Standing) (e : DeskState) → EndsChild me now p shutdown by s d next t e
       → Kept s.children s.started s.stopping me d.shard → Kept t.children t.started t.stopping me e.shard
   ends_kept now p shutdown None s d next t e h k = bids_kept p (bids shutdown) (until now shutdown) s d next t e h k
   ends_kept now p shutdown (Some at) s d next t e h k = over_kept (nat_lt now at) p at s d next t e h k

@@ -133,9 +133,9 @@ pub record Bids (me p : Pid) (reason : Reason) (until : Option ℕ) (old : Stand
 
 -- One that was not told to end within a time is told to end now. One that was is killed once its time has come, and then
 -- has no further time. Before that it is told nothing, and has the time that it had.
-abbrev pub Ends : Pid → ℕ → Pid → Shutdown → Option ℕ → Standing → DeskState → Next → Standing → DeskState → Type 0
-Ends me now p shutdown None old d next new e = Bids me p (bids shutdown) (until now shutdown) old d next new e
-Ends me now p shutdown (Some at) old d next new e =
+abbrev pub EndsChild : Pid → ℕ → Pid → Shutdown → Option ℕ → Standing → DeskState → Next → Standing → DeskState → Type 0
+EndsChild me now p shutdown None old d next new e = Bids me p (bids shutdown) (until now shutdown) old d next new e
+EndsChild me now p shutdown (Some at) old d next new e =
     MatchBool (nat_lt now at) ((next ≡ WaitUntil (Pick.ExitOf p) at) × (new ≡ old) × (e ≡ d))
     (Bids me p Reason.Kill None old d next new e)
 
@@ -155,7 +155,7 @@ SupervisorSettles starts me None old next new =
 abbrev pub AdvancesAs : {S B : Type 0} → StartsOf S B → Pid → ℕ → Option (Pid × Shutdown) → SupervisorScene S B → Next
     → SupervisorScene S B → Type 0
 AdvancesAs starts me now (Some (p, shutdown)) old next new =
-    Ends me now p shutdown (deadline p old.standing.asked) old.standing old.desk next new.standing new.desk
+    EndsChild me now p shutdown (deadline p old.standing.asked) old.standing old.desk next new.standing new.desk
     × (new.start ≡ old.start) × (new.born ≡ old.born)
 AdvancesAs starts me now None old next new = SupervisorSettles starts me old.standing.stopping old next new
 
@@ -200,13 +200,13 @@ WaitsFor (Pick.ExitOf p) s =
     (shutdown : Shutdown) × (last_alive s.children s.ending (length s.children) ≡ Some (p, shutdown))
 WaitsFor _ s = ⊥
 
-abbrev pub WaitsUntil : Pick → ℕ → Standing → Type 0
-WaitsUntil (Pick.ExitOf p) at s = WaitsFor (Pick.ExitOf p) s × (deadline p s.asked ≡ Some at)
-WaitsUntil _ at s = ⊥
+abbrev pub WaitsForUntil : Pick → ℕ → Standing → Type 0
+WaitsForUntil (Pick.ExitOf p) at s = WaitsFor (Pick.ExitOf p) s × (deadline p s.asked ≡ Some at)
+WaitsForUntil _ at s = ⊥
 
 abbrev pub Supervises : Next → Standing → Type 0
 Supervises (Wait pick) s = WaitsFor pick s
-Supervises (WaitUntil pick at) s = WaitsUntil pick at s
+Supervises (WaitUntil pick at) s = WaitsForUntil pick at s
 Supervises Proceed s = Unit {0}
 Supervises (Stop reason) s = (s.stopping ≡ Some reason) × NoneLives s.children
 

@@ -4,7 +4,7 @@
 //! every item to [`Supervisor::handle`]. The program says by [`Start`] what the children do. A child may hold a
 //! supervisor, too.
 //!
-//! Tests: `supervisors.rt.txt` and `timed_supervisors.rt.txt` in `checks/tried/test_calls`, and
+//! Tests: `checks/tried/test_calls/supervisors.rt.txt`, `checks/tried/test_calls/timed_supervisors.rt.txt` and
 //! `crates/test_calls/src/supervisors.rt`.
 //!
 //! # What is proved
@@ -13,7 +13,7 @@
 //!   of what the supervisor knows. (`starts_again`, `ends_from`)
 //! - **Limits.** When a restart is still allowed is exact, by stamps or by time. (`Limit::allows`, `Limit::moment`)
 //! - **Shutdown.** A child that has a time to exit is killed only if its supervisor runs at that time or later and has
-//!   not got its exit. (`Ends`)
+//!   not got its exit. (`EndsChild`)
 //! - **Handling.** The contract of `handle` says all that it does on the desk, also if a call fails.
 //!   (`SupervisorHandles`)
 //! - **Children are restarted.** Once the node is quiet and the crew idle, each child that a live supervisor wants

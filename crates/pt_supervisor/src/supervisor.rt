@@ -54,7 +54,7 @@ impl<S> Supervisor<S> {
     ghost use Rattle.pt_supervisor.specs.Children.{AreStarted, PermanentAreWanted};
     ghost use Rattle.pt_supervisor.specs.Hearing.{begun, deadline, heard, lost, program_of, standing, started_again};
     ghost use Rattle.pt_supervisor.specs.Hearing.{stopped};
-    ghost use Rattle.pt_supervisor.specs.Supervising.{Advances, Bids, Ends, SupervisorAttends, SupervisorHandles};
+    ghost use Rattle.pt_supervisor.specs.Supervising.{Advances, Bids, EndsChild, SupervisorAttends, SupervisorHandles};
     ghost use Rattle.pt_supervisor.specs.Supervising.{SetsAt, StartsAll, StartsOne, Supervises, nursery};
     ghost use Rattle.pt_supervisor.specs.Supervising.{supervisor_scene};
     ghost use Rattle.pt_supervisor.specs.Keeping.{BearsFrom, Tends};
@@ -282,7 +282,7 @@ impl<S> Supervisor<S> {
     /// Tells a child to exit. If it was told to exit within a time before, it is killed once the time has come.
     #[tactic(auto, using(pt_workers::proofs::GoingOn::stays))]
     fn end(&mut self, desk: &mut Desk, now: u64, me: Pid, pid: Pid, shutdown: Shutdown) -> Next
-        ensures does { Ends me now pid shutdown (deadline pid (standing self.old).asked) (standing self.old) desk.old
+        ensures does { EndsChild me now pid shutdown (deadline pid (standing self.old).asked) (standing self.old) desk.old
             result (standing self.new) desk.new }
         ensures rest { standing self.new ≡ record (standing self.old) { asked = (standing self.new).asked } }
         ensures start { program_of self.new ≡ program_of self.old }
