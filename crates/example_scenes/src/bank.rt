@@ -86,26 +86,25 @@ fn pay(desk: &mut Desk, me: Pid, to: Pid, amount: i64, balance: i64) -> Option<i
     }
 }
 
-/// Says to the accounts of the other desks that this one pays no more.
+/// Says to an account that this one pays no more.
+#[tactic(auto, using(pt_workers::proofs::GoingOn::stays))]
+fn close_to(desk: &mut Desk, me: Pid, other: Pid)
+    ensures takes { takes desk.new.shard.journal ≡ takes desk.old.shard.journal }
+    ensures goes_on { GoesOn desk.old desk.new }
+{
+    let _ = send(desk, me, other, message(CLOSED, 0, me));
+}
+
+/// Says so to the accounts of the other desks.
 #[tactic(auto, using(pt_workers::proofs::GoingOn::stays, pt_desk::proofs::Turning::goes_on_then))]
 fn close(desk: &mut Desk, me: Pid)
     ensures takes { takes desk.new.shard.journal ≡ takes desk.old.shard.journal }
     ensures goes_on { GoesOn desk.old desk.new }
 {
     let next = me.shard.saturating_add(1);
-    let _ = send(desk, me, first_of(next % DESKS), message(CLOSED, 0, me));
-    let _ = send(
-        desk,
-        me,
-        first_of(next.saturating_add(1) % DESKS),
-        message(CLOSED, 0, me),
-    );
-    let _ = send(
-        desk,
-        me,
-        first_of(next.saturating_add(2) % DESKS),
-        message(CLOSED, 0, me),
-    );
+    close_to(desk, me, first_of(next % DESKS));
+    close_to(desk, me, first_of(next.saturating_add(1) % DESKS));
+    close_to(desk, me, first_of(next.saturating_add(2) % DESKS));
 }
 
 /// Spawns the teller of this account.

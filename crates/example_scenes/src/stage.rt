@@ -112,20 +112,19 @@ impl<B: Behaviour + Drop> Rests for Stage<B> {
     }
 }
 
-/// The works of desks that rest at this curtain.
-fn resting<'a, B: Behaviour + Drop>(
+/// The works of desks that rest at this curtain, in order.
+fn resting<'a, W: Rests + Drop>(
     alloc: Global,
-    stages: [Stage<B>; 4],
+    works: Vec<W>,
     curtain: &'a Curtain,
-) -> Result<Vec<RestingWork<'a, Stage<B>>>> {
-    let [a, b, c, d] = stages;
-    let bells = curtain.bells();
-    Ok(vec![in alloc;
-        RestingWork::new(a, bells),
-        RestingWork::new(b, bells),
-        RestingWork::new(c, bells),
-        RestingWork::new(d, bells),
-    ]?)
+) -> Result<Vec<RestingWork<'a, W>>, AllocError> {
+    let mut around = Vec::with_capacity(alloc, works.len())?;
+    let mut left = works;
+    left.reverse();
+    while let Some(work) = left.pop() {
+        around.push_reserved(RestingWork::new(work, curtain.bells()));
+    }
+    Ok(around)
 }
 
 /// The works of desks that do not rest any more, in order.
@@ -133,7 +132,7 @@ pub fn rested<'a, W: Rests + Drop>(
     alloc: Global,
     works: Vec<RestingWork<'a, W>>,
 ) -> Result<Vec<W>, AllocError>
-    ensures { IfOk result (λ r. r.items ≡ works.items) }
+    ensures { IfOk result (λ r. r.items ≡ works.entry.items) }
 {
     let mut within = Vec::with_capacity(alloc, works.len())?;
     let mut left = works;
@@ -155,9 +154,12 @@ pub fn play<R: Threads + Wait + Sync, B: Behaviour + Drop + Send>(
     stages: [Stage<B>; 4],
     curtain: &Curtain,
 ) -> Result<Vec<Stage<B>>> {
+    let Ok(stages) = Vec::from_array(alloc, stages) else {
+        bail!("no memory for the stages");
+    };
+    let mut works = resting(alloc, stages, curtain)?;
     let config = Config::DEFAULT.with_desks(DESKS).with_slots(slots);
     let mut node = Node::open(alloc, config)?;
-    let mut works = resting(alloc, stages, curtain)?;
     if node.run_single(&mut works, 1, BUDGET, &FreeGate).is_err() {
         bail!("the first processes do not enter");
     }

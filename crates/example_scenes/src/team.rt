@@ -156,7 +156,7 @@ fn perform<'a, R: Threads + Wait + Sync>(
     crews: &mut Vec<RestingWork<'a, Crew<Member<'a>>>>,
     curtain: &Curtain,
 ) -> Result<()>
-    ensures upholds { IfOk result (λ _. AreTeams crews.old.items node.old → AreTeams crews.new.items node.new) }
+    ensures { IfOk result (λ _. AreTeams crews.old.items node.old → AreTeams crews.new.items node.new) }
 {
     let gate = curtain.gate(rt);
     gathered_children_live::<Member<'a>, RestGate<'_, R>>(&gate);
