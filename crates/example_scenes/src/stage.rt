@@ -110,6 +110,10 @@ impl<B: Behaviour + Drop> Rests for Stage<B> {
     fn has_work(&self) -> bool {
         self.crew.has_work()
     }
+
+    fn next_time(&self) -> Option<u64> {
+        self.crew.next_time()
+    }
 }
 
 /// The works of desks that rest at this curtain, in order.

@@ -21,6 +21,8 @@ struct Bell {
     rests: AtomicU64,
     /// The desks to which its next turn may post, a bit for each.
     posts: AtomicU64,
+    /// The time at which it has something to do though it is not rung, or `u64::MAX` if there is none.
+    next: AtomicU64,
 }
 
 /// The bells of a node, one for each desk, and whether its workers are to stop.
@@ -50,6 +52,7 @@ impl Bells {
                 idle: AtomicU64::new(0),
                 rests: AtomicU64::new(0),
                 posts: AtomicU64::new(0),
+                next: AtomicU64::new(u64::MAX),
             })?;
         }
         Ok(Bells {
@@ -89,14 +92,23 @@ impl Bells {
         self.stopped.load(Ordering::SeqCst) != 0
     }
 
-    /// Notes what a step of that desk left: whether there is nothing to do, and the desks to which the next turn may
-    /// post.
-    pub(crate) fn tell(&self, desk: u8, idle: bool, posts: u64) {
+    /// Notes what a step of that desk left: whether there is nothing to do, the desks to which the next turn may post,
+    /// and the time at which there is something to do.
+    pub(crate) fn tell(&self, desk: u8, idle: bool, posts: u64, next: Option<u64>) {
         let Some(bell) = self.bells.get(desk as usize) else {
             return;
         };
         bell.idle.store(if idle { 1 } else { 0 }, Ordering::SeqCst);
         bell.posts.store(posts, Ordering::SeqCst);
+        bell.next.store(next.unwrap_or(u64::MAX), Ordering::SeqCst);
+    }
+
+    /// The time at which that desk has something to do though it is not rung, or `u64::MAX` if there is none.
+    pub(crate) fn next_time(&self, desk: u8) -> u64 {
+        match self.bells.get(desk as usize) {
+            Some(bell) => bell.next.load(Ordering::SeqCst),
+            None => u64::MAX,
+        }
     }
 
     /// Rings at each desk to which the turn that was just done may have posted.

@@ -181,7 +181,13 @@ impl<W: Rests> Rests for Porter<W> {
     ghost busy = { λ p answer. (own : Bool) × W.Rests.busy (work_of p) own
         × (answer ≡ (own || not (length (known_to_wait p) == 0))) };
 
+    ghost next = { λ p answer. W.Rests.next (work_of p) answer };
+
     fn has_work(&self) -> bool {
         self.work.has_work() || self.ring.cached_slots() != 0
+    }
+
+    fn next_time(&self) -> Option<u64> {
+        self.work.next_time()
     }
 }

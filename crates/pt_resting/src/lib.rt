@@ -25,8 +25,10 @@ mod bells;
 mod door;
 mod gate;
 mod resting;
+mod timed;
 
 pub use bells::Bells;
 pub use door::{Door, Porter, Post, way_in};
-pub use gate::RestGate;
+pub use gate::{RestGate, TimedGate};
 pub use resting::{RestingWork, Rests};
+pub use timed::{Clocked, TimeSource, Timed};

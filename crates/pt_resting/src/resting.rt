@@ -1,7 +1,8 @@
 //! A work that reports to its bells when there is nothing to do.
 
-ghost use Rattle.std.specs.Prelude.{◌≡◌, ◌==◌, ◌||◌, ⊤, Bool, length, not};
-ghost use Rattle.pt_crew.specs.Crews.{queue, waiting};
+ghost use Rattle.std.specs.Prelude.{◌≡◌, ◌==◌, ◌||◌, ⊤, ℕ, Bool, Option, length, not};
+ghost use Rattle.pt_shard.specs.ShardState.{ShardState};
+ghost use Rattle.pt_crew.specs.Crews.{Attends, IsNextTime, queue, waiting};
 
 use crate::bells::Bells;
 use pt_crew::{Behaviour, Crew};
@@ -10,22 +11,34 @@ use std::marker::Model;
 
 /// A work that knows whether it has something to do by itself, though nothing arrives at its desk.
 ///
-/// The ghost member `busy` says when it does: it relates the work and the answer. A work that says nothing there
-/// promises nothing of its answer.
+/// The ghost members `busy` and `next` say when it does: each relates the work and the answer. A work that says nothing
+/// there promises nothing of its answer.
 pub trait Rests: Work {
     ghost busy: { Self → Bool → Type 0 } = { λ _ _. ⊤ };
+
+    ghost next: { Self → Option ℕ → Type 0 } = { λ _ _. ⊤ };
 
     /// Whether its next step has something to do, as far as it knows.
     fn has_work(&self) -> bool
         ensures { busy self.now result };
+
+    /// The earliest time at which it has something to do though nothing arrives, or `None` if there is no such time.
+    fn next_time(&self) -> Option<u64>
+        ensures { next self.now result };
 }
 
 /// A crew has something to do while a process is in its queue, or waits to enter.
 impl<B: Behaviour + Drop> Rests for Crew<B> {
     ghost busy = { λ c answer. answer ≡ (not (length (queue c) == 0) || not (length (waiting c) == 0)) };
 
+    ghost next = { λ c answer. (d : ShardState) → Attends c d → IsNextTime c answer };
+
     fn has_work(&self) -> bool {
         self.queued() != 0 || self.waiting() != 0
+    }
+
+    fn next_time(&self) -> Option<u64> {
+        Crew::next_time(self)
     }
 }
 
@@ -123,7 +136,8 @@ impl<'a, W: Rests> Work for RestingWork<'a, W> {
         let clock = desk.clock();
         self.posts = posted | targets_of(desk, desk.journal().since(since));
         let idle = quiet && clock == before && desk.pending() == 0 && !self.work.has_work();
-        self.bells.tell(desk.number(), idle, self.posts);
+        let next = self.work.next_time();
+        self.bells.tell(desk.number(), idle, self.posts, next);
         self.clock = Some(clock);
     }
 

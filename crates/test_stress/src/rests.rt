@@ -129,6 +129,10 @@ impl<'a> Rests for Relay<'a> {
     fn has_work(&self) -> bool {
         false
     }
+
+    fn next_time(&self) -> Option<u64> {
+        None
+    }
 }
 
 type Relaying<'a> = RestingWork<'a, Porter<Relay<'a>>>;
