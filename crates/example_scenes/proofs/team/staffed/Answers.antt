@@ -6,7 +6,7 @@ returns-clause-upholds c =
     let d = c.args.desk.now.shard in
     let crew = c.new-crew.result in
     record {
-      attends = record { knows = c.enter.ensures.knows (c.new-crew.ensures.attends d).knows; room = c.enter.ensures.room (c.new-crew.ensures.attends d).room };
+      attends = record { knows = c.enter.ensures.knows (c.new-crew.ensures.attends d).knows; room = c.enter.ensures.room (c.new-crew.ensures.attends d).room; timers = c.enter.ensures.timers (c.new-crew.ensures.attends d).knows (c.new-crew.ensures.attends d).timers };
       upholds = c.quiet_children_live.ensures.enter c.in_ok-boss.boss _ crew c.enter.new.self d c.enter.new.desk.shard c.enter.result c.enter.ensures.does c.in_ok-boss.ensures
           (c.quiet_children_live.ensures.nobody crew d c.new-crew.ensures.nobody c.new-crew.ensures.born);
     }
