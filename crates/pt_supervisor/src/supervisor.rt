@@ -139,9 +139,6 @@ impl<S> Supervisor<S> {
     ///
     /// If a call fails for want of memory or stamps, or the program fails to start a child, it proceeds, and tries
     /// again when it runs next. An item that is neither an exit signal of its parent nor of a child changes nothing.
-    ///
-    /// Its time is [`Births::now`]: by that it ends children that have a time to exit, and counts restarts if its limit
-    /// does ([`Limit::by_time`]).
     #[tactic(auto, using(pt_workers::proofs::GoingOn::stays, pt_desk::proofs::Turning::goes_on_then))]
     pub fn handle<B: Drop>(
         &mut self,
