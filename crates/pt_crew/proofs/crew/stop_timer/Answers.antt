@@ -7,4 +7,4 @@ use Rattle.pt_crew.proofs.crew.stop_timer.Goals as goal
 
 pub returns-in-Some : goal.returns-in-Some
 returns-in-Some c =
-    subst (λ (o : Option Timer). Stops o c.args.timers.now c.cancel.new.self) (sym c.in-Some.is) (stopped c.in-Some.timer c.args.timers.now c.cancel.new.self c.cancel.result c.cancel.ensures)
+    subst (λ (o : Option Timer). Stops o c.args.timers.now c.cancel.new.self) (sym c.in-Some.is) (stopped c.in-Some.timer c.args.timers.now c.cancel.new.self c.cancel.result c.cancel.ensures.cancels)
