@@ -1,0 +1,146 @@
+//! Names with the monitors of their processes.
+
+ghost use Rattle.pt_names.specs.State.{IsOneToOne};
+
+use pt_crew::{CallFault, Request, demonitor, monitor};
+use pt_names::{Name, Names, RegisterError};
+use pt_workers::{Desk, Item, Pid, Ref};
+use std::alloc::Global;
+use thiserror::Error;
+
+/// Why a process was not registered. No name has changed then.
+#[derive(Clone, Copy, Debug, PartialEq, Eq, Error)]
+pub enum RegistryError {
+    /// The names refuse it: a process has the name, the process has another one, or there is no memory.
+    #[error("{0}")]
+    Refused(RegisterError),
+    /// The registry cannot monitor the process. With `NoProc` the process is seen to have exited.
+    #[error("{0}")]
+    Unwatched(CallFault),
+    /// The number stands for no name of the list.
+    #[error("there is no such name")]
+    NoName,
+}
+
+/// Which process has which name, with a monitor of each of them.
+#[derive(Drop)]
+pub struct Registry {
+    me: Pid,
+    names: Names,
+    ghost one: { IsOneToOne names },
+}
+
+impl Registry {
+    ghost use Rattle.std.specs.Prelude.{◌≡◌};
+    ghost use Rattle.pt_desk.specs.DeskState.{GoesOn};
+    ghost use Rattle.pt_names.specs.Calls.{IsNone};
+    ghost use Rattle.pt_names.specs.State.{pid_of};
+    ghost use Rattle.pt_crew.specs.Visiting.{takes};
+    ghost use Rattle.pt_registry.specs.Registering.{GivesUpName, HearsOf, IsFreed, KeepsName, NamesSender};
+    ghost use Rattle.pt_registry.specs.Registering.{RegistersWatched};
+
+    /// No names, kept by this process. It takes no memory.
+    pub fn new(alloc: Global, me: Pid) -> Registry
+        ensures me { result.me ≡ me }
+        ensures names { IsNone result.names }
+    {
+        Registry {
+            me,
+            names: Names::new(alloc),
+        }
+    }
+
+    /// The process that has the name, or `None` if no process has it (`whereis`).
+    pub fn whereis(&self, name: Name) -> Option<Pid>
+        ensures { result ≡ pid_of self.now.names name }
+    {
+        self.names.whereis(name)
+    }
+
+    /// Gives a process a name, and monitors it (`register`).
+    ///
+    /// Fails with `Refused` if a process has the name or the process has one, and otherwise with `Unwatched` as
+    /// [`monitor`] fails. Then nothing is done. Fails with `Refused` too if there is no memory for one more name. The
+    /// monitor is cancelled then. If that fails as well, its `DOWN` may arrive, which changes nothing by then.
+    pub fn register(&mut self, desk: &mut Desk, name: Name, pid: Pid) -> Result<(), RegistryError>
+        ensures does { RegistersWatched name pid self.old desk.old result self.new desk.new }
+        ensures takes { takes desk.new.shard.journal ≡ takes desk.old.shard.journal }
+        ensures goes_on { GoesOn desk.old desk.new }
+    {
+        if let Err(error) = self.names.check(name, pid) {
+            return Err(RegistryError::Refused(error));
+        }
+        match monitor(desk, self.me, pid) {
+            Ok(reference) => self.keep(desk, name, pid, reference),
+            Err(fault) => Err(RegistryError::Unwatched(fault)),
+        }
+    }
+
+    /// Notes a name whose process is monitored. If there is no memory, the monitor is cancelled.
+    fn keep(
+        &mut self,
+        desk: &mut Desk,
+        name: Name,
+        pid: Pid,
+        reference: Ref,
+    ) -> Result<(), RegistryError>
+        ensures does { KeepsName name pid reference self.old desk.old result self.new desk.new }
+        ensures takes { takes desk.new.shard.journal ≡ takes desk.old.shard.journal }
+        ensures goes_on { GoesOn desk.old desk.new }
+    {
+        match self.names.register(name, pid, reference) {
+            Ok(()) => Ok(()),
+            Err(error) => {
+                let _ = demonitor(desk, self.me, reference);
+                Err(RegistryError::Refused(error))
+            }
+        }
+    }
+
+    /// Gives the sender of a request the name for which its number stands: its place in the list.
+    ///
+    /// Fails with `NoName` if the list is not as long, and otherwise as [`Registry::register`] does.
+    pub fn register_sender(
+        &mut self,
+        desk: &mut Desk,
+        list: &[Name],
+        request: Request,
+    ) -> Result<(), RegistryError>
+        ensures does { NamesSender list.now request self.old desk.old result self.new desk.new }
+        ensures takes { takes desk.new.shard.journal ≡ takes desk.old.shard.journal }
+        ensures goes_on { GoesOn desk.old desk.new }
+    {
+        match list.get(request.asks as usize) {
+            Some(name) => self.register(desk, *name, request.from),
+            None => Err(RegistryError::NoName),
+        }
+    }
+
+    /// Removes a name, and returns the process that had it, or `None` if no process has it (`unregister`).
+    ///
+    /// Its monitor is cancelled. If that fails for want of memory or stamps, the failure is ignored: its `DOWN` may
+    /// arrive then, and is that of a process that has exited.
+    pub fn unregister(&mut self, desk: &mut Desk, name: Name) -> Option<Pid>
+        ensures does { GivesUpName name self.old desk.old result self.new desk.new }
+        ensures takes { takes desk.new.shard.journal ≡ takes desk.old.shard.journal }
+        ensures goes_on { GoesOn desk.old desk.new }
+    {
+        let holder = self.names.unregister(name)?;
+        let _ = demonitor(desk, self.me, holder.monitor);
+        Some(holder.pid)
+    }
+
+    /// Reads an item that the registry's process got. A `DOWN` removes the name of its process, which is returned: no
+    /// name is of that process then. Any other item changes nothing, and the answer is `None`, as it is if the process
+    /// had no name.
+    #[tactic(auto, using(crate::proofs::Naming::freed))]
+    pub fn hear(&mut self, item: Item) -> Option<Name>
+        ensures hears { HearsOf item self.old result self.new }
+        ensures freed { IsFreed item self.new }
+    {
+        match item {
+            Item::Down(_, pid, _) => self.names.forget(pid),
+            _ => None,
+        }
+    }
+}
