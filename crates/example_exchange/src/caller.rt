@@ -163,13 +163,13 @@ impl Caller {
         ensures goes_on { GoesOn desk.old desk.new }
     {
         let until = now.saturating_add(self.plan.patience);
-        match Pending::ask_until(desk, me, line, RING, until) {
-            Ok(call) => {
+        match asked(desk, me, line, until) {
+            Some(call) => {
                 self.state = State::Calling;
                 self.call = Some(call);
                 Next::WaitUntil(Pick::Any, until)
             }
-            Err(_) => self.end(desk, me, facts::FAILS),
+            None => self.end(desk, me, facts::FAILS),
         }
     }
 
@@ -335,4 +335,13 @@ impl Caller {
             _ => Next::WaitUntil(Pick::Any, until),
         }
     }
+}
+
+/// The call by which a line is asked to ring until a time, if it could be made.
+#[tactic(auto, using(pt_workers::proofs::GoingOn::stays))]
+fn asked(desk: &mut Desk, me: Pid, line: Pid, until: u64) -> Option<Pending>
+    ensures takes { takes desk.new.shard.journal ≡ takes desk.old.shard.journal }
+    ensures goes_on { GoesOn desk.old desk.new }
+{
+    Pending::ask_until(desk, me, line, RING, until).ok()
 }

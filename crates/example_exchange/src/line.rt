@@ -76,14 +76,34 @@ impl Line {
         ensures takes { takes desk.new.shard.journal ≡ takes desk.old.shard.journal }
         ensures goes_on { GoesOn desk.old desk.new }
     {
-        match (self.state, item) {
-            (State::New, _) => self.begin(desk, me),
-            (State::Joining, Some(item)) => self.join(desk, me, item),
-            (_, Some(item)) => self.hear(desk, now, me, item),
-            (State::Ringing(ringing), None) if ringing.until <= now => {
-                self.give_up(desk, me, ringing)
-            }
-            (_, None) => self.ring_alarms(desk, now, me),
+        match item {
+            Some(item) => self.take(desk, now, me, item),
+            None => self.proceed(desk, now, me),
+        }
+    }
+
+    /// Does what is to be done now: it begins, or a moment has come for which it has waited.
+    #[tactic(auto, using(pt_workers::proofs::GoingOn::stays))]
+    fn proceed(&mut self, desk: &mut Desk, now: u64, me: Pid) -> Next
+        ensures takes { takes desk.new.shard.journal ≡ takes desk.old.shard.journal }
+        ensures goes_on { GoesOn desk.old desk.new }
+    {
+        match self.state {
+            State::New => self.begin(desk, me),
+            State::Ringing(ringing) if ringing.until <= now => self.give_up(desk, me, ringing),
+            _ => self.ring_alarms(desk, now, me),
+        }
+    }
+
+    /// Handles an item: before it has its name, the answer of the registry alone.
+    #[tactic(auto, using(pt_workers::proofs::GoingOn::stays))]
+    fn take(&mut self, desk: &mut Desk, now: u64, me: Pid, item: Item) -> Next
+        ensures takes { takes desk.new.shard.journal ≡ takes desk.old.shard.journal }
+        ensures goes_on { GoesOn desk.old desk.new }
+    {
+        match self.state {
+            State::New | State::Joining => self.join(desk, me, item),
+            _ => self.hear(desk, now, me, item),
         }
     }
 
@@ -299,24 +319,9 @@ impl Line {
         ensures goes_on { GoesOn desk.old desk.new }
     {
         self.report(desk, me, facts::PICKS_UP);
-        let caller = ringing.request.from;
-        let reference = self.answer(desk, me, ringing.request);
-        self.state = match reference {
-            Some(reference) => State::Talking(caller, reference),
-            None => State::Idle,
-        };
+        let state = connect(desk, me, ringing.request);
+        self.state = state;
         self.waits()
-    }
-
-    /// Tells the caller that somebody has picked up, and monitors it.
-    #[tactic(auto, using(pt_desk::proofs::Turning::goes_on_then))]
-    fn answer(&self, desk: &mut Desk, me: Pid, request: Request) -> Option<Ref>
-        ensures takes { takes desk.new.shard.journal ≡ takes desk.old.shard.journal }
-        ensures goes_on { GoesOn desk.old desk.new }
-    {
-        let reference = monitor(desk, me, request.from);
-        let _ = reply(desk, me, request, PICKED_UP);
-        reference.ok()
     }
 
     /// The caller has hung up.
@@ -338,5 +343,24 @@ impl Line {
         self.state = State::Idle;
         self.report(desk, me, facts::IS_FREE);
         self.waits()
+    }
+}
+
+/// Monitors a caller, and tells it that somebody has picked up.
+#[tactic(auto, using(pt_desk::proofs::Turning::goes_on_then))]
+fn connect(desk: &mut Desk, me: Pid, request: Request) -> State
+    ensures takes { takes desk.new.shard.journal ≡ takes desk.old.shard.journal }
+    ensures goes_on { GoesOn desk.old desk.new }
+{
+    let reference = monitor(desk, me, request.from).ok();
+    let _ = reply(desk, me, request, PICKED_UP);
+    talking(request.from, reference)
+}
+
+/// In a call with a caller that is monitored.
+fn talking(caller: Pid, reference: Option<Ref>) -> State {
+    match reference {
+        Some(reference) => State::Talking(caller, reference),
+        None => State::Idle,
     }
 }
