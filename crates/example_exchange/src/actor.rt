@@ -58,7 +58,10 @@ pub struct Lines {
 
 impl Start<Actor> for Lines {
     fn start(&mut self, _supervisor: Pid, place: usize) -> Result<(Actor, Next), Fault> {
-        let home = HOMES.get(place).copied().flatten();
+        let home = match HOMES.get(place) {
+            Some(home) => *home,
+            None => None,
+        };
         let Ok(place) = u32::try_from(place) else {
             return Err(Fault::Memory);
         };

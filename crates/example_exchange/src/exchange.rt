@@ -13,7 +13,7 @@ use crate::enquiries::Enquiries;
 use crate::words::Office;
 use pt_crew::{Crew, Next};
 use pt_names::Name;
-use pt_node::{Desk, Fault, Pick, Pid, Standing, Task, Turned, Work};
+use pt_node::{Desk, Fault, Pid, Standing, Task, Turned, Work};
 use std::alloc::Global;
 
 /// The exchange on its desk.
@@ -88,23 +88,29 @@ impl Exchange {
     {
         let office = self.staff(desk)?;
         let lines = supervisor(self.alloc, office)?;
-        let supervisor = self
-            .crew
-            .enter(desk, Actor::Supervisor(lines), Next::Proceed)?;
+        let supervisor = self.enter(desk, Actor::Supervisor(lines))?;
         self.office = Some(office);
         self.supervisor = Some(supervisor);
         Ok(())
     }
 
+    /// Lets the clerk and the registry enter.
     #[tactic(auto, using(pt_workers::proofs::GoingOn::stays, pt_desk::proofs::Turning::goes_on_then))]
     fn staff(&mut self, desk: &mut Desk) -> Result<Office, Fault>
         ensures { GoesOn desk.old desk.new }
     {
-        let clerk = Actor::Clerk(Clerk::new(self.alloc));
-        let clerk = self.crew.enter(desk, clerk, Next::Wait(Pick::Any))?;
-        let registry = Actor::Enquiries(Enquiries::new(self.alloc, clerk, self.names));
-        let registry = self.crew.enter(desk, registry, Next::Proceed)?;
+        let clerk = self.enter(desk, Actor::Clerk(Clerk::new(self.alloc)))?;
+        let enquiries = Enquiries::new(self.alloc, clerk, self.names);
+        let registry = self.enter(desk, Actor::Enquiries(enquiries))?;
         Ok(Office { registry, clerk })
+    }
+
+    /// Lets a process enter, which proceeds first.
+    #[tactic(auto, using(pt_workers::proofs::GoingOn::stays))]
+    fn enter(&mut self, desk: &mut Desk, actor: Actor) -> Result<Pid, Fault>
+        ensures { GoesOn desk.old desk.new }
+    {
+        self.crew.enter(desk, actor, Next::Proceed)
     }
 
     /// Goes on to the next moment, if nothing is left to do at this one. If there is no next one, it is done.
@@ -143,7 +149,7 @@ impl Exchange {
         let Some(caller) = self.next_caller(office) else {
             return;
         };
-        match self.crew.enter(desk, Actor::Caller(caller), Next::Proceed) {
+        match self.enter(desk, Actor::Caller(caller)) {
             Ok(_) => self.entered = self.entered.saturating_add(1),
             Err(_) => self.standing = Standing::Failed,
         }

@@ -130,17 +130,18 @@ impl Played {
             self.exchange.called_by(number)
         };
         match place {
-            Some(place) => LINES.get(place as usize).copied().unwrap_or("no line"),
+            Some(place) => name_at(place as usize),
             None => "no line",
         }
     }
 
     /// The number of lines that have entered.
-    fn living(&self) -> usize {
-        self.lines()
-            .iter()
-            .filter(|child| self.has_entered(child))
-            .count()
+    fn living(&self) -> u32 {
+        let mut living: u32 = 0;
+        for child in self.lines() {
+            living = living.saturating_add(u32::from(self.has_entered(child)));
+        }
+        living
     }
 
     fn has_entered(&self, child: &Child) -> bool {
@@ -161,10 +162,19 @@ impl Played {
         }
     }
 
+    /// Whether an alarm of a line is to ring.
+    fn has_alarms(&self) -> bool {
+        for child in self.lines() {
+            if self.has_alarm(child) {
+                return true;
+            }
+        }
+        false
+    }
+
     /// Whether a process waits until a time, or an alarm is to ring.
     fn has_timers(&self) -> bool {
-        self.exchange.crew().next_time().is_some()
-            || self.lines().iter().any(|child| self.has_alarm(child))
+        self.exchange.crew().next_time().is_some() || self.has_alarms()
     }
 
     /// What is left in the end.
@@ -182,6 +192,14 @@ impl Played {
             self.lines().len(),
             self.events
         )
+    }
+}
+
+/// The name of the line at a place.
+fn name_at(place: usize) -> &'static str {
+    match LINES.get(place) {
+        Some(name) => *name,
+        None => "no line",
     }
 }
 
