@@ -91,6 +91,21 @@ waited() {
     awk -v epochs="$1" '{ printf "plain scripts waits_%s %d\n", epochs, 1000000 * epochs / ($1 + $2 + 0.001) }' <<<"$seconds" >>"$raw"
 }
 
+# How often in a thousand seconds of processor time a script is run and its chart is drawn. It is of so many processes,
+# each of which sends the next a message and takes one.
+charted() {
+    local seconds script=$room/ring-$1.json
+    awk -v count="$1" 'BEGIN {
+        printf "{\"format\":1,\"desks\":4,\"slots\":4096,\"processes\":["
+        for (at = 0; at < count; at++)
+            printf "%s{\"name\":\"p%d\",\"desk\":%d,\"ops\":[{\"op\":\"send\",\"to\":\"p%d\",\"kind\":1,\"num\":%d},{\"op\":\"receive\"}]}",
+                at ? "," : "", at, at % 4, (at + 1) % count, at
+        print "]}"
+    }' >"$script"
+    seconds=$({ TIMEFORMAT='%U %S' && time "$room/crates/pt_run/out/pt_run" "$script" --print chart >/dev/null; } 2>&1)
+    awk -v count="$1" '{ printf "plain scripts ring_%s %d\n", count, 1000 / ($1 + $2 + 0.001) }' <<<"$seconds" >>"$raw"
+}
+
 # The kilobytes that a program has in memory when it is done, and had at most, and the pages that it was handed.
 remembered() {
     local name=$1
@@ -242,6 +257,7 @@ one_round() {
     fi
     if wants scripts; then
         for epochs in 1 2 3; do waited "$epochs"; done
+        for count in 1024 4096; do charted "$count"; done
     fi
     if wants bindings; then
         run plain "$desk" "$ms" ping_pong

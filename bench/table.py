@@ -159,7 +159,12 @@ table(
 table(
     "Scripts: turns a second while one process waits on a desk of 65,536 slots",
     ["Epochs", "Turns"],
-    [[it.removeprefix("waits_"), figure((plain, "scripts", it))] for it in works if (plain, "scripts", it) in rates],
+    [[it.removeprefix("waits_"), figure((plain, "scripts", it))] for it in works if it.startswith("waits_")],
+)
+table(
+    "Charts: milliseconds with the run of the script",
+    ["Processes", "Milliseconds"],
+    [[it.removeprefix("ring_"), time((plain, "scripts", it), 1e6)] for it in works if (plain, "scripts", it) in rates and it.startswith("ring_")],
 )
 
 

@@ -6,8 +6,9 @@
 # NAME.args has the words of a case, one a line; files are named from the top of the repository. NAME.stdout is what the
 # program must print, NAME.stderr what it must print on standard error (nothing if it is not there), and NAME.status its
 # status (0 if it is not there). The scripts of checks/examples have one case each, with the numbers of schedules and
-# outcomes that a model apart from this program counted; docs/EXPLORE.md has the race and how it is mended. The program
-# is bin/pt_explore, which is built first if it is not up to date.
+# outcomes that a model apart from this program counted; docs/EXPLORE.md has the race and how it is mended. In apart.json
+# three desks take three turns each and never meet, so there are 9! / (3! 3! 3!) schedules. The program is
+# bin/pt_explore, which is built first if it is not up to date.
 set -euo pipefail
 shopt -s nullglob
 
@@ -35,4 +36,9 @@ done
 
 # The schedule that is told can be run again: the same history, byte for byte.
 is_same "$work/out/race_history" "$work/out/race_again" race_again "the history of the schedule"
+
+# A person who looks on is told how many schedules were run so far; a file of standard error (above) is told nothing.
+ran[watched]=1
+python3 "$here/watched.py" "$root/bin/pt_explore" "$here/race.json" || wrong watched "a terminal is told nothing"
+
 verdict explore

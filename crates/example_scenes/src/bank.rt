@@ -1,4 +1,6 @@
 //! Four accounts on four desks, each with a teller, transfer money to each other: none is made or lost.
+//!
+//! Who has how much at the end differs from run to run: a payment that comes later may leave an order unpaid.
 
 ghost use Rattle.std.specs.Prelude.{◌≡◌};
 ghost use Rattle.pt_desk.specs.DeskState.{GoesOn};
@@ -6,13 +8,15 @@ ghost use Rattle.pt_crew.specs.Births.{kept_roles};
 ghost use Rattle.pt_crew.specs.Visiting.{takes};
 
 use crate::stage;
-use crate::stage::{DESKS, Stage, first_of};
+use crate::stage::{Curtain, DESKS, Stage, first_of};
 use anyhow::Result;
 use pt_crew::{Behaviour, Births, Next, send, spawn_child};
 use pt_node::{Body, Desk, Item, Pick, Pid};
 use std::alloc::Global;
 use std::fmt;
 use std::fmt::{Display, Formatter, Write};
+use std::sync::Wait;
+use std::thread::Threads;
 
 /// The kind of a teller's order: pay so much to the account that it names.
 const PAY: u32 = 1;
@@ -20,17 +24,23 @@ const PAY: u32 = 1;
 /// The kind of a payment from one account to another.
 const PAID: u32 = 2;
 
+/// The kind of the message by which a teller says that it gave its last order, and an account that it pays no more.
+const CLOSED: u32 = 3;
+
 /// The money that each account has at first.
 const AT_FIRST: i64 = 1_000;
 
 /// The number of orders that each teller gives.
 const ORDERS: i64 = 100;
 
-/// An account: its balance, and the number of orders that it could not pay.
+/// An account: its balance, the number of orders that it got, and the number of accounts that pay no more, its own among
+/// them.
 #[derive(Drop)]
-struct Account {
+struct Account<'a> {
     balance: i64,
-    refused: u32,
+    orders: u32,
+    closed: u8,
+    curtain: &'a Curtain,
 }
 
 /// A teller: it orders the account of its desk to pay, so many times more.
@@ -42,8 +52,8 @@ struct Teller {
 
 /// The processes of the bank.
 #[derive(Drop)]
-enum Clerk {
-    Account(Account),
+enum Clerk<'a> {
+    Account(Account<'a>),
     Teller(Teller),
 }
 
@@ -76,9 +86,30 @@ fn pay(desk: &mut Desk, me: Pid, to: Pid, amount: i64, balance: i64) -> Option<i
     }
 }
 
+/// Says to an account that this one pays no more.
+#[tactic(auto, using(pt_workers::proofs::GoingOn::stays))]
+fn close_to(desk: &mut Desk, me: Pid, other: Pid)
+    ensures takes { takes desk.new.shard.journal ≡ takes desk.old.shard.journal }
+    ensures goes_on { GoesOn desk.old desk.new }
+{
+    let _ = send(desk, me, other, message(CLOSED, 0, me));
+}
+
+/// Says so to the accounts of the other desks.
+#[tactic(auto, using(pt_workers::proofs::GoingOn::stays, pt_desk::proofs::Turning::goes_on_then))]
+fn close(desk: &mut Desk, me: Pid)
+    ensures takes { takes desk.new.shard.journal ≡ takes desk.old.shard.journal }
+    ensures goes_on { GoesOn desk.old desk.new }
+{
+    let next = me.shard.saturating_add(1);
+    close_to(desk, me, first_of(next % DESKS));
+    close_to(desk, me, first_of(next.saturating_add(1) % DESKS));
+    close_to(desk, me, first_of(next.saturating_add(2) % DESKS));
+}
+
 /// Spawns the teller of this account.
 #[tactic(auto, using(pt_workers::proofs::GoingOn::stays))]
-fn open(desk: &mut Desk, births: &mut Births<Clerk>, me: Pid) -> Next
+fn open<'a>(desk: &mut Desk, births: &mut Births<Clerk<'a>>, me: Pid) -> Next
     ensures takes { takes desk.new.shard.journal ≡ takes desk.old.shard.journal }
     ensures kept { kept_roles births.new ≡ kept_roles births.old }
     ensures goes_on { GoesOn desk.old desk.new }
@@ -91,35 +122,58 @@ fn open(desk: &mut Desk, births: &mut Births<Clerk>, me: Pid) -> Next
     Next::Wait(Pick::Any)
 }
 
-impl Account {
-    /// Does what an order says, or takes a payment.
+impl<'a> Account<'a> {
+    /// Takes a payment, does what an order says, or hears that an account pays no more.
     #[tactic(auto, using(pt_workers::proofs::GoingOn::stays))]
-    fn hear(&mut self, desk: &mut Desk, me: Pid, body: Body)
+    fn hear(&mut self, desk: &mut Desk, me: Pid, from: Pid, body: Body)
         ensures takes { takes desk.new.shard.journal ≡ takes desk.old.shard.journal }
         ensures goes_on { GoesOn desk.old desk.new }
     {
-        if body.kind == PAID {
-            self.balance = self.balance.saturating_add(body.num);
-            return;
+        match (body.kind, body.who) {
+            (PAID, _) => self.balance = self.balance.saturating_add(body.num),
+            (PAY, Some(to)) => self.obey(desk, me, to, body.num),
+            _ => self.hear_closed(desk, me, from),
         }
-        let Some(to) = body.who else {
-            return;
-        };
-        match pay(desk, me, to, body.num, self.balance) {
-            Some(left) => self.balance = left,
-            None => self.refused = self.refused.saturating_add(1),
+    }
+
+    /// Pays what an order says, if there is enough.
+    #[tactic(auto, using(pt_workers::proofs::GoingOn::stays))]
+    fn obey(&mut self, desk: &mut Desk, me: Pid, to: Pid, amount: i64)
+        ensures takes { takes desk.new.shard.journal ≡ takes desk.old.shard.journal }
+        ensures goes_on { GoesOn desk.old desk.new }
+    {
+        self.orders = self.orders.saturating_add(1);
+        if let Some(left) = pay(desk, me, to, amount, self.balance) {
+            self.balance = left;
+        }
+    }
+
+    /// Counts an account that pays no more. Of its own it hears so by its teller, and tells the others. Between two
+    /// processes messages keep their order, so once it has heard of all, no payment is on its way to it.
+    #[tactic(auto, using(pt_workers::proofs::GoingOn::stays))]
+    fn hear_closed(&mut self, desk: &mut Desk, me: Pid, from: Pid)
+        ensures takes { takes desk.new.shard.journal ≡ takes desk.old.shard.journal }
+        ensures goes_on { GoesOn desk.old desk.new }
+    {
+        self.closed = self.closed.saturating_add(1);
+        if self.closed == DESKS {
+            self.curtain.part_is_played();
+        }
+        if from.shard == me.shard {
+            close(desk, me);
         }
     }
 }
 
 impl Teller {
-    /// Gives the next order, if there is one.
+    /// Gives the next order, or says that there is none any more.
     #[tactic(auto, using(pt_workers::proofs::GoingOn::stays))]
     fn order(&mut self, desk: &mut Desk, me: Pid) -> Next
         ensures takes { takes desk.new.shard.journal ≡ takes desk.old.shard.journal }
         ensures goes_on { GoesOn desk.old desk.new }
     {
         if self.orders <= 0 {
+            let _ = send(desk, me, self.account, message(CLOSED, 0, me));
             return Next::Wait(Pick::Any);
         }
         let body = message(PAY, self.orders, other(self.account, self.orders));
@@ -129,7 +183,7 @@ impl Teller {
     }
 }
 
-impl Behaviour for Clerk {
+impl<'a> Behaviour for Clerk<'a> {
     ghost use Rattle.std.specs.Prelude.{⊤};
 
     ghost answers = { λ _ _ _ _ _ _ _ _. ⊤ };
@@ -138,7 +192,7 @@ impl Behaviour for Clerk {
     fn handle(
         &mut self,
         desk: &mut Desk,
-        births: &mut Births<Clerk>,
+        births: &mut Births<Clerk<'a>>,
         me: Pid,
         item: Option<Item>,
     ) -> Next {
@@ -146,8 +200,8 @@ impl Behaviour for Clerk {
             Clerk::Teller(teller) => teller.order(desk, me),
             Clerk::Account(account) => match item {
                 None => open(desk, births, me),
-                Some(Item::User(_, body)) => {
-                    account.hear(desk, me, body);
+                Some(Item::User(from, body)) => {
+                    account.hear(desk, me, from, body);
                     Next::Wait(Pick::Any)
                 }
                 Some(_) => Next::Wait(Pick::Any),
@@ -159,53 +213,51 @@ impl Behaviour for Clerk {
 /// The result of the scene.
 #[derive(Clone, Copy, Debug)]
 pub struct Bank {
-    balances: [i64; 4],
-    refused: u32,
+    orders: u32,
+    sum: i64,
 }
 
 impl Display for Bank {
     fn fmt<W: Write>(&self, f: &mut Formatter<W>) -> fmt::Result {
-        let [a, b, c, d] = self.balances;
-        let sum = a.saturating_add(b).saturating_add(c).saturating_add(d);
         write!(
             f,
-            "bank: accounts of {a}, {b}, {c} and {d}, {sum} in all; {} orders were not paid",
-            self.refused
+            "bank: 4 accounts got {} orders to pay each other, and have {} in all",
+            self.orders, self.sum
         )
     }
 }
 
 impl Bank {
     /// Adds the account of that desk.
-    fn add(&mut self, desk: u8, stage: &Stage<Clerk>) {
+    fn add(&mut self, desk: u8, stage: &Stage<Clerk<'_>>) {
         if let Some(Clerk::Account(account)) = stage.crew().behaviour(first_of(desk)) {
-            self.balances[(desk % 4) as usize] = account.balance;
-            self.refused = self.refused.saturating_add(account.refused);
+            self.orders = self.orders.saturating_add(account.orders);
+            self.sum = self.sum.saturating_add(account.balance);
         }
     }
 }
 
-fn desk_of(alloc: Global) -> Stage<Clerk> {
+fn desk_of<'a>(alloc: Global, curtain: &'a Curtain) -> Stage<Clerk<'a>> {
     let account = Account {
         balance: AT_FIRST,
-        refused: 0,
+        orders: 0,
+        closed: 0,
+        curtain,
     };
     Stage::new(alloc, 8, Clerk::Account(account))
 }
 
-/// Plays the scene.
-pub fn play(alloc: Global) -> Result<Bank> {
+/// Plays the scene. It ends when each account knows that no payment is on its way to it.
+pub fn play<R: Threads + Wait + Sync>(rt: &R, alloc: Global) -> Result<Bank> {
+    let curtain = Curtain::new(alloc, u64::from(DESKS))?;
     let stages = [
-        desk_of(alloc),
-        desk_of(alloc),
-        desk_of(alloc),
-        desk_of(alloc),
+        desk_of(alloc, &curtain),
+        desk_of(alloc, &curtain),
+        desk_of(alloc, &curtain),
+        desk_of(alloc, &curtain),
     ];
-    let works = stage::play(alloc, 4, 200, stages)?;
-    let mut bank = Bank {
-        balances: [0; 4],
-        refused: 0,
-    };
+    let works = stage::play(rt, alloc, 4, stages, &curtain)?;
+    let mut bank = Bank { orders: 0, sum: 0 };
     for desk in 0..DESKS {
         if let Some(stage) = works.get(desk as usize) {
             bank.add(desk, stage);

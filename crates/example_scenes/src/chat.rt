@@ -1,17 +1,22 @@
 //! A room on the first desk, and on each of the others a guest that joins it, says some words, and crashes.
+//!
+//! A guest says its next word when it hears one. How many others hear a word differs from run to run: they may have
+//! joined later, or have crashed before.
 
 ghost use Rattle.std.specs.Prelude.{◌≡◌, ◌<◌};
 ghost use Rattle.pt_desk.specs.DeskState.{GoesOn};
 ghost use Rattle.pt_crew.specs.Visiting.{takes};
 
 use crate::stage;
-use crate::stage::{Stage, first_of};
+use crate::stage::{Curtain, Stage, first_of};
 use anyhow::Result;
 use pt_crew::{Behaviour, Births, Next, monitor, send};
 use pt_node::{Body, Desk, Item, Pick, Pid, Reason};
 use std::alloc::Global;
 use std::fmt;
 use std::fmt::{Display, Formatter, Write};
+use std::sync::Wait;
+use std::thread::Threads;
 
 /// The kind of the message with which a guest joins.
 const JOIN: u32 = 1;
@@ -19,22 +24,23 @@ const JOIN: u32 = 1;
 /// The kind of a word, sent to the room and by the room to its guests.
 const SAY: u32 = 2;
 
-/// The number of words that each guest says.
+/// The number of words that each guest says, after its greeting.
 const WORDS: u32 = 5;
 
-/// A room: its guests, the number of words that it has passed on, and the number of guests that have crashed.
+/// A room: its guests, the number of words that it has heard and passed on, and the number of guests that have crashed.
 #[derive(Drop)]
-struct Hall {
+struct Hall<'a> {
     guests: [Option<Pid>; 3],
-    passed: u32,
+    heard: u32,
     crashed: u32,
+    curtain: &'a Curtain,
 }
 
 /// The processes of the chat.
 #[derive(Drop)]
-enum Talker {
+enum Talker<'a> {
     /// The room.
-    Room(Hall),
+    Room(Hall<'a>),
     /// A guest, and the number of words that it still has to say.
     Guest { words: u32 },
 }
@@ -54,31 +60,26 @@ fn seat(guest: Pid) -> usize
     (guest.shard as usize + 2) % 3
 }
 
-/// Passes a word on to a guest, if there is one, and returns the number of guests that it was passed on to.
+/// Passes a word on to a guest, if there is one.
 #[tactic(auto, using(pt_workers::proofs::GoingOn::stays))]
-fn pass(desk: &mut Desk, me: Pid, guest: Option<Pid>, word: i64) -> u32
+fn pass(desk: &mut Desk, me: Pid, guest: Option<Pid>, word: i64)
     ensures takes { takes desk.new.shard.journal ≡ takes desk.old.shard.journal }
     ensures goes_on { GoesOn desk.old desk.new }
 {
-    let Some(guest) = guest else {
-        return 0;
-    };
-    match send(desk, me, guest, message(SAY, word)) {
-        Ok(()) => 1,
-        Err(_) => 0,
+    if let Some(guest) = guest {
+        let _ = send(desk, me, guest, message(SAY, word));
     }
 }
 
 /// Passes a word on to all guests.
 #[tactic(auto, using(pt_workers::proofs::GoingOn::stays, pt_desk::proofs::Turning::goes_on_then))]
-fn pass_to_all(desk: &mut Desk, me: Pid, guests: [Option<Pid>; 3], word: i64) -> u32
+fn pass_to_all(desk: &mut Desk, me: Pid, guests: [Option<Pid>; 3], word: i64)
     ensures takes { takes desk.new.shard.journal ≡ takes desk.old.shard.journal }
     ensures goes_on { GoesOn desk.old desk.new }
 {
-    let first = pass(desk, me, guests[0], word);
-    let second = pass(desk, me, guests[1], word);
-    let third = pass(desk, me, guests[2], word);
-    first.saturating_add(second).saturating_add(third)
+    pass(desk, me, guests[0], word);
+    pass(desk, me, guests[1], word);
+    pass(desk, me, guests[2], word);
 }
 
 /// Says the next word, and returns what the guest does next: it crashes when no word is left.
@@ -96,9 +97,9 @@ fn speak(desk: &mut Desk, me: Pid, words: &mut u32) -> Next
 }
 
 /// Handles an item of the room: it monitors a guest that joins, passes a word on to all, and removes a guest that is
-/// down.
+/// down. After the last guest it closes.
 #[tactic(auto, using(pt_workers::proofs::GoingOn::stays))]
-fn receive(desk: &mut Desk, me: Pid, hall: &mut Hall, item: Option<Item>)
+fn receive(desk: &mut Desk, me: Pid, hall: &mut Hall<'_>, item: Option<Item>)
     ensures takes { takes desk.new.shard.journal ≡ takes desk.old.shard.journal }
     ensures goes_on { GoesOn desk.old desk.new }
 {
@@ -108,12 +109,15 @@ fn receive(desk: &mut Desk, me: Pid, hall: &mut Hall, item: Option<Item>)
             let _ = monitor(desk, me, guest);
         }
         Some(Item::User(_, body)) => {
-            let passed = pass_to_all(desk, me, hall.guests, body.num);
-            hall.passed = hall.passed.saturating_add(passed);
+            hall.heard = hall.heard.saturating_add(1);
+            pass_to_all(desk, me, hall.guests, body.num);
         }
         Some(Item::Down(_, guest, _)) => {
             hall.guests[seat(guest)] = None;
             hall.crashed = hall.crashed.saturating_add(1);
+            if hall.crashed == 3 {
+                hall.curtain.part_is_played();
+            }
         }
         _ => {}
     }
@@ -138,7 +142,7 @@ fn join(desk: &mut Desk, me: Pid)
     tell_room(desk, me, SAY);
 }
 
-impl Behaviour for Talker {
+impl<'a> Behaviour for Talker<'a> {
     ghost use Rattle.std.specs.Prelude.{⊤};
 
     ghost answers = { λ _ _ _ _ _ _ _ _. ⊤ };
@@ -147,7 +151,7 @@ impl Behaviour for Talker {
     fn handle(
         &mut self,
         desk: &mut Desk,
-        _births: &mut Births<Talker>,
+        _births: &mut Births<Talker<'a>>,
         me: Pid,
         item: Option<Item>,
     ) -> Next {
@@ -170,7 +174,7 @@ impl Behaviour for Talker {
 /// The result of the scene.
 #[derive(Clone, Copy, Debug)]
 pub struct Chat {
-    passed: u32,
+    heard: u32,
     crashed: u32,
     left: usize,
 }
@@ -179,37 +183,44 @@ impl Display for Chat {
     fn fmt<W: Write>(&self, f: &mut Formatter<W>) -> fmt::Result {
         write!(
             f,
-            "chat: {} words were passed on, {} guests crashed, {} are left",
-            self.passed, self.crashed, self.left
+            "chat: the room heard {} words, {} guests crashed, {} are left",
+            self.heard, self.crashed, self.left
         )
     }
 }
 
-fn room(alloc: Global) -> Stage<Talker> {
+fn room<'a>(alloc: Global, curtain: &'a Curtain) -> Stage<Talker<'a>> {
     let hall = Hall {
         guests: [None; 3],
-        passed: 0,
+        heard: 0,
         crashed: 0,
+        curtain,
     };
     Stage::new(alloc, 8, Talker::Room(hall))
 }
 
-fn guest(alloc: Global) -> Stage<Talker> {
+fn guest<'a>(alloc: Global) -> Stage<Talker<'a>> {
     Stage::new(alloc, 8, Talker::Guest { words: WORDS })
 }
 
-/// Plays the scene.
-pub fn play(alloc: Global) -> Result<Chat> {
-    let stages = [room(alloc), guest(alloc), guest(alloc), guest(alloc)];
-    let works = stage::play(alloc, 4, 60, stages)?;
+/// Plays the scene. It ends when the room has heard of the crash of the last guest.
+pub fn play<R: Threads + Wait + Sync>(rt: &R, alloc: Global) -> Result<Chat> {
+    let curtain = Curtain::new(alloc, 1)?;
+    let stages = [
+        room(alloc, &curtain),
+        guest(alloc),
+        guest(alloc),
+        guest(alloc),
+    ];
+    let works = stage::play(rt, alloc, 4, stages, &curtain)?;
     let mut chat = Chat {
-        passed: 0,
+        heard: 0,
         crashed: 0,
         left: 0,
     };
     for stage in works.iter() {
         if let Some(Talker::Room(hall)) = stage.crew().behaviour(first_of(0)) {
-            chat.passed = hall.passed;
+            chat.heard = hall.heard;
             chat.crashed = hall.crashed;
         } else {
             chat.left = chat.left.saturating_add(stage.crew().len());

@@ -1,4 +1,5 @@
-//! Five scenes of processes that run code, each on four desks. They are:
+//! Five scenes of processes that run code, each on four desks that rest while there is nothing to do. Each desk has a
+//! thread of its own, and the scene ends by what its processes do. They are:
 //!
 //! - a ring of a thousand processes;
 //! - a bank with a sum that stays;
@@ -10,7 +11,7 @@
 //!
 //! - **The team.** On each desk every child that its supervisor wants alive is alive, once the node is gathered.
 //!   (`AllChildrenLive`)
-//! - **The others.** Each scene terminates without a fault. What they print is compared.
+//! - **The others.** Nothing goes wrong in a scene. That it ends, and what it prints, is seen by its run.
 #![tactic(auto)]
 
 mod bank;
@@ -24,10 +25,11 @@ use anyhow::Result;
 
 fn main(rt: HostRuntime) -> Result<()> {
     let alloc = rt.alloc();
-    println!(rt; "{}", ring::play(alloc)?)?;
-    println!(rt; "{}", bank::play(alloc)?)?;
-    println!(rt; "{}", chat::play(alloc)?)?;
-    println!(rt; "{}", jobs::play(alloc)?)?;
-    println!(rt; "{}", team::play(alloc)?)?;
+    println!(rt; "{}", ring::play(&rt, alloc)?)?;
+    println!(rt; "{}", bank::play(&rt, alloc)?)?;
+    println!(rt; "{}", chat::play(&rt, alloc)?)?;
+    println!(rt; "{}", jobs::play(&rt, alloc)?)?;
+    let curtain = team::curtain(alloc)?;
+    println!(rt; "{}", team::play(&rt, alloc, &curtain)?)?;
     Ok(())
 }

@@ -1,14 +1,24 @@
-//! A desk of a scene: its crew, which the desk's first process enters in the first step.
+//! The stage of a scene: four desks that rest while there is nothing to do, each with a crew on a thread of its own,
+//! and the curtain at which all of them end.
 
+ghost use Rattle.std.specs.Prelude.{◌≡◌, IfOk};
 ghost use Rattle.pt_desk.specs.DeskState.{GoesOn};
 
 use anyhow::{Result, bail};
 use pt_crew::{Behaviour, Crew, Next};
 use pt_node::{Config, Desk, FreeGate, Node, Pid, Turned, Work};
-use std::alloc::Global;
+use pt_resting::{Bells, RestGate, RestingWork, Rests};
+use std::alloc::{AllocError, Global};
+use std::sync::Wait;
+use std::sync::atomic::{AtomicU64, Ordering};
+use std::thread::Threads;
+use std::time::Duration;
 
 /// The number of desks of a scene.
 pub const DESKS: u8 = 4;
+
+/// The number of letters that a turn handles at most.
+pub const BUDGET: u32 = 256;
 
 /// The first process of a desk, which others name by its place.
 pub fn first_of(desk: u8) -> Pid {
@@ -16,6 +26,43 @@ pub fn first_of(desk: u8) -> Pid {
         shard: desk,
         slot: 0,
         version: 1,
+    }
+}
+
+/// The curtain of a scene. It falls once all parts have been played, and then the workers of all desks end.
+///
+/// All processes of the scene share it. Each says once that its part is played.
+#[derive(Drop)]
+pub struct Curtain {
+    bells: Bells,
+    /// The number of parts that have not been played yet.
+    parts: AtomicU64,
+}
+
+impl Curtain {
+    /// A curtain that falls after so many parts.
+    pub fn new(alloc: Global, parts: u64) -> Result<Curtain, AllocError> {
+        Ok(Curtain {
+            bells: Bells::new(alloc, DESKS)?,
+            parts: AtomicU64::new(parts),
+        })
+    }
+
+    /// A part has been played. If it was the last, the curtain falls.
+    pub fn part_is_played(&self) {
+        if self.parts.fetch_sub(1, Ordering::SeqCst) == 1 {
+            self.bells.stop();
+        }
+    }
+
+    /// The bells by which the desks wake each other.
+    pub fn bells(&self) -> &Bells {
+        &self.bells
+    }
+
+    /// The gate at which workers rest, and at which they end once the curtain has fallen.
+    pub fn gate<'a, R: Wait>(&'a self, rt: &'a R) -> RestGate<'a, R> {
+        RestGate::new(rt, &self.bells, Duration::from_millis(100))
     }
 }
 
@@ -35,17 +82,6 @@ impl<B: Behaviour + Drop> Stage<B> {
         }
     }
 
-    /// Lets the first process enter, if it has not yet. If the desk cannot spawn it, none enters.
-    #[tactic(auto, using(pt_workers::proofs::GoingOn::stays))]
-    fn begin(&mut self, desk: &mut Desk)
-        ensures { GoesOn desk.old desk.new }
-    {
-        let Some(first) = self.first.take() else {
-            return;
-        };
-        let _ = self.crew.enter(desk, first, Next::Proceed);
-    }
-
     /// The crew, to be read.
     pub fn crew(&self) -> &Crew<B> {
         &self.crew
@@ -57,32 +93,79 @@ impl<B: Behaviour + Drop> Work for Stage<B> {
 
     ghost does = { λ _ _ _ _. ⊤ };
 
-    #[tactic(auto, using(pt_desk::proofs::Turning::goes_on_then))]
+    /// Lets the first process enter, and does nothing else in that step. If the desk cannot spawn it, none enters.
+    #[tactic(auto, using(pt_workers::proofs::GoingOn::stays))]
     fn step(&mut self, desk: &mut Desk) {
-        self.begin(desk);
-        self.crew.step(desk);
+        let Some(first) = self.first.take() else {
+            self.crew.step(desk);
+            return;
+        };
+        let _ = self.crew.enter(desk, first, Next::Proceed);
     }
 
     fn turned(&mut self, _desk: &Desk, _turned: Turned) {}
 }
 
-/// Plays a scene: so many rounds of turns over four desks. It returns what their crews are then.
-pub fn play<B: Behaviour + Drop>(
+impl<B: Behaviour + Drop> Rests for Stage<B> {
+    fn has_work(&self) -> bool {
+        self.crew.has_work()
+    }
+}
+
+/// The works of desks that rest at this curtain, in order.
+fn resting<'a, W: Rests + Drop>(
+    alloc: Global,
+    works: Vec<W>,
+    curtain: &'a Curtain,
+) -> Result<Vec<RestingWork<'a, W>>, AllocError> {
+    let mut around = Vec::with_capacity(alloc, works.len())?;
+    let mut left = works;
+    left.reverse();
+    while let Some(work) = left.pop() {
+        around.push_reserved(RestingWork::new(work, curtain.bells()));
+    }
+    Ok(around)
+}
+
+/// The works of desks that do not rest any more, in order.
+pub fn rested<'a, W: Rests + Drop>(
+    alloc: Global,
+    works: Vec<RestingWork<'a, W>>,
+) -> Result<Vec<W>, AllocError>
+    ensures { IfOk result (λ r. r.items ≡ works.entry.items) }
+{
+    let mut within = Vec::with_capacity(alloc, works.len())?;
+    let mut left = works;
+    left.reverse();
+    while let Some(work) = left.pop() {
+        within.push_reserved(work.into_work());
+    }
+    Ok(within)
+}
+
+/// Plays a scene over four desks until the curtain falls. It returns what their crews are then.
+///
+/// The first process of each desk enters in a round on the calling thread. So each of them is there before any other
+/// sends to it. All that follows happens on the threads of the desks.
+pub fn play<R: Threads + Wait + Sync, B: Behaviour + Drop + Send>(
+    rt: &R,
     alloc: Global,
     slots: u32,
-    rounds: u64,
     stages: [Stage<B>; 4],
+    curtain: &Curtain,
 ) -> Result<Vec<Stage<B>>> {
-    let config = Config::DEFAULT.with_desks(DESKS).with_slots(slots);
-    let mut node = Node::open(alloc, config)?;
-    let Ok(mut works) = Vec::from_array(alloc, stages) else {
+    let Ok(stages) = Vec::from_array(alloc, stages) else {
         bail!("no memory for the stages");
     };
-    if node
-        .run_single(&mut works, rounds, 1_024, &FreeGate)
-        .is_err()
-    {
+    let mut works = resting(alloc, stages, curtain)?;
+    let config = Config::DEFAULT.with_desks(DESKS).with_slots(slots);
+    let mut node = Node::open(alloc, config)?;
+    if node.run_single(&mut works, 1, BUDGET, &FreeGate).is_err() {
+        bail!("the first processes do not enter");
+    }
+    let gate = curtain.gate(rt);
+    if node.run(rt, &mut works, u64::MAX, BUDGET, &gate).is_err() {
         bail!("the scene does not run");
     }
-    Ok(works)
+    Ok(rested(alloc, works)?)
 }

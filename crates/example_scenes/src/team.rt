@@ -1,5 +1,6 @@
-//! A supervisor on each desk, whose workers crash as they begin. Once the node is still it is settled. Then each child
-//! that its supervisor wants alive is alive, by the theorem on nodes that are still.
+//! A supervisor on each desk, whose workers crash as they begin. Once all have started workers that stay, and the node
+//! is still, it is settled. Then each child that its supervisor wants alive is alive, by the theorem on nodes that are
+//! still.
 
 ghost use Rattle.std.specs.Prelude.{◌≡◌, IfOk, Ok};
 ghost use Rattle.pt_crew.specs.declared.behaviour.Next.{Next};
@@ -15,35 +16,43 @@ ghost use Rattle.pt_supervisor.specs.Stopping.{StoppedChildrenEnded};
 ghost use Rattle.example_scenes.specs.declared.team.Member.{Member};
 ghost use Rattle.example_scenes.specs.Team.{AreTeams, boss_of};
 
-use crate::stage::{DESKS, first_of};
+use crate::stage::{BUDGET, Curtain, DESKS, first_of, rested};
 use anyhow::{Result, bail};
 use pt_crew::{Behaviour, Births, Crew, Next, are_idle};
 use pt_node::{Account, Config, Desk, Fault, FreeGate, Item, Node, Pick, Pid, Quiet, Reason, open};
+use pt_resting::{RestGate, RestingWork};
 use pt_supervisor::{
     Child, Limit, Restart, Start, Strategy, Supervised, Supervisor, gathered_children_live,
     quiet_children_live, stopped_children_ended,
 };
 use std::alloc::{AllocError, Global};
 use std::fmt::{self, Display, Formatter, Write};
+use std::sync::Wait;
+use std::thread::Threads;
 
 /// The number of workers of each desk that crash before the others stay.
 const CRASHES: u32 = 5;
 
 const CRASH: Reason = Reason::Other(1);
 
+/// The number of children of each supervisor.
+const CHILDREN: u64 = 3;
+
 /// The children: workers, of which so many crash before the others stay.
 #[derive(Clone, Copy, Drop)]
-struct Workers {
+struct Workers<'a> {
     crashes: u32,
+    curtain: &'a Curtain,
 }
 
-impl Start<Member> for Workers {
+impl<'a> Start<Member<'a>> for Workers<'a> {
     ghost starts = { λ old boss place result new. (b : Member) (first : Next) → result ≡ Ok (b, first)
         → SupervisorBegins (boss_of b) first };
 
-    fn start(&mut self, _supervisor: Pid, _place: usize) -> Result<(Member, Next), Fault> {
+    fn start(&mut self, _supervisor: Pid, _place: usize) -> Result<(Member<'a>, Next), Fault> {
         let worker = Member { boss: None };
         if self.crashes == 0 {
+            self.curtain.part_is_played();
             return Ok((worker, Next::Wait(Pick::Any)));
         }
         self.crashes -= 1;
@@ -53,18 +62,18 @@ impl Start<Member> for Workers {
 
 /// A supervisor, or a worker, which keeps what it gets.
 #[derive(Drop)]
-struct Member {
-    boss: Option<Supervisor<Workers>>,
+struct Member<'a> {
+    boss: Option<Supervisor<Workers<'a>>>,
 }
 
-impl Behaviour for Member {
+impl<'a> Behaviour for Member<'a> {
     ghost answers = { AnswerAs boss_of };
 
     #[tactic(auto, using(pt_workers::proofs::GoingOn::stays))]
     fn handle(
         &mut self,
         desk: &mut Desk,
-        births: &mut Births<Member>,
+        births: &mut Births<Member<'a>>,
         me: Pid,
         item: Option<Item>,
     ) -> Next {
@@ -75,70 +84,99 @@ impl Behaviour for Member {
     }
 }
 
-impl Supervised for Member {
+impl<'a> Supervised for Member<'a> {
     ghost supervisor = { boss_of };
 
     ghost supervises = { λ b d me item next now e births h. h };
 }
 
 /// A supervisor of three permanent children, which starts each again by itself, at most a hundred times.
-fn team(alloc: Global) -> Result<Member, AllocError>
+fn team<'a>(alloc: Global, curtain: &'a Curtain) -> Result<Member<'a>, AllocError>
     ensures { IfOk result (λ b. SupervisorBegins (boss_of b) Next.Proceed) }
 {
     let child = Child::new(Restart::Permanent);
     let children = vec![in alloc; child, child, child]?;
     let limit = Limit::new(alloc, 100, u64::MAX)?;
-    let workers = Workers { crashes: CRASHES };
+    let workers = Workers {
+        crashes: CRASHES,
+        curtain,
+    };
     let boss = Supervisor::new(workers, Strategy::OneForOne, children, limit);
     Ok(Member { boss: Some(boss) })
 }
 
 /// The crew of a desk, which its supervisor has entered.
-fn staffed(alloc: Global, desk: &mut Desk) -> Result<Crew<Member>>
+fn staffed<'a>(alloc: Global, desk: &mut Desk, curtain: &'a Curtain) -> Result<Crew<Member<'a>>>
     ensures upholds { IfOk result (λ c. UpholdsOn (Keeps boss_of) c desk.new.shard) }
     ensures goes_on { GoesOn desk.old desk.new }
 {
-    quiet_children_live::<Member>();
+    quiet_children_live::<Member<'a>>();
     let mut crew = Crew::new(alloc, 8);
-    let boss = team(alloc)?;
+    let boss = team(alloc, curtain)?;
     crew.enter(desk, boss, Next::Proceed)?;
     Ok(crew)
 }
 
-/// A crew for each desk, which its supervisor has entered.
-fn all_staffed(alloc: Global, desks: &mut Vec<Desk>) -> Result<Vec<Crew<Member>>>
+/// A crew for each desk, which its supervisor has entered. The desk rests while there is nothing to do.
+fn all_staffed<'a>(
+    alloc: Global,
+    desks: &mut Vec<Desk>,
+    curtain: &'a Curtain,
+) -> Result<Vec<RestingWork<'a, Crew<Member<'a>>>>>
     ensures upholds { IfOk result (λ crews. AreTeams crews.items desks.new.items) }
     ensures node { AreDesks desks.old.items → AreDesks desks.new.items }
 {
     let mut crews = Vec::new(alloc);
     for place in 0..desks.len() {
-        let crew = staffed(alloc, &mut desks[place])?;
-        crews.push(crew)?;
+        let crew = staffed(alloc, &mut desks[place], curtain)?;
+        let work = RestingWork::new(crew, curtain.bells());
+        crews.push(work)?;
     }
     Ok(crews)
 }
 
 /// Opens the node, with a supervisor on each desk.
-fn opened(alloc: Global) -> Result<(Node, Vec<Crew<Member>>)>
+fn opened<'a>(
+    alloc: Global,
+    curtain: &'a Curtain,
+) -> Result<(Node, Vec<RestingWork<'a, Crew<Member<'a>>>>)>
     ensures { IfOk result (λ r. AreTeams r.1.items r.0) }
 {
     let mut desks = open(alloc, Config::DEFAULT.with_desks(DESKS).with_slots(16))?;
-    let crews = all_staffed(alloc, &mut desks);
+    let crews = all_staffed(alloc, &mut desks, curtain);
     // desks cannot be dropped, and a node can
     let node = Node::of_desks(alloc, desks);
     Ok((node, crews?))
 }
 
-/// Runs the crews until no process has anything to do, and no letter is in flight.
-fn come_to_rest(node: &mut Node, crews: &mut Vec<Crew<Member>>) -> Result<()>
+/// Runs the crews, each on the thread of its desk, until the curtain falls.
+fn perform<'a, R: Threads + Wait + Sync>(
+    rt: &R,
+    node: &mut Node,
+    crews: &mut Vec<RestingWork<'a, Crew<Member<'a>>>>,
+    curtain: &Curtain,
+) -> Result<()>
+    ensures { IfOk result (λ _. AreTeams crews.old.items node.old → AreTeams crews.new.items node.new) }
+{
+    let gate = curtain.gate(rt);
+    gathered_children_live::<Member<'a>, RestGate<'_, R>>(&gate);
+    if node.run(rt, crews, u64::MAX, BUDGET, &gate).is_err() {
+        bail!("the scene does not run");
+    }
+    Ok(())
+}
+
+/// Lets the processes that are there do what they have to, in rounds on the calling thread. Then no process has anything
+/// to do, and no letter is in flight.
+fn come_to_rest<'a>(node: &mut Node, crews: &mut Vec<Crew<Member<'a>>>) -> Result<()>
     ensures upholds { IfOk result (λ _. AreTeams crews.old.items node.old → AreTeams crews.new.items node.new) }
     ensures still { IfOk result (λ _. AreIdle crews.new.items node.new × AreStill node.new) }
 {
-    gathered_children_live::<Member, FreeGate>(&FreeGate);
-    if node.run_single(crews, 50, 1_024, &FreeGate).is_err() {
+    gathered_children_live::<Member<'a>, FreeGate>(&FreeGate);
+    if node.run_single(crews, 8, BUDGET, &FreeGate).is_err() {
         bail!("the scene does not run");
     }
-    if node.turn_until_still(1_024).stopped.is_some() {
+    if node.turn_until_still(BUDGET).stopped.is_some() {
         bail!("the node is not still");
     }
     if !are_idle(crews.as_slice(), node.desks()) {
@@ -160,26 +198,37 @@ fn settled(node: Node) -> Result<Quiet>
 
 /// The crews of a node that is still, and the settled node.
 #[derive(Drop)]
-pub struct Teams {
-    crews: Vec<Crew<Member>>,
+pub struct Teams<'a> {
+    crews: Vec<Crew<Member<'a>>>,
     quiet: Quiet,
 }
 
-/// Plays the scene until all is still. Then each child that its supervisor wants alive is alive. If a supervisor stops
-/// by itself, no child that it started is alive, unless the child sent it an exit signal.
-pub fn play(alloc: Global) -> Result<Teams>
+/// The curtain of the scene: it falls once all supervisors have started children that stay.
+pub fn curtain(alloc: Global) -> Result<Curtain, AllocError> {
+    Curtain::new(alloc, CHILDREN * u64::from(DESKS))
+}
+
+/// Plays the scene until the curtain falls, and all is still. Then each child that its supervisor wants alive is alive.
+/// If a supervisor stops by itself, no child that it started is alive, unless the child sent it an exit signal.
+pub fn play<'a, R: Threads + Wait + Sync>(
+    rt: &R,
+    alloc: Global,
+    curtain: &'a Curtain,
+) -> Result<Teams<'a>>
     ensures live { IfOk result (λ t. AllChildrenLive boss_of t.crews.items t.quiet.gathered) }
     ensures stopped { StoppedChildrenEnded boss_of }
 {
-    gathered_children_live::<Member, FreeGate>(&FreeGate);
-    stopped_children_ended::<Member>();
-    let (mut node, mut crews) = opened(alloc)?;
+    gathered_children_live::<Member<'a>, FreeGate>(&FreeGate);
+    stopped_children_ended::<Member<'a>>();
+    let (mut node, mut works) = opened(alloc, curtain)?;
+    perform(rt, &mut node, &mut works, curtain)?;
+    let mut crews = rested(alloc, works)?;
     come_to_rest(&mut node, &mut crews)?;
     let quiet = settled(node)?;
     Ok(Teams { crews, quiet })
 }
 
-impl Teams {
+impl<'a> Teams<'a> {
     /// The children of a desk's supervisor.
     fn children(&self, desk: u8) -> &[Child] {
         let Some(crew) = self.crews.get(usize::from(desk)) else {
@@ -213,7 +262,7 @@ impl Teams {
     }
 }
 
-impl Display for Teams {
+impl<'a> Display for Teams<'a> {
     fn fmt<W: Write>(&self, f: &mut Formatter<W>) -> fmt::Result {
         write!(f, "team: {CRASHES} workers of each desk crashed")?;
         for desk in 0..DESKS {

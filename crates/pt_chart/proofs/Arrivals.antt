@@ -39,7 +39,7 @@ pub queues_all : (a : Pid) (events : List Stamped) (at : ℕ) (queued : QueuedRo
 queues_all a events at queued h are q =
     sym (append-nil (rows_queued queued q)) ∙ ap (λ es. rows_queued queued q ++ receipts_from at a q es) (sym (drop_all at events h)) ∙ are q
 
-same_pid_turned : (p q : Pid) → same_pid p q ≡ same_pid q p
+pub same_pid_turned : (p q : Pid) → same_pid p q ≡ same_pid q p
 same_pid_turned p q = go (same_pid p q) refl (same_pid q p) refl
   where
     go : (c : Bool) → same_pid p q ≡ c → (d : Bool) → same_pid q p ≡ d → same_pid p q ≡ same_pid q p

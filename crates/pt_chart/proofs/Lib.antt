@@ -9,3 +9,4 @@ pub mod Legal
 pub mod Numbering
 pub mod Writing
 pub mod Calling
+pub mod Mentioning

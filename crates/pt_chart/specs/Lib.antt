@@ -4,6 +4,7 @@ pub mod Page
 pub mod Rows
 pub mod Standing
 pub mod Receiving
+pub mod Mentioning
 pub mod Replying
 pub mod Points
 pub mod Text

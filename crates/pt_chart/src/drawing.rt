@@ -1,14 +1,15 @@
 //! Drawing the chart, from its background to its foreground.
 
 ghost use Rattle.std.specs.Prelude.{◌≡◌, ◌==◌, ◌/◌, ◌<◌, [], ◌∷◌, ◌++◌, IfOk, IfSome, OnOk, length, map, not, position, slice_index};
-ghost use Rattle.std.specs.Prelude.{string_bytes, cond, slice_index_or};
+ghost use Rattle.std.specs.Prelude.{List, string_bytes, cond, is_some, slice_get, slice_index_or};
 ghost use Rattle.std.specs.Option.{option_map};
 ghost use Rattle.pt_signal.specs.Values.{same_pid};
 ghost use Rattle.pt_chart.specs.declared.part.Part.TheVariants.{Mark as MarkPart, Name};
-ghost use Rattle.pt_chart.specs.Chart.{named_columns};
-ghost use Rattle.std.specs.List.{list_any};
+ghost use Rattle.pt_events.specs.declared.event.Stamped.{Stamped};
+ghost use Rattle.pt_chart.specs.Mentioning.{AreMentions};
+ghost use Rattle.pt_chart.specs.Receiving.{rows_queued};
 ghost use Rattle.pt_chart.specs.Drawing.{IsChart, bears, begins_row, block, column, drawing_text, drawn, end, ends_row};
-ghost use Rattle.pt_chart.specs.Drawing.{is_in_block, name_in, names_due};
+ghost use Rattle.pt_chart.specs.Drawing.{name_in, names_due};
 ghost use Rattle.pt_chart.specs.Drawing.{event_bearing, event_mark, called_given, ground, label_beside, letters, line_parts};
 ghost use Rattle.pt_chart.specs.Drawing.{longest_beside, mark, name, column_names, each_numbered, page_of, place_in};
 ghost use Rattle.pt_chart.specs.Drawing.{sayings, starts_desk};
@@ -16,6 +17,7 @@ ghost use Rattle.pt_chart.specs.Rows.{count_of, in_rows};
 
 use crate::called::{Called, names_of};
 use crate::layout::{Arrow, Column, Layout, lay_out};
+use crate::mentions::{Mentions, mentions_of};
 use crate::page::{BLOCK, Page};
 use crate::part::{Mark, Part};
 use crate::text::{write_head, write_parts};
@@ -139,7 +141,7 @@ fn parts_of(alloc: Global, events: &[Stamped], layout: &Layout) -> Result<Vec<Pa
     list_bearings(rows, events, columns, &mut parts)?;
     list_marks(rows, events, columns, &mut parts)?;
     list_ends(rows, columns, &mut parts)?;
-    list_lines(rows, events, columns, &mut parts)?;
+    list_lines(alloc, rows, events, columns, &mut parts)?;
     Ok(parts)
 }
 
@@ -441,6 +443,7 @@ fn list_end(
 
 /// The line of each event.
 fn list_lines(
+    alloc: Global,
     rows: &[usize],
     events: &[Stamped],
     columns: &[Column],
@@ -451,13 +454,14 @@ fn list_lines(
         (parts.new.items ≡ parts.old.items ++ each_numbered (line_parts rows.now events.now columns.now) events.now) }
 {
     for at in 0..events.len() {
-        list_line(rows, events, at, columns, parts)?;
+        list_line(alloc, rows, events, at, columns, parts)?;
     }
     Ok(())
 }
 
 /// The line of an event. Before the first one of a row, the names of the processes if they are due.
 fn list_line(
+    alloc: Global,
     rows: &[usize],
     events: &[Stamped],
     at: usize,
@@ -472,7 +476,7 @@ fn list_line(
 {
     let first = begins_row(rows, at);
     if first {
-        list_names(rows, events, at, columns, parts)?;
+        list_names(alloc, rows, events, at, columns, parts)?;
     }
     parts.push(Part::Line {
         row: rows[at],
@@ -501,6 +505,7 @@ fn ends_row(rows: &[usize], at: usize) -> bool
 /// The names of the processes above the row of an event, if they are due. All are above the first row, and after each
 /// 40 rows again those that an event in the next 40 names.
 fn list_names(
+    alloc: Global,
     rows: &[usize],
     events: &[Stamped],
     at: usize,
@@ -519,7 +524,7 @@ fn list_names(
     if row == 0 {
         return list_all_names(row, columns, parts);
     }
-    list_names_in(block_of(rows, events, at), row, columns, parts)
+    list_names_in(alloc, block_of(rows, events, at), row, columns, parts)
 }
 
 /// The event and those after it in the same 40 rows.
@@ -543,29 +548,9 @@ fn first_behind(rows: &[usize], number: usize) -> Option<usize>
     rows.iter().position(|row| *row / BLOCK != number)
 }
 
-/// Whether an event names the process.
-fn is_named(pid: Pid, event: Event) -> bool
-    ensures { result ≡ list_any (same_pid pid) (named_columns event) }
-{
-    match event {
-        Event::Born(child, Some(parent), _) => pid == parent || pid == child,
-        Event::Said(from, to, _) | Event::Came(from, to, _) => pid == from || pid == to,
-        Event::Born(other, None, _)
-        | Event::Took(other, _, _)
-        | Event::Flag(other, _)
-        | Event::Left(other, _)
-        | Event::Refused(other, _) => pid == other,
-    }
-}
-
-fn is_in_block(block: &[Stamped], pid: Pid) -> bool
-    ensures { result ≡ is_in_block block.now pid }
-{
-    block.iter().any(|stamped| is_named(pid, stamped.event))
-}
-
 /// The names of the processes that an event of the block names.
 fn list_names_in(
+    alloc: Global,
     block: &[Stamped],
     row: usize,
     columns: &[Column],
@@ -573,23 +558,37 @@ fn list_names_in(
 ) -> Result<(), AllocError>
     ensures { OnOk result (parts.new.items ≡ parts.old.items ++ each_numbered (name_in block.now row) columns.now) }
 {
+    let mentions = mentions_of(alloc, block)?;
+    list_names_of(&mentions, row, columns, parts)
+}
+
+/// The names of the processes that are mentioned, if these are the mentions of a block.
+fn list_names_of(
+    mentions: &Mentions,
+    row: usize,
+    columns: &[Column],
+    parts: &mut Vec<Part>,
+) -> Result<(), AllocError>
+    ensures { (block : List Stamped) → AreMentions block mentions.now
+        → OnOk result (parts.new.items ≡ parts.old.items ++ each_numbered (name_in block row) columns.now) }
+{
     for place in 0..columns.len() {
-        list_name_in(block, row, place, columns[place].pid, parts)?;
+        list_name_of(mentions, row, place, columns[place].pid, parts)?;
     }
     Ok(())
 }
 
-fn list_name_in(
-    block: &[Stamped],
+fn list_name_of(
+    mentions: &Mentions,
     row: usize,
     column: usize,
     pid: Pid,
     parts: &mut Vec<Part>,
 ) -> Result<(), AllocError>
     ensures { OnOk result (parts.new.items
-        ≡ parts.old.items ++ cond (is_in_block block.now pid) (Name row column pid ∷ []) []) }
+        ≡ parts.old.items ++ cond (is_some (slice_get (rows_queued mentions.now pid) 0)) (Name row column pid ∷ []) []) }
 {
-    if is_in_block(block, pid) {
+    if mentions.has(pid) {
         parts.push(Part::Name { row, column, pid })?;
     }
     Ok(())

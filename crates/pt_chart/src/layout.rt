@@ -1,7 +1,7 @@
 //! The layout of a chart: its columns, its rows and the arrows between them, as numbers. Events are named by their
 //! places in the history, from 0.
 
-ghost use Rattle.std.specs.Prelude.{◌≡◌, ◌<◌, ◌≤◌, ◌++◌, [], IfOk, IfSome, OnOk, length, nat_lt, position};
+ghost use Rattle.std.specs.Prelude.{All, map, ◌≡◌, ◌<◌, ◌≤◌, ◌++◌, [], IfOk, IfSome, OnOk, length, nat_lt, position};
 ghost use Rattle.std.specs.List.{list_any};
 ghost use Rattle.pt_signal.specs.Values.{same_pid};
 ghost use Rattle.pt_events.specs.History.{is_birth};
@@ -9,8 +9,10 @@ ghost use Rattle.pt_chart.specs.Chart.{IsLayout, IsColumn, IsLegalHistory, Shows
 ghost use Rattle.pt_chart.specs.Chart.{end_of, everyone, join, joined_columns, named_columns, past_of, column_place, place_behind};
 ghost use Rattle.pt_chart.specs.Chart.{sent_of};
 ghost use Rattle.pt_chart.specs.Following.{noted};
+ghost use Rattle.pt_chart.specs.Mentioning.{AreMentions, mentions};
 
 use crate::follower::Follower;
+use crate::mentions::{Mentions, event_at, mentions_of};
 use crate::receipts::receipts_of;
 use crate::standing::rows_of;
 use pt_events::{Event, Stamped};
@@ -72,24 +74,52 @@ pub fn lay_out(alloc: Global, events: &[Stamped]) -> Result<Layout, AllocError>
     ensures layout { IfOk result (λ l. IsLayout events.now l) }
     ensures legal { IsLegalHistory events.now → IfOk result (λ l. ShowsHistory events.now l) }
 {
-    let named = pids_of(alloc, events)?;
-    let pids = named.as_slice();
-    let mut columns = Vec::with_capacity(alloc, pids.len())?;
-    for place in 0..pids.len() {
-        let column = column_of(alloc, events, pids, pids[place])?;
-        columns.push_reserved(column);
-    }
+    let columns = columns_of(alloc, events)?;
     let rows = rows_of(alloc, events, columns.as_slice())?;
     Ok(Layout { columns, rows })
 }
 
-/// The processes that the history names, by desk and then in order of first appearance.
-fn pids_of(alloc: Global, events: &[Stamped]) -> Result<Vec<Pid>, AllocError>
+/// The columns of a history.
+fn columns_of(alloc: Global, events: &[Stamped]) -> Result<Vec<Column>, AllocError>
+    ensures pids { IfOk result (λ v. map (λ c. c.pid) v.items ≡ everyone events.now) }
+    ensures columns { IfOk result (λ v. All (λ c. IsColumn events.now c) v.items) }
+{
+    let mentions = mentions_of(alloc, events)?;
+    let pids = pids_of(alloc, events, &mentions)?;
+    columns_with(alloc, events, &mentions, pids.as_slice())
+}
+
+/// The columns of these processes, if these are the events that name each.
+fn columns_with(
+    alloc: Global,
+    events: &[Stamped],
+    mentions: &Mentions,
+    pids: &[Pid],
+) -> Result<Vec<Column>, AllocError>
+    requires mentions { AreMentions events.now mentions.now }
+    ensures pids { IfOk result (λ v. map (λ c. c.pid) v.items ≡ pids.now) }
+    ensures columns { pids.now ≡ everyone events.now → IfOk result (λ v. All (λ c. IsColumn events.now c) v.items) }
+{
+    let mut columns = Vec::with_capacity(alloc, pids.len())?;
+    for place in 0..pids.len() {
+        let pid = pids[place];
+        let column = column_of(alloc, events, mentions.of(pid), pids, pid)?;
+        columns.push_reserved(column);
+    }
+    Ok(columns)
+}
+
+/// The processes that the history names, by desk and then in order of first appearance, if these are the events that
+/// name each.
+fn pids_of(alloc: Global, events: &[Stamped], mentions: &Mentions) -> Result<Vec<Pid>, AllocError>
+    requires { AreMentions events.now mentions.now }
     ensures { IfOk result (λ v. v.items ≡ everyone events.now) }
 {
     let mut pids = Vec::new(alloc);
-    for stamped in events {
-        name(&mut pids, stamped.event)?;
+    for at in 0..events.len() {
+        if mentions.begins(at, events[at].event) {
+            name(&mut pids, events[at].event)?;
+        }
     }
     Ok(pids)
 }
@@ -150,20 +180,22 @@ fn is_among(pids: &[Pid], pid: Pid) -> bool
     pids.iter().any(|other| pid == *other)
 }
 
-/// The column of one process, as it is followed through the history.
+/// The column of one process, as it is followed through its own events.
 fn column_of(
     alloc: Global,
     events: &[Stamped],
+    own: &[usize],
     pids: &[Pid],
     pid: Pid,
 ) -> Result<Column, AllocError>
+    requires own { own.now ≡ mentions pid events.now }
     ensures pid { IfOk result (λ c. c.pid ≡ pid) }
     ensures column { pids.now ≡ everyone events.now → IfOk result (λ c. IsColumn events.now c) }
 {
     let mut sent = Vec::new(alloc);
-    let ended = follow(alloc, events, pid, &mut sent)?;
-    let arrows = arrows_of(alloc, events, pids, pid, sent.as_slice())?;
-    let born = birth_of(events, pid);
+    let ended = follow(alloc, events, own, pid, &mut sent)?;
+    let arrows = arrows_of(alloc, events, own, pids, pid, sent.as_slice())?;
+    let born = birth_of(events, own, pid);
     Ok(Column {
         pid,
         born,
@@ -172,13 +204,16 @@ fn column_of(
     })
 }
 
-/// Adds what a process sends in the history, and returns its exit, if it has one.
+/// Adds what a process sends in the history, and returns its exit, if it has one. An event that does not name it changes
+/// nothing of it.
 fn follow(
     alloc: Global,
     events: &[Stamped],
+    own: &[usize],
     pid: Pid,
     sent: &mut Vec<Sending>,
 ) -> Result<Option<(usize, Reason)>, AllocError>
+    requires own { own.now ≡ mentions pid events.now }
     ensures sent { MonitorsAnew (past_of events.now) pid
         → OnOk result (sent.new.items ≡ sent.old.items ++ sent_of (past_of events.now) pid) }
     ensures ending { MonitorsAnew (past_of events.now) pid
@@ -186,19 +221,25 @@ fn follow(
 {
     let mut follower = Follower::new(pid);
     let mut ended = None;
-    for at in 0..events.len() {
-        let reason = follower.see(alloc, at, events[at].event, sent)?;
+    for k in 0..own.len() {
+        let at = own[k];
+        let reason = follower.see(alloc, at, event_at(events, at), sent)?;
         ended = noted(at, reason, ended);
     }
     Ok(ended)
 }
 
-fn birth_of(events: &[Stamped], pid: Pid) -> Option<usize>
+fn birth_of(events: &[Stamped], own: &[usize], pid: Pid) -> Option<usize>
+    requires own { own.now ≡ mentions pid events.now }
     ensures { result ≡ position (λ s. is_birth pid s.event) events.now }
 {
-    events
-        .iter()
-        .position(|stamped| is_birth(pid, stamped.event))
+    for k in 0..own.len() {
+        let at = own[k];
+        if is_birth(pid, event_at(events, at)) {
+            return Some(at);
+        }
+    }
+    None
 }
 
 /// The exit so far, if it does not exit by this event.
@@ -228,14 +269,16 @@ fn is_birth(pid: Pid, event: Event) -> bool
 fn arrows_of(
     alloc: Global,
     events: &[Stamped],
+    own: &[usize],
     pids: &[Pid],
     from: Pid,
     sent: &[Sending],
 ) -> Result<Vec<Arrow>, AllocError>
+    requires own { own.now ≡ mentions from events.now }
     ensures { IfOk result (λ v. v.items ≡ arrows events.now pids.now from [] sent.now) }
 {
     let mut arrows = Vec::with_capacity(alloc, sent.len())?;
-    let mut receipts = receipts_of(alloc, events, from)?;
+    let mut receipts = receipts_of(alloc, events, own, from)?;
     for k in 0..sent.len() {
         let came = receipts.pop(sent[k].to);
         arrows.push_reserved(arrow_of(pids, sent[k], came));

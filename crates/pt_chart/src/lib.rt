@@ -31,8 +31,12 @@
 //! No event says what an exit sends, or which process a signal makes exit. So the processes are followed through the
 //! history: each is a [`Process`](pt_process::Process), which says both. Letters from one process to another arrive in
 //! the order in which they were sent, so the nth receipt between two ends the nth arrow between them. The rows of the
-//! receipts are in a queue for each receiver, and a letter takes the first. The work grows with the events times the
-//! processes, since each is followed through all events. It does not grow with the letters between two processes.
+//! receipts are in a queue for each receiver, and a letter takes the first.
+//!
+//! One pass over the history lists the events that name each process. An event that does not name a process changes
+//! nothing of it, so it is followed through its own events alone. The names above a row come from such a list of the next
+//! 40 rows. Two parts of the work still grow faster than the events. A letter, a mark and a birth look for their columns
+//! among all processes, and every 40 rows each process is looked up once.
 //!
 //! Tests: `checks/tried/pt_scripts/charts.rt.txt` and `checks/examples`.
 //!
@@ -54,6 +58,7 @@ mod drawing;
 mod elements;
 mod follower;
 mod layout;
+mod mentions;
 mod page;
 mod part;
 mod point;

@@ -2,8 +2,10 @@
 
 ghost use Rattle.std.specs.Prelude.{◌≡◌, ◌++◌, ◌∷◌, [], cond, drop, slice_get, IfOk, OnOk};
 ghost use Rattle.pt_chart.specs.Chart.{is_receipt};
+ghost use Rattle.pt_chart.specs.Mentioning.{mentions};
 ghost use Rattle.pt_chart.specs.Receiving.{Awaits, RowIsQueued, IsQueuedBy, rows_queued};
 
+use crate::mentions::event_at;
 use indexmap::IndexMap;
 use pt_events::{Event, Stamped};
 use pt_signal::Pid;
@@ -121,13 +123,16 @@ impl Receipts {
 pub(crate) fn receipts_of(
     alloc: Global,
     events: &[Stamped],
+    own: &[usize],
     from: Pid,
 ) -> Result<Receipts, AllocError>
+    requires own { own.now ≡ mentions from events.now }
     ensures { IfOk result (λ r. Awaits events.now from [] r) }
 {
     let mut receipts = Receipts::new(alloc);
-    for at in 0..events.len() {
-        receipts.note(from, at, events[at].event)?;
+    for k in 0..own.len() {
+        let at = own[k];
+        receipts.note(from, at, event_at(events, at))?;
     }
     Ok(receipts)
 }

@@ -3,7 +3,7 @@ use Rattle.std.proofs.Common.{◌≡◌, inl, inr, Bool, true, List, [], ◌++�
 use Rattle.pt_signal.specs.declared.pid.Pid.{Pid}
 use Rattle.pt_crew.specs.declared.crew.Crew.{Crew}
 use Rattle.pt_crew.specs.declared.births.Role.{Role}
-use Rattle.pt_crew.specs.Crews.{left, waiting, queue, IsSame}
+use Rattle.pt_crew.specs.Crews.{waiting, queue, IsSame}
 use Rattle.pt_crew.specs.Parts.{aboard, AdmitsOf, AdmitsFirst, CanEnter, QueueIsLonger}
 use Rattle.pt_crew.proofs.Visiting.{same_roles}
 

@@ -1,5 +1,5 @@
 -- Each item that is taken is handed on.
-use Rattle.std.proofs.Common.{◌≡◌, ◌⊎◌, inl, inr, ℕ, ◌≤◌, cond, Bool, true, false, List, [], ◌∷◌, ◌++◌, Option, Some, None, Result, Ok, Err, refl, sym, ap, subst, ◌∙◌, append_assoc}
+use Rattle.std.proofs.Common.{◌≡◌, ◌⊎◌, inl, inr, ℕ, cond, Bool, true, false, List, [], ◌∷◌, ◌++◌, Option, Some, None, Result, Ok, Err, refl, sym, ap, subst, ◌∙◌, append_assoc}
 use Rattle.std.specs.Prelude.{nat_le}
 use Rattle.std.proofs.lemmas.Bool.{leb-true}
 use Rattle.std.specs.List.{find}
@@ -20,11 +20,11 @@ use Rattle.pt_crew.specs.declared.births.Role.{Role}
 use Rattle.pt_crew.specs.Births.{bore}
 use Rattle.pt_crew.specs.declared.crew.Tended.{Tended}
 use Rattle.pt_crew.specs.declared.crew.Tended.TheVariants.{Idle, Refused as Denied}
-use Rattle.pt_crew.specs.Visiting.{Answers, Roles, AreSame, AreWith, Scene, HandsTo, LeavesAs, StaysAs, ComesTo, SeesTo, EndsAs, TakesAs, AsksFor, VisitsOne, Visits, takes}
+use Rattle.pt_crew.specs.Visiting.{Answers, Roles, AreSame, AreWith, Scene, HandsTo, LeavesAs, StaysAs, ComesTo, SeesTo, EndsAs, TakesAs, VisitsOne, Visits, takes}
 use Rattle.pt_crew.specs.Crews.{CrewRounds}
 use Rattle.pt_crew.specs.Handing.{MayLeave, MayBeHanded, HandsAll, Handed, item_handed, items_handed}
 use Rattle.std.specs.Prelude.{MatchBool}
-use Rattle.pt_crew.specs.Waking.{pick_of, until_of}
+use Rattle.pt_crew.specs.Waking.{pick_of}
 use Rattle.pt_crew.proofs.Waking.{by_cases, elsewhere, same_some}
 use Rattle.pt_crew.proofs.Takes.{left_takes, none_taken, one_taken, refused_taken}
 

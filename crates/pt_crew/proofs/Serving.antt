@@ -30,8 +30,8 @@ use Rattle.pt_crew.specs.declared.crew.Tended.TheVariants.{Idle, Again, Done, Re
 use Rattle.pt_crew.specs.Visiting.{Answers, BearsChildren, HandsTo, StaysAs, SeesTo, TakesAs, EndsAs, LeavesAs, handed_as, handed_by, again_as, goes_behind, leaves_crew, is_refused, leaver, left_as}
 use Rattle.pt_crew.specs.Crews.{HasRoom, HasTimers, KnowsDesk, members, queue, role, roles, left, waiting, unmarked, read_events, rounds_asked, time_of, was_refused}
 use Rattle.pt_crew.specs.Births.{bore}
-use Rattle.pt_crew.specs.Waking.{IsQueue, Knows, Members, AreTimed, has_work, in_queue, sleeps_until, timer_of, until_of}
-use Rattle.pt_crew.specs.Parts.{MemberTends, PutsMember, Serves, SleepsUntil, Stops, kept_as, sleeper}
+use Rattle.pt_crew.specs.Waking.{IsQueue, Knows, Members, AreTimed, has_work, in_queue, sleeps_until, timer_of, limit_of}
+use Rattle.pt_crew.specs.Parts.{MemberTends, PutsMember, Serves, SleepsUntil, kept_as, sleeper}
 use Rattle.pt_crew.proofs.Waking.{changed, taken_out, put_back, first_in, there, some_none, same_some}
 use Rattle.pt_crew.proofs.Timing.{untimed, timed_anew, stops_none, queued_bare}
 use Rattle.pt_crew.proofs.Places.{written_at, held_at}
@@ -224,7 +224,7 @@ kept_handed m (Stop r) f = refl
 
 -- one that sleeps then, or is refused ---------------------------------------------------------
 
-sleeper_is : (t : Tended) (n : Next) (at : ℕ) → sleeper t n ≡ Some at → (t ≡ Idle) × (until_of n ≡ Some at)
+sleeper_is : (t : Tended) (n : Next) (at : ℕ) → sleeper t n ≡ Some at → (t ≡ Idle) × (limit_of n ≡ Some at)
 sleeper_is Idle n at is = (refl, is)
 sleeper_is Again n at is = absurd (cc)
 sleeper_is Done n at is = absurd (cc)
@@ -287,7 +287,7 @@ pub record Came {B : Type 0} (p : Pid) (came t : Tended) (old mid new : Crew B) 
   pub marked : w.queued ≡ goes_behind t
   pub slept : Slept p came m0 old.timers t m mid.timers
   pub its : m0.timer ≡ v.timer
-  pub done : came ≡ Done → until_of m0.next ≡ None
+  pub done : came ≡ Done → limit_of m0.next ≡ None
   pub gone : came ≡ Gone → m0 ≡ v
   pub left : left mid ≡ left old
   pub refused : mid.refused ≡ old.refused
@@ -343,7 +343,7 @@ module _ {B : Type 0} (p : Pid) (came t : Tended) (old mid new : Crew B) (v m0 m
       none_held = its_none rest d is k timers
 
       -- it goes behind the queue, or waits without an end, or leaves
-      quiet : m ≡ m0 → mid.timers ≡ old.timers → (w.queued ≡ false → leaves_crew t ≡ false → until_of m0.next ≡ None) → AreTimed (members new) mid.timers
+      quiet : m ≡ m0 → mid.timers ≡ old.timers → (w.queued ≡ false → leaves_crew t ≡ false → limit_of m0.next ≡ None) → AreTimed (members new) mid.timers
       quiet m_is same off = untimed (members old) (members new) p old.timers mid.timers (entry_as t w) stands (stops_none (timer_of (members old p)) old.timers mid.timers none_held same)
           (bare (leaves_crew t)) (λ x x_is. awake (leaves_crew t) refl x x_is) timers
         where
@@ -360,9 +360,9 @@ module _ {B : Type 0} (p : Pid) (came t : Tended) (old mid new : Crew B) (v m0 m
           awake : (b : Bool) → leaves_crew t ≡ b → (x : Member B) → cond b None (Some w) ≡ Some x → sleeps_until x ≡ None
           awake true gone x x_is = some_none None x refl x_is
           awake false gone x x_is = subst (λ (y : Member B). sleeps_until y ≡ None) (same_some w x x_is)
-              (awake_then w.queued (until_of w.next) (λ is_off. ap until_of next_is ∙ off is_off gone))
+              (awake_then w.queued (limit_of w.next) (λ is_off. ap limit_of next_is ∙ off is_off gone))
 
-      off_none : (s : Tended) → sleeper s m0.next ≡ None → (s ≡ Done → until_of m0.next ≡ None) → goes_behind s ≡ false → leaves_crew s ≡ false → until_of m0.next ≡ None
+      off_none : (s : Tended) → sleeper s m0.next ≡ None → (s ≡ Done → limit_of m0.next ≡ None) → goes_behind s ≡ false → leaves_crew s ≡ false → limit_of m0.next ≡ None
       off_none Idle none done off stays = none
       off_none Again none done off stays = absurd (cc)
       off_none Done none done off stays = done refl
@@ -382,7 +382,7 @@ module _ {B : Type 0} (p : Pid) (came t : Tended) (old mid new : Crew B) (v m0 m
           next_is = ap (λ (r : B × Next). r.1) (c.same ∙ ap role h.2)
 
           w_sleeps : sleeps_until w ≡ Some at
-          w_sleeps = ap (λ (b : Bool). cond b None (until_of w.next)) (c.marked ∙ ap goes_behind h.1) ∙ ap until_of next_is ∙ (sleeper_is came m0.next at o_is).1
+          w_sleeps = ap (λ (b : Bool). cond b None (limit_of w.next)) (c.marked ∙ ap goes_behind h.1) ∙ ap limit_of next_is ∙ (sleeper_is came m0.next at o_is).1
       go (Some at) o_is (inr h) = quiet h.1 h.2 (λ off stays. absurd (let on : w.queued ≡ true = c.marked ∙ ap goes_behind h.0 in let bad : false ≡ true = sym off ∙ on in cc))
 
   pub room_for_it : deque_len mid.queue + 1 ≡ deque_len old.queue → deque_capacity mid.queue ≡ deque_capacity old.queue → HasRoom old → HasRoom new

@@ -1,5 +1,5 @@
 -- The timers of a crew's members.
-use Rattle.std.proofs.Common.{◌≡◌, ◌⊎◌, inl, inr, ℕ, ◌+◌, ◌<◌, ◌≤◌, Bool, true, false, cond, List, [], ◌∷◌, length, Option, Some, None, is_some, IsSome, refl, sym, ap, subst, ◌∙◌, arith}
+use Rattle.std.proofs.Common.{◌≡◌, ℕ, ◌+◌, ◌<◌, ◌≤◌, Bool, true, false, cond, List, [], ◌∷◌, length, Option, Some, None, IsSome, refl, sym, ap, subst, ◌∙◌, arith}
 use Rattle.std.specs.Option.{option_map}
 use Rattle.pt_signal.specs.declared.pid.Pid.{Pid}
 use Rattle.pt_signal.specs.Values.{same_pid}
@@ -13,9 +13,9 @@ use Rattle.pt_timers.proofs.Lawful.{same-is}
 use Rattle.pt_crew.specs.declared.behaviour.Next.{Next}
 use Rattle.pt_crew.specs.declared.crew.Member.{Member}
 use Rattle.pt_crew.specs.declared.crew.Crew.{Crew}
-use Rattle.pt_crew.specs.Waking.{Members, AreTimed, AreRung, in_queue, timer_of, sleeps_until, until_of}
+use Rattle.pt_crew.specs.Waking.{Members, AreTimed, AreRung, in_queue, timer_of, sleeps_until, limit_of}
 use Rattle.pt_crew.specs.Visiting.{AreSame}
-use Rattle.pt_crew.specs.Crews.{Attends, HasTimers, IsNextTime, IsSame, KnowsDesk, WaitsUntil, members, queue, role, roles, time_of}
+use Rattle.pt_crew.specs.Crews.{Attends, HasTimers, IsNextTime, IsSame, KnowsDesk, WaitsUntil, members, queue, role, roles}
 use Rattle.pt_crew.specs.Parts.{Stops}
 use Rattle.pt_crew.proofs.Waking.{by_cases, elsewhere, there, not_in, same_some, some_none}
 
@@ -131,7 +131,7 @@ stops_none s old new none same = subst (λ (o : Option Timer). Stops o old new) 
 pub stopped_timers : {B : Type 0} (mem new : Members B) (p : Pid) (w : Member B) (timers later : TimersState Pid) → ((q : Pid) → new q ≡ cond (same_pid p q) (Some w) (mem q))
     → Stops (timer_of (mem p)) timers later → w.timer ≡ None → w.queued ≡ true → AreTimed mem timers → AreTimed new later
 stopped_timers {B} mem new p w timers later at stops bare on = untimed mem new p timers later (Some w) at stops bare
-    (λ m is. subst (λ (x : Member B). sleeps_until x ≡ None) (same_some w m is) (ap (λ b. cond b None (until_of w.next)) on))
+    (λ m is. subst (λ (x : Member B). sleeps_until x ≡ None) (same_some w m is) (ap (λ b. cond b None (limit_of w.next)) on))
 
 pub stopped_fewer : {B : Type 0} (mem : Members B) (p : Pid) (timers later : TimersState Pid) → Stops (timer_of (mem p)) timers later → AreTimed mem timers
     → (t : Timer) → timer_of (mem p) ≡ Some t → length later.pending + 1 ≡ length timers.pending
@@ -147,7 +147,7 @@ no_timer (Some u) is = absurd (cc)
 
 -- one of the queue has no timer
 pub queued_bare : {B : Type 0} (mem : Members B) (p : Pid) (v : Member B) (timers : TimersState Pid) → mem p ≡ Some v → v.queued ≡ true → AreTimed mem timers → timer_of (mem p) ≡ None
-queued_bare mem p v timers held on k = ap timer_of held ∙ no_timer v.timer (k.timed p v held ∙ ap (λ b. cond b None (until_of v.next)) on)
+queued_bare mem p v timers held on k = ap timer_of held ∙ no_timer v.timer (k.timed p v held ∙ ap (λ b. cond b None (limit_of v.next)) on)
 
 -- one that is not held is none
 pub none_if : {X : Type 0} (o : Option X) → ((x : X) → o ≡ Some x → ⊥) → o ≡ None
@@ -198,9 +198,9 @@ some_body (Some p) is = (p, refl)
 
 module _ {B : Type 0} (c : Crew B) (k : HasTimers c) where
   -- one that is not in the queue and waits until a time has a timer of that time
-  its_timer : (p : Pid) (m : Member B) (n : ℕ) → members c p ≡ Some m → m.queued ≡ false → until_of m.next ≡ Some n → (t : Timer) × (body_of c.timers t ≡ Some p) × (t.at ≡ n)
+  its_timer : (p : Pid) (m : Member B) (n : ℕ) → members c p ≡ Some m → m.queued ≡ false → limit_of m.next ≡ Some n → (t : Timer) × (body_of c.timers t ≡ Some p) × (t.at ≡ n)
   its_timer p m n is off until =
-      let t = timer_at m.timer n (k.timed p m is ∙ ap (λ b. cond b None (until_of m.next)) off ∙ until) in
+      let t = timer_at m.timer n (k.timed p m is ∙ ap (λ b. cond b None (limit_of m.next)) off ∙ until) in
       (t.0, k.own p t.0 (ap timer_of is ∙ t.1), t.2)
 
   -- so once no timer is due, whoever waits until a time that has come stands in the queue
@@ -219,14 +219,14 @@ module _ {B : Type 0} (c : Crew B) (d : ShardState) (a : Attends c d) where
   waits_timer : (p : Pid) (n : ℕ) → WaitsUntil c p n → (t : Timer) × (body_of c.timers t ≡ Some p) × (t.at ≡ n)
   waits_timer p n w =
       let m = with_role (members c p) (w.behaviour, w.next) w.role in
-      its_timer c a.timers p m.0 n m.1 (off_queue p m.0 m.1 w.apart) (ap (λ (r : B × Next). until_of r.1) m.2 ∙ w.until)
+      its_timer c a.timers p m.0 n m.1 (off_queue p m.0 m.1 w.apart) (ap (λ (r : B × Next). limit_of r.1) m.2 ∙ w.until)
 
   -- a timer is of one that waits
   timer_waits : (t : Timer) → IsPending c.timers t → (p : Pid) × WaitsUntil c p t.at
   timer_waits t pending =
       let p = some_body (body_of c.timers t) pending in
       let m = with_timer (members c p.0) t (a.timers.owned p.0 t p.1) in
-      let s = sleeps m.0.queued (until_of m.0.next) t.at (sym (ap (option_map (λ (u : Timer). u.at)) m.2) ∙ a.timers.timed p.0 m.0 m.1) in (
+      let s = sleeps m.0.queued (limit_of m.0.next) t.at (sym (ap (option_map (λ (u : Timer). u.at)) m.2) ∙ a.timers.timed p.0 m.0 m.1) in (
         p.0,
         record {
           behaviour = m.0.behaviour;
@@ -255,7 +255,7 @@ same_wait was (Some v) m is same =
 pub rung_as : {B : Type 0} (old now : Crew B) (time : ℕ) (stands : List Pid) → AreSame (roles old) (roles now) → AreRung time (members now) stands → AreRung time (members old) stands
 rung_as old now time stands same rung p m n is until come =
     let v = same_wait (members old p) (members now p) m is (same p) in
-    rung p v.0 n v.1 (ap until_of v.2 ∙ until) come
+    rung p v.0 n v.1 (ap limit_of v.2 ∙ until) come
 
 -- where nothing is pending nothing is due
 pub none_due : (s : TimersState Pid) (time : ℕ) → length s.pending ≤ 0 → NoneDue time s

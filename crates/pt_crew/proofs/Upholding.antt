@@ -34,8 +34,8 @@ use Rattle.pt_crew.specs.declared.crew.Crew.{Crew}
 use Rattle.pt_crew.specs.declared.crew.Tended.{Tended}
 use Rattle.pt_crew.specs.declared.crew.Tended.TheVariants.{Idle, Again, Done, Refused as Denied, Gone as Ended}
 use Rattle.pt_crew.specs.Births.{bore}
-use Rattle.pt_crew.specs.Visiting.{Answers, Roles, AreSame, AreWith, Scene, HandsTo, LeavesAs, StaysAs, ComesTo, SeesTo, EndsAs, TakesAs, AsksFor, VisitsOne, Visits}
-use Rattle.pt_crew.specs.Waking.{pick_of, until_of}
+use Rattle.pt_crew.specs.Visiting.{Answers, Roles, AreSame, AreWith, Scene, HandsTo, LeavesAs, StaysAs, ComesTo, SeesTo, EndsAs, TakesAs, VisitsOne, Visits}
+use Rattle.pt_crew.specs.Waking.{pick_of}
 use Rattle.pt_crew.specs.Visiting.{BearsChildren as BearsAs, handed_by, handed_as, left_as}
 use Rattle.pt_crew.specs.Crews.{CrewRounds, Aboard, EntersAll, StepsOn, CrewDoes, Enters, CrewWorks, roles, left, waiting}
 use Rattle.pt_crew.specs.Upholding.{Relation, IsLater, IsLeftAlone, ActsFor, GoesOnWithout, ItemIsTaken, StandsFirst, AllFirst, IsUpheld, AllStand, StandsStill, AllStill, Upholds, child_by, children_by}

@@ -15,7 +15,7 @@ use Rattle.pt_crew.specs.declared.crew.Tended.{Tended}
 use Rattle.pt_crew.specs.declared.crew.Tended.TheVariants.{Idle, Refused as Denied}
 use Rattle.pt_crew.specs.Visiting.{Answers, Roles, AreSame, AreWith, Scene, StaysAs, BearsChildren, ComesTo, SeesTo, VisitsOne, Visits, again_as, left_as, is_refused}
 use Rattle.pt_crew.specs.Crews.{members, role, roles, queue, waiting, left, scene, time_of, are_any, IsSame, KeepsRest, Attends, CrewRounds, AreOnce, Aboard, EntersAll, StepsOn}
-use Rattle.pt_crew.specs.Waking.{IsAwake, AreRung, Members, has_work}
+use Rattle.pt_crew.specs.Waking.{IsAwake, AreRung, has_work}
 use Rattle.pt_crew.specs.declared.births.Role.{Role}
 use Rattle.pt_crew.specs.Births.{bore}
 use Rattle.pt_crew.specs.Parts.{QueueIsLonger, WakesBy, Serves, Admits, AdmitsFirst, AdmitsOf, CanEnter, aboard}

@@ -20,7 +20,7 @@ use Rattle.pt_crew.specs.Births.{born}
 use Rattle.pt_crew.specs.declared.crew.Member.{Member}
 use Rattle.pt_crew.specs.declared.births.Role.{Role}
 use Rattle.pt_crew.specs.declared.crew.Crew.{Crew}
-use Rattle.pt_crew.specs.Waking.{Members, Knows, IsAwake, AreTimed, AreRung, in_queue, until_of}
+use Rattle.pt_crew.specs.Waking.{Members, Knows, IsAwake, AreTimed, AreRung, in_queue, limit_of}
 use Rattle.pt_crew.specs.Visiting.{Answers, Roles, AreSame, AreWith, Scene, Visits}
 use Rattle.pt_crew.specs.Handing.{Handed}
 
@@ -94,7 +94,7 @@ pub record WaitsUntil {B : Type 0} (c : Crew B) (p : Pid) (at : ℕ) : Type 0 wh
   pub behaviour : B
   pub next : Next
   pub role : roles c p ≡ Some (behaviour, next)
-  pub until : until_of next ≡ Some at
+  pub until : limit_of next ≡ Some at
   pub apart : in_queue p (queue c) ≡ false
 
 -- the earliest of those times, if there is one

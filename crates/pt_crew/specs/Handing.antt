@@ -8,7 +8,7 @@ use Rattle.pt_shard.specs.ShardState.{ShardState}
 use Rattle.pt_crew.specs.declared.behaviour.Next.{Next}
 use Rattle.pt_crew.specs.declared.behaviour.Next.TheVariants.{Proceed}
 use Rattle.pt_crew.specs.declared.births.Role.{Role}
-use Rattle.pt_crew.specs.Waking.{pick_of, until_of}
+use Rattle.pt_crew.specs.Waking.{pick_of, limit_of}
 use Rattle.pt_crew.specs.Visiting.{Answers, Roles, AreWith, takes}
 
 -- whoever is of the crew was so before, and as it was
@@ -18,7 +18,7 @@ MayLeave {B} old new = (q : Pid) (role : B × Next) → new q ≡ Some role → 
 -- who is handed an item waited for a pick that fits it, and who is handed none was to proceed, or waited until a time
 -- that has come
 abbrev pub MayBeHanded : ℕ → Next → Option Item → Type 0
-MayBeHanded time next None = (next ≡ Proceed) ⊎ ((at : ℕ) × (until_of next ≡ Some at) × (at ≤ time))
+MayBeHanded time next None = (next ≡ Proceed) ⊎ ((at : ℕ) × (limit_of next ≡ Some at) × (at ≤ time))
 MayBeHanded time next (Some item) = (pick : Pick) × (pick_of next ≡ Some pick) × (fits pick item ≡ true)
 
 -- the item, or none, is handed to the behaviour of p, and what that answers is what p does next; all others stay

@@ -19,7 +19,7 @@ use Rattle.pt_timers.specs.declared.Timer.{Timer}
 use Rattle.pt_timers.specs.Order.{same_timer}
 use Rattle.pt_timers.specs.State.{TimersState, IsPending, body_of}
 use Rattle.pt_timers.specs.Calls.{Started}
-use Rattle.pt_crew.specs.Waking.{IsQueue, has_work, timer_of, until_of}
+use Rattle.pt_crew.specs.Waking.{IsQueue, has_work, timer_of, limit_of}
 use Rattle.pt_crew.specs.Visiting.{Answers, AreSame, VisitsOne, again_as, leaves_crew, is_refused, left_as}
 use Rattle.pt_crew.specs.declared.births.Role.{Role}
 use Rattle.pt_crew.specs.Crews.{IsSame, KeepsRest, Aboard, EntersOne, EntersAll, HasTimers, members, queue, role, roles, left}
@@ -153,7 +153,7 @@ Stops (Some t) old new =
 
 -- the time until which a process sleeps of which that came
 abbrev pub sleeper : Tended → Next → Option ℕ
-sleeper Idle next = until_of next
+sleeper Idle next = limit_of next
 sleeper _ next = None
 
 -- one that sleeps until a time has a timer of it then, or is refused for want of memory; all else stays

@@ -16,7 +16,7 @@ use Rattle.pt_crew.specs.declared.behaviour.Next.{Next}
 use Rattle.pt_crew.specs.declared.behaviour.Next.TheVariants.{Proceed, Stop}
 use Rattle.pt_crew.specs.declared.births.Role.{Role}
 use Rattle.pt_crew.specs.declared.crew.Crew.{Crew}
-use Rattle.pt_crew.specs.Waking.{pick_of, until_of}
+use Rattle.pt_crew.specs.Waking.{pick_of, limit_of}
 use Rattle.pt_crew.specs.Visiting.{Answers, Roles}
 use Rattle.pt_crew.specs.Crews.{roles, waiting}
 
@@ -52,7 +52,7 @@ ActsFor p d e = (q : Pid) → same_pid p q ≡ false → is_unborn (phase_of d q
 abbrev pub GoesOnWithout : Pid → Next → ShardState → Type 0
 GoesOnWithout p before d =
     (before ≡ Proceed)
-    ⊎ ((pick : Pick) × (pick_of before ≡ Some pick) × (is_some (until_of before) ≡ true)
+    ⊎ ((pick : Pick) × (pick_of before ≡ Some pick) × (is_some (limit_of before) ≡ true)
     × (first_match d p pick ≡ None))
 
 -- p, which lives, goes on without an item, or waited and the first item that its pick fits was taken

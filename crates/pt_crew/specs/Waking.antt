@@ -30,9 +30,9 @@ pick_of (WaitUntil k at) = Some k
 pick_of _ = None
 
 -- the time until which it waits
-abbrev pub until_of : Next → Option ℕ
-until_of (WaitUntil k at) = Some at
-until_of _ = None
+abbrev pub limit_of : Next → Option ℕ
+limit_of (WaitUntil k at) = Some at
+limit_of _ = None
 
 abbrev pub in_queue : Pid → List Pid → Bool
 in_queue p queue = list_any (same_pid p) queue
@@ -75,7 +75,7 @@ timer_of (Some m) = m.timer
 
 -- the time until which a member waits that does not stand in the queue
 abbrev pub sleeps_until : {B : Type 0} → Member B → Option ℕ
-sleeps_until m = cond m.queued None (until_of m.next)
+sleeps_until m = cond m.queued None (limit_of m.next)
 
 -- The timers that are pending are those of the members, each of its own one; and a member has one, of the time until
 -- which it waits, where it waits until a time and does not stand in the queue.
@@ -87,5 +87,5 @@ pub record AreTimed {B : Type 0} (members : Members B) (timers : TimersState Pid
 -- each member that waits until a time which has come stands in the queue
 abbrev pub AreRung : {B : Type 0} → ℕ → Members B → List Pid → Type 0
 AreRung {B} time members queue =
-    (p : Pid) (m : Member B) (at : ℕ) → members p ≡ Some m → until_of m.next ≡ Some at → at ≤ time
+    (p : Pid) (m : Member B) (at : ℕ) → members p ≡ Some m → limit_of m.next ≡ Some at → at ≤ time
     → in_queue p queue ≡ true

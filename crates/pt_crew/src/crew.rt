@@ -18,7 +18,7 @@ ghost use Rattle.pt_crew.specs.Crews.{waiting, was_refused};
 ghost use Rattle.pt_crew.specs.Parts.{Admits, AdmitsFirst, CanEnter, QueueIsLonger, Serves, MemberTends, Wakes, WakesAt};
 ghost use Rattle.pt_crew.specs.Parts.{PutsMember, SleepsUntil, Stops, WakesBy, sleeper};
 ghost use Rattle.pt_crew.specs.Parts.{is_marked, kept_as};
-ghost use Rattle.pt_crew.specs.Waking.{IsAwake, is_queued, pick_of, timer_of, until_of};
+ghost use Rattle.pt_crew.specs.Waking.{IsAwake, is_queued, pick_of, timer_of, limit_of};
 ghost use Rattle.pt_timers.specs.Calls.{NoneDue};
 ghost use Rattle.pt_crew.specs.Running.{is_idle};
 
@@ -49,9 +49,10 @@ pub enum Tended {
     Idle,
     /// It got an item, or `None`, and may have more to do: it joins the queue's end.
     Again,
-    /// It got an item, or `None`, and waits now with an empty mailbox: it leaves the queue.
+    /// It got an item, or `None`, and waits now without an end, with an empty mailbox: it leaves the queue.
     Done,
-    /// A call failed, since there was no memory or no stamp, and nothing has changed: it joins the queue's end.
+    /// A call failed, or its timer could not start, since there was no memory or no stamp, and nothing has changed: it
+    /// joins the queue's end.
     Refused,
     /// It has exited, and leaves the crew.
     Gone,
@@ -579,7 +580,7 @@ fn tend<B: Behaviour + Drop>(
         (kept_as result member.new) desk.new.shard (bore (born births.old) (born births.new)) }
     ensures role { result ≡ Tended.Gone → member.new ≡ member.old }
     ensures timer { member.new.timer ≡ member.old.timer }
-    ensures done { result ≡ Tended.Done → until_of member.new.next ≡ None }
+    ensures done { result ≡ Tended.Done → limit_of member.new.next ≡ None }
     ensures bears { BearsChildren result (born births.old) (born births.new) }
     ensures tends { MemberTends p result member.new desk.new.shard }
     ensures goes_on { GoesOn desk.old desk.new }
@@ -618,7 +619,7 @@ fn receive<B: Behaviour + Drop>(
         desk.new.shard (bore (born births.old) (born births.new)) }
     ensures role { result ≡ Tended.Gone → member.new ≡ member.old }
     ensures timer { member.new.timer ≡ member.old.timer }
-    ensures done { result ≡ Tended.Done → until_of member.new.next ≡ None }
+    ensures done { result ≡ Tended.Done → limit_of member.new.next ≡ None }
     ensures bears { BearsChildren result (born births.old) (born births.new) }
     ensures tends { MemberTends p result member.new desk.new.shard }
     ensures goes_on { GoesOn desk.old desk.new }
@@ -700,6 +701,7 @@ fn last_timer<B: Drop>(before: Option<Member<B>>) -> Option<Timer>
 }
 
 /// Cancels a timer, if there is one.
+#[inline(always)]
 fn stop_timer(timers: &mut Timers<Pid>, timer: Option<Timer>)
     ensures { Stops timer timers.old timers.new }
 {

@@ -26,7 +26,7 @@ use Rattle.pt_crew.specs.declared.behaviour.Next.TheVariants.{Wait, WaitUntil, P
 use Rattle.pt_crew.specs.declared.births.Role.{Role}
 use Rattle.pt_crew.specs.Births.{Bore}
 use Rattle.pt_crew.proofs.Telling.{called_or_same}
-use Rattle.pt_crew.specs.Waking.{pick_of, until_of}
+use Rattle.pt_crew.specs.Waking.{pick_of, limit_of}
 use Rattle.pt_crew.specs.Visiting.{Answers}
 use Rattle.pt_crew.specs.Upholding.{IsLater, IsLeftAlone, ActsFor, GoesOnWithout, ItemIsTaken, AllFirst, IsUpheld, children_by}
 use Rattle.pt_crew.proofs.Waking.{by_cases}
@@ -232,7 +232,7 @@ refused_holds s m me before was d e same proceeds is as_is h =
     subst (λ (x : Standing). Holds x Proceed me e) (sym same) (subst (λ (n : Next). Holds s n me e) proceeds (subst (Holds s before me) (sym (as_is ∙ is)) h))
 
 -- a supervisor waits until no time
-no_until : (before : Next) (s : Standing) → Supervises before s → is_some (until_of before) ≡ true → ⊥
+no_until : (before : Next) (s : Standing) → Supervises before s → is_some (limit_of before) ≡ true → ⊥
 no_until (Wait pick) s waits until = cc
 no_until (WaitUntil pick at) s waits until = waits
 no_until Proceed s waits until = cc

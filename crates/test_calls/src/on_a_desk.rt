@@ -30,6 +30,7 @@ enum Play {
     Crew,
     Items,
     Listener,
+    Clock,
 }
 
 /// Runs on a new node, and gathers it.
@@ -56,6 +57,7 @@ fn on_desk(rt: &impl Abort, alloc: Global, desk: &mut Desk, play: Play)
         Play::Crew => serve(rt, alloc, desk),
         Play::Items => take(rt, desk),
         Play::Listener => listen(rt, alloc, desk),
+        Play::Clock => wake(rt, alloc, desk),
     }
 }
 
@@ -224,6 +226,55 @@ fn hears(rt: &impl Abort, crew: &mut Crew<Listener>, desk: &mut Desk)
     assert_eq!(rt; heard, Some(1));
 }
 
+/// Notes when its time came.
+#[derive(Drop)]
+struct Clock {
+    at: u64,
+}
+
+impl Behaviour for Clock {
+    ghost use Rattle.std.specs.Prelude.{⊤};
+
+    ghost answers = { λ _ _ _ _ _ _ _ _. ⊤ };
+
+    #[tactic(auto, using(pt_workers::proofs::GoingOn::stays))]
+    fn handle(
+        &mut self,
+        _desk: &mut Desk,
+        births: &mut Births<Clock>,
+        _me: Pid,
+        _item: Option<Item>,
+    ) -> Next {
+        self.at = births.now();
+        Next::Wait(Pick::Any)
+    }
+}
+
+fn wake(rt: &impl Abort, alloc: Global, desk: &mut Desk)
+    ensures { IsStill desk.old desk.new }
+{
+    let mut crew = Crew::new(alloc, 1);
+    rings(rt, &mut crew, desk);
+}
+
+/// A process that waits until a time gets `None` in the step of that time, and has no timer then.
+fn rings(rt: &impl Abort, crew: &mut Crew<Clock>, desk: &mut Desk)
+    ensures { IsStill desk.old desk.new }
+{
+    let until = Next::WaitUntil(Pick::Any, 9);
+    let p = crew
+        .enter(desk, Clock { at: 0 }, until)
+        .expect(rt, "memory");
+    crew.set_time(4);
+    crew.step(desk);
+    assert_eq!(rt; crew.next_time(), Some(9));
+    crew.set_time(9);
+    crew.step(desk);
+    assert_eq!(rt; crew.next_time(), None);
+    let at = crew.behaviour(p).map(|clock| clock.at);
+    assert_eq!(rt; at, Some(9));
+}
+
 #[test]
 fn a_monster_is_hit(rt: HostRuntime) {
     played(&rt, rt.alloc(), Play::Game);
@@ -242,6 +293,11 @@ fn items_are_taken_one_after_the_other(rt: HostRuntime) {
 #[test]
 fn a_listener_never_asks_to_stop(rt: HostRuntime) {
     played(&rt, rt.alloc(), Play::Listener);
+}
+
+#[test]
+fn a_time_comes(rt: HostRuntime) {
+    played(&rt, rt.alloc(), Play::Clock);
 }
 
 #[test]

@@ -4,6 +4,7 @@ use Rattle.std.proofs.lemmas.List.{length-set}
 use Rattle.pt_workers.proofs.StillDesks.{still_desks}
 use Rattle.pt_crew.specs.declared.crew.Crew.{Crew}
 use Rattle.pt_crew.proofs.Runs.{FirstUphold, one_more}
+use Rattle.pt_crew.specs.Running.{UpholdsOn}
 use Rattle.pt_supervisor.specs.Keeping.{Keeps}
 use Rattle.example_scenes.specs.declared.team.Member.{Member}
 use Rattle.example_scenes.specs.Team.{boss_of}
@@ -16,12 +17,13 @@ loop-place-preserved c =
     let desks = c.loop-place.desks.items in
     let place = c.loop-place.place in
     let desk = c.staffed.new.desk in
-    let crew = c.in_ok-crew.crew in
+    let crew : Crew Member = c.new-work.result in
     let on = c.staffed.ensures.goes_on in
     let within : place < length desks = omega (arith, c.loop-place-test.true, inv.same, c.len-place-end.ensures) in
+    let upholds = subst (λ (w : Crew Member). UpholdsOn (Keeps boss_of) w desk.shard) (sym c.new-work.ensures) c.in_ok-crew.ensures.upholds in
     let more = c.in_ok-push.ensures.items in
     let grown : FirstUphold (Keeps boss_of) (crews ++ crew ∷ []) (set desks (length crews) desk) =
-    one_more (Keeps boss_of) crews desks crew desk (omega (arith, within, inv.count)) inv.first c.in_ok-crew.ensures.upholds in
+    one_more (Keeps boss_of) crews desks crew desk (omega (arith, within, inv.count)) inv.first upholds in
     record {
       count = let l = ap length more in let a = length-append crews (crew ∷ []) in omega (arith, l, a, inv.count);
       same = length-set desks place desk ∙ inv.same;

@@ -12,8 +12,8 @@ none_of (Some x) h = absurd (cc)
 
 pub returns-clause-upholds : goal.returns-clause-upholds
 returns-clause-upholds c =
-    λ a. c.gathered_children_live.ensures.rests 1024 c.run_single.new.self c.turn_until_still.new.self c.run_single.new.works.items c.turn_until_still.result c.turn_until_still.ensures.rounds
-    (c.gathered_children_live.ensures.rounds 50 1024 c.args.node.now c.run_single.new.self c.args.crews.now.items c.run_single.new.works.items c.run_single.result c.run_single.ensures a)
+    λ a. c.gathered_children_live.ensures.rests 256 c.run_single.new.self c.turn_until_still.new.self c.run_single.new.works.items c.turn_until_still.result c.turn_until_still.ensures.rounds
+    (c.gathered_children_live.ensures.rounds 8 256 c.args.node.now c.run_single.new.self c.args.crews.now.items c.run_single.new.works.items c.run_single.result c.run_single.ensures a)
 
 pub returns-clause-still : goal.returns-clause-still
 returns-clause-still c =

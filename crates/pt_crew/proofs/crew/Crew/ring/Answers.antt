@@ -1,10 +1,10 @@
 -- `Crew::ring`: its contract, and its loop over `due`.
-use Rattle.std.proofs.Common.{[], ap, refl, sym, ◌∙◌, append-nil, arith}
+use Rattle.std.proofs.Common.{[], refl, sym, ◌∙◌, append-nil, arith}
 use Rattle.pt_crew.specs.Crews.{queue, roles}
 use Rattle.pt_crew.proofs.Reading.{on_ok, woke_knows}
-use Rattle.pt_crew.proofs.Room.{ok_not_err, on_err_of}
-use Rattle.pt_crew.proofs.Timing.{none_due, timers_is}
-use Rattle.pt_crew.proofs.Visiting.{longer_then, rest_then, same_longer, same_roles, same_then}
+use Rattle.pt_crew.proofs.Room.{on_err_of}
+use Rattle.pt_crew.proofs.Timing.{timers_is}
+use Rattle.pt_crew.proofs.Visiting.{longer_then, rest_then, same_then}
 use Rattle.pt_crew.proofs.Waking.{knows_is}
 use Rattle.pt_crew.proofs.crew.Crew.ring.Goals as goal
 

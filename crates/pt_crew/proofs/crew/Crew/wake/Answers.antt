@@ -1,5 +1,5 @@
 -- `Crew::wake`: its clauses `wakes`, `room`, `refused` and `keys`.
-use Rattle.std.proofs.Common.{◌≡◌, List, [], ◌∷◌, ◌++◌, Bool, true, cond, None, OnOk, ap, sym, refl, ◌∙◌, append-nil, arith}
+use Rattle.std.proofs.Common.{◌≡◌, List, [], ◌∷◌, ◌++◌, Bool, true, cond, None, ap, sym, refl, ◌∙◌, append-nil, arith}
 use Rattle.pt_signal.specs.declared.pid.Pid.{Pid}
 use Rattle.pt_crew.proofs.Waking.{woken, same_back, same_queue, same_some, some_none, no_place, woken_queue}
 use Rattle.pt_crew.proofs.Reading.{absent_wakes}
