@@ -24,7 +24,7 @@ IMPL = re.compile(r"^impl(?:<.*?>)? (\w+)(?:<[^{]*>)?(?: \{|$)")
 CALL = re.compile(r"^( *)pub (?:unsafe )?fn (\w+)")
 NAMED = re.compile(r"(?<!fn )\b(\w+)(?:::<[^()]*>)?\(")
 # The tests, what they alone reach, and what `.ci/run` builds: two programs and the C library.
-CRATES = "test_calls test_recipes test_stress example_uses pt_resting pt_crew pt_supervisor example_hello example_scenes pt_table pt_c"
+CRATES = "test_calls test_recipes test_stress example_uses pt_resting pt_crew pt_supervisor example_hello example_scenes example_exchange pt_table pt_c"
 CALLERS = [
     "checks/tried/*/*.rt.txt",
     "checks/refused/calls/*.rt.txt",
