@@ -14,37 +14,35 @@ ghost use Rattle.pt_accounts.specs.Steps.{life_after, MaySee, IsNextOf};
 use crate::Account;
 use crate::life::Life;
 use pt_events::Event;
+use pt_reasons::Reasons;
 use pt_signal::{Ids, Pid, Reason, Ref};
 use std::alloc::{AllocError, Global};
 use std::marker::Model;
-use std::mem::size_of;
-
-const _: () = prove!(size_of::<Reason>() <= 8);
 
 /// The processes by version; the first is version 1.
 ///
-/// All but the newest have exited. For forgotten ones only the reasons are kept.
+/// All but the newest have exited. For forgotten ones only the reasons are kept, as runs of equal ones.
 #[derive(Drop)]
 pub(crate) struct Slot {
     desk: u8,
     slot: u32,
-    /// This list has room for all that are not forgotten yet.
-    forgotten: Vec<Reason>,
+    /// It has room for all that are not forgotten yet.
+    forgotten: Reasons,
     ended: Vec<Life>,
     newest: Option<Life>,
 }
 
 impl Model for Slot {
-    ghost use Rattle.std.specs.Prelude.{List, vec_capacity};
+    ghost use Rattle.std.specs.Prelude.{List, length, ◌+◌};
     ghost use Rattle.pt_accounts.specs.LifeState.{LifeState};
     ghost use Rattle.pt_accounts.specs.SlotState.{lives_of, IsSlot};
 
     ghost Value = { List LifeState };
 
-    ghost view = { λ s. lives_of s.desk s.slot s.forgotten.items s.ended.items s.newest };
+    ghost view = { λ s. lives_of s.desk s.slot s.forgotten.listed s.ended.items s.newest };
 
     ghost invariant = { λ s.
-        IsSlot s.desk s.slot s.forgotten.items (vec_capacity s.forgotten) s.ended.items s.newest };
+        IsSlot s.desk s.slot s.forgotten.listed (length s.forgotten.listed + s.forgotten.room) s.ended.items s.newest };
 }
 
 /// The process at this place among those that are not forgotten.
@@ -61,10 +59,11 @@ fn recent<'a>(ended: &'a [Life], newest: &'a Option<Life>, place: usize) -> Opti
 }
 
 /// Adds a reason, if there is one.
-fn add_reason(forgotten: &mut Vec<Reason>, reason: Option<Reason>)
-    requires { vec_len forgotten.old + length (option_to_list reason) ≤ vec_capacity forgotten.old }
-    ensures items { forgotten.new.items ≡ forgotten.old.items ++ option_to_list reason }
-    ensures room { vec_capacity forgotten.new ≡ vec_capacity forgotten.old }
+fn add_reason(forgotten: &mut Reasons, reason: Option<Reason>)
+    requires room { length (option_to_list reason) ≤ forgotten.old.room }
+    requires few { length forgotten.old.listed + length (option_to_list reason) < 2 ^ 32 }
+    ensures listed { forgotten.new.listed ≡ forgotten.old.listed ++ option_to_list reason }
+    ensures room { forgotten.old.room ≤ forgotten.new.room + length (option_to_list reason) }
 {
     if let Some(reason) = reason {
         forgotten.push_reserved(reason);
@@ -72,10 +71,11 @@ fn add_reason(forgotten: &mut Vec<Reason>, reason: Option<Reason>)
 }
 
 /// Adds their reasons.
-fn add_reasons(forgotten: &mut Vec<Reason>, ended: &[Life])
-    requires { vec_len forgotten.old + length ended.now ≤ vec_capacity forgotten.old }
-    ensures items { forgotten.new.items ≡ forgotten.old.items ++ reasons_of ended.now }
-    ensures room { vec_capacity forgotten.new ≡ vec_capacity forgotten.old }
+fn add_reasons(forgotten: &mut Reasons, ended: &[Life])
+    requires room { length ended.now ≤ forgotten.old.room }
+    requires few { length forgotten.old.listed + length ended.now < 2 ^ 32 }
+    ensures listed { forgotten.new.listed ≡ forgotten.old.listed ++ reasons_of ended.now }
+    ensures room { forgotten.old.room ≤ forgotten.new.room + length ended.now }
 {
     for place in 0..ended.len() {
         add_reason(forgotten, ended[place].ended());
@@ -143,7 +143,7 @@ impl Slot {
         Slot {
             desk: 0,
             slot: 0,
-            forgotten: Vec::new(alloc),
+            forgotten: Reasons::new(alloc),
             ended: Vec::new(alloc),
             newest: None,
         }
@@ -261,10 +261,10 @@ impl Slot {
             return None;
         }
         let place = version as usize - 1;
-        let before = self.forgotten.len();
-        if place < before {
-            return Some(Account::forgotten(self.forgotten[place]));
+        if let Some(reason) = self.forgotten.get(place) {
+            return Some(Account::forgotten(reason));
         }
+        let before = self.forgotten.len();
         match recent(self.ended.as_slice(), &self.newest, place - before) {
             Some(life) => Some(life.account()),
             None => None,

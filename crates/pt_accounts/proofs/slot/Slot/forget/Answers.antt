@@ -1,5 +1,5 @@
 -- `Slot::forget`: its contract, and the invariant of `self`, and what its calls of `add_reasons` and `add_reason` ask.
-use Rattle.std.proofs.Common.{◌≡◌, ◌∙◌, ◌++◌, ◌+◌, [], ap, sym, subst, arith, length, map, List, vec_capacity, option_to_list}
+use Rattle.std.proofs.Common.{◌≡◌, ◌∙◌, ◌++◌, ◌+◌, ◌≤◌, [], ap, sym, subst, arith, length, map, List, option_to_list}
 use Rattle.std.proofs.lemmas.List.{length-append}
 use Rattle.pt_accounts.specs.LifeState.{LifeState}
 use Rattle.pt_accounts.specs.DeskLives.{forgotten}
@@ -8,44 +8,62 @@ use Rattle.pt_accounts.proofs.SlotLives.{many_reasons, ends_or_stays, forgets, f
 use Rattle.pt_accounts.proofs.slot.Slot.forget.Goals as goal
 use Rattle.pt_accounts.proofs.slot.Slot.forget.Goals.{After-add_reason, After-add_reasons}
 
-added : (c : After-add_reasons) → c.add_reasons.new.forgotten.items ≡ c.self.inside.forgotten.items ++ reasons_of c.self.inside.ended.items
-added c = c.add_reasons.ensures.items ∙ ap (λ (l : List LifeState). c.self.inside.forgotten.items ++ reasons_of l) c.as_slice.ensures.value
+added : (c : After-add_reasons) → c.add_reasons.new.forgotten.listed ≡ c.self.inside.forgotten.listed ++ reasons_of c.self.inside.ended.items
+added c = c.add_reasons.ensures.listed ∙ ap (λ (l : List LifeState). c.self.inside.forgotten.listed ++ reasons_of l) c.as_slice.ensures.value
 
-all_added : (c : After-add_reason) → c.add_reason.new.forgotten.items ≡ (c.self.inside.forgotten.items ++ reasons_of c.self.inside.ended.items) ++ option_to_list (life_end c.self.inside.newest)
+all_added : (c : After-add_reason) → c.add_reason.new.forgotten.listed ≡ (c.self.inside.forgotten.listed ++ reasons_of c.self.inside.ended.items) ++ option_to_list (life_end c.self.inside.newest)
 all_added c =
-    c.add_reason.ensures.items ∙ ap (λ z. z ++ option_to_list c.forget_newest-reason.result) (added (goal.at.returns c).After-add_reasons)
-    ∙ ap (λ o. (c.self.inside.forgotten.items ++ reasons_of c.self.inside.ended.items) ++ option_to_list o) c.forget_newest-reason.ensures.reason
+    c.add_reason.ensures.listed ∙ ap (λ z. z ++ option_to_list c.forget_newest-reason.result) (added (goal.at.returns c).After-add_reasons)
+    ∙ ap (λ o. (c.self.inside.forgotten.listed ++ reasons_of c.self.inside.ended.items) ++ option_to_list o) c.forget_newest-reason.ensures.reason
 
-pub add_reasons-requires : goal.add_reasons-requires
-add_reasons-requires c = let r = c.self.invariant.room in let o = c.self.inside.forgotten.ok.0 in let p = c.as_slice.ensures.len in let q = c.self.inside.ended.ok.0 in omega arith
+pub add_reasons-requires-clause-room : goal.add_reasons-requires-clause-room
+add_reasons-requires-clause-room c = let r = c.self.invariant.room in let p = c.as_slice.ensures.len in let q = c.self.inside.ended.ok.0 in omega arith
 
-pub add_reason-requires : goal.add_reason-requires
-add_reason-requires c =
+pub add_reasons-requires-clause-few : goal.add_reasons-requires-clause-few
+add_reasons-requires-clause-few c = let r = c.self.invariant.few in let p = c.as_slice.ensures.len in let q = c.self.inside.ended.ok.0 in omega arith
+
+-- how many reasons there are, and for how many there is room, once those of the ended ones are added
+grown : (c : After-add_reasons) → (length c.add_reasons.new.forgotten.listed ≡ length c.self.inside.forgotten.listed + length c.self.inside.ended.items)
+    × (c.self.inside.forgotten.room ≤ c.add_reasons.new.forgotten.room + length c.self.inside.ended.items)
+grown c =
     let s = c.self.inside in
-    let r = c.self.invariant.room in
-    let k : length c.add_reasons.new.forgotten.items ≡ length s.forgotten.items + length (reasons_of s.ended.items) = ap length (added (goal.at.add_reason-requires c).After-add_reasons) ∙ length-append s.forgotten.items (reasons_of s.ended.items) in
-    let n = many_reasons s.desk s.slot (vec_capacity s.forgotten) s.forgotten.items s.ended.items s.newest c.self.invariant in
+    let k : length c.add_reasons.new.forgotten.listed ≡ length s.forgotten.listed + length (reasons_of s.ended.items) = ap length (added c) ∙ length-append s.forgotten.listed (reasons_of s.ended.items) in
+    let n = many_reasons s.desk s.slot (length s.forgotten.listed + s.forgotten.room) s.forgotten.listed s.ended.items s.newest c.self.invariant in
+    let l : length c.as_slice.result.now ≡ length s.ended.items = ap length c.as_slice.ensures.value in
+    (omega (arith, k, n), omega (arith, c.add_reasons.ensures.room, l))
+
+pub add_reason-requires-clause-room : goal.add_reason-requires-clause-room
+add_reason-requires-clause-room c =
+    let s = c.self.inside in
+    let g = grown (goal.at.add_reason-requires-clause-room c).After-add_reasons in
     let m = ends_or_stays s.newest in
     let e : length (option_to_list c.forget_newest-reason.result) ≡ length (option_to_list (life_end s.newest)) = ap (λ (o : _). length (option_to_list o)) c.forget_newest-reason.ensures.reason in
-    let o = c.add_reasons.new.forgotten.ok.0 in
-    let cap = c.add_reasons.ensures.room in
-    omega arith
+    omega (arith, c.self.invariant.room, g.1, m, e)
+
+pub add_reason-requires-clause-few : goal.add_reason-requires-clause-few
+add_reason-requires-clause-few c =
+    let s = c.self.inside in
+    let g = grown (goal.at.add_reason-requires-clause-few c).After-add_reasons in
+    let m = ends_or_stays s.newest in
+    let e : length (option_to_list c.forget_newest-reason.result) ≡ length (option_to_list (life_end s.newest)) = ap (λ (o : _). length (option_to_list o)) c.forget_newest-reason.ensures.reason in
+    omega (arith, c.self.invariant.few, g.0, m, e)
 
 pub invariant_of-self : goal.invariant_of-self
 invariant_of-self c =
     let s = c.self.inside in
     let q = c.add_reason.new.forgotten in
     let empty : c.shrink_to_fit.new.self.items ≡ [] = c.shrink_to_fit.ensures.items ∙ c.clear.ensures.items in
-    let a = c.add_reasons.ensures.room in
-    let b = c.add_reason.ensures.room in
-    subst (λ (l : List LifeState). IsSlot s.desk s.slot q.items (vec_capacity q) l c.forget_newest-reason.new.newest) (sym empty)
-    (forgot s.desk s.slot (vec_capacity s.forgotten) s.forgotten.items s.ended.items s.newest c.self.invariant q.items c.forget_newest-reason.new.newest (vec_capacity q) (all_added c) c.forget_newest-reason.ensures.left (omega arith))
+    let g = grown (goal.at.invariant_of-self c).After-add_reasons in
+    let long : length q.listed ≡ length c.add_reasons.new.forgotten.listed + length (option_to_list c.forget_newest-reason.result) =
+        ap length c.add_reason.ensures.listed ∙ length-append c.add_reasons.new.forgotten.listed (option_to_list c.forget_newest-reason.result) in
+    subst (λ (l : List LifeState). IsSlot s.desk s.slot q.listed (length q.listed + q.room) l c.forget_newest-reason.new.newest) (sym empty)
+    (forgot s.desk s.slot (length s.forgotten.listed + s.forgotten.room) s.forgotten.listed s.ended.items s.newest c.self.invariant q.listed c.forget_newest-reason.new.newest (length q.listed + q.room) (all_added (goal.at.invariant_of-self c).After-add_reason) c.forget_newest-reason.ensures.left (omega (arith, g.0, g.1, c.add_reason.ensures.room, long)))
 
 pub returns : goal.returns
 returns c =
     let s = c.self.inside in
     let q = c.add_reason.new.forgotten in
     let empty : c.shrink_to_fit.new.self.items ≡ [] = c.shrink_to_fit.ensures.items ∙ c.clear.ensures.items in
-    ap (λ (l : List LifeState). lives_of s.desk s.slot q.items l c.forget_newest-reason.new.newest) empty
-    ∙ forgets s.desk s.slot (vec_capacity s.forgotten) s.forgotten.items s.ended.items s.newest c.self.invariant q.items c.forget_newest-reason.new.newest (all_added c) c.forget_newest-reason.ensures.left
+    ap (λ (l : List LifeState). lives_of s.desk s.slot q.listed l c.forget_newest-reason.new.newest) empty
+    ∙ forgets s.desk s.slot (length s.forgotten.listed + s.forgotten.room) s.forgotten.listed s.ended.items s.newest c.self.invariant q.listed c.forget_newest-reason.new.newest (all_added c) c.forget_newest-reason.ensures.left
     ∙ ap (map forgotten) c.self.view_is

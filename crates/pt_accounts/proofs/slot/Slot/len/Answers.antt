@@ -7,8 +7,7 @@ use Rattle.pt_accounts.proofs.slot.Slot.len.Goals as goal
 pub returns-clause-len : goal.returns-clause-len
 returns-clause-len c =
     let s = c.self.inside in
-    let n : length (lives_of s.desk s.slot s.forgotten.items s.ended.items s.newest) ≡ length c.args.self.now = ap length c.self.view_is in
-    let l = length_lives s.desk s.slot s.forgotten.items s.ended.items s.newest in
-    let a = s.forgotten.ok.0 in
+    let n : length (lives_of s.desk s.slot s.forgotten.listed s.ended.items s.newest) ≡ length c.args.self.now = ap length c.self.view_is in
+    let l = length_lives s.desk s.slot s.forgotten.listed s.ended.items s.newest in
     let b = s.ended.ok.0 in
     omega arith

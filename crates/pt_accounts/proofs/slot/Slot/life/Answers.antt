@@ -1,5 +1,5 @@
 -- `Slot::life`: its contract.
-use Rattle.std.proofs.Common.{◌-◌, subst, arith, inl, inr, refl, vec_capacity}
+use Rattle.std.proofs.Common.{◌-◌, subst, arith, inl, inr, refl, length, ◌+◌}
 use Rattle.std.specs.Option.{option_map}
 use Rattle.pt_accounts.specs.Table.{of_version}
 use Rattle.pt_accounts.specs.SlotState.{IsForgotten}
@@ -9,12 +9,10 @@ use Rattle.pt_accounts.proofs.slot.Slot.life.Goals as goal
 pub returns-then-version-before : goal.returns-then-version-before
 returns-then-version-before c =
     let s = c.self.inside in
-    let a = s.forgotten.ok.0 in
-    inr (refl, subst (λ l. IsForgotten (of_version l c.args.version)) c.self.view_is (early s.desk s.slot (vec_capacity s.forgotten) s.forgotten.items s.ended.items s.newest c.self.invariant c.args.version (omega arith)))
+    inr (refl, subst (λ l. IsForgotten (of_version l c.args.version)) c.self.view_is (early s.desk s.slot (length s.forgotten.listed + s.forgotten.room) s.forgotten.listed s.ended.items s.newest c.self.invariant c.args.version (omega arith)))
 
 pub returns : goal.returns
 returns c =
     let s = c.self.inside in
-    let a = s.forgotten.ok.0 in
-    inl (late_known s.desk s.slot (vec_capacity s.forgotten) s.forgotten.items s.ended.items s.newest c.self.invariant c.args.self.now c.args.version (c.args.version - c.len-before.result - 1) c.as_slice.result.now
+    inl (late_known s.desk s.slot (length s.forgotten.listed + s.forgotten.room) s.forgotten.listed s.ended.items s.newest c.self.invariant c.args.self.now c.args.version (c.args.version - c.len-before.result - 1) c.as_slice.result.now
     (option_map (λ life. life.now) c.recent.result) c.self.view_is (omega arith) c.as_slice.ensures.value c.recent.ensures)

@@ -1,5 +1,5 @@
 -- `Slot::push`: its clause `added`, and the invariant of `self`.
-use Rattle.std.proofs.Common.{◌∙◌, ◌++◌, ◌∷◌, [], Some, List, ap, sym, subst, arith, vec_capacity}
+use Rattle.std.proofs.Common.{◌∙◌, ◌++◌, ◌∷◌, [], Some, List, ap, sym, subst, arith, length, ◌+◌}
 use Rattle.pt_accounts.specs.LifeState.{LifeState}
 use Rattle.pt_accounts.specs.SlotState.{IsSlot, lives_of}
 use Rattle.pt_accounts.specs.Steps.{IsNextOf}
@@ -10,22 +10,20 @@ pub invariant_of-self-2 : goal.invariant_of-self-2
 invariant_of-self-2 c =
     let s = c.self.inside in
     let f = c.reserve.new.self in
-    let n : IsNextOf c.args.pid (lives_of s.desk s.slot s.forgotten.items s.ended.items s.newest) = subst (IsNextOf c.args.pid) (sym c.self.view_is) c.requires.next in
-    let ok = c.in_ok-reserve.ensures.ok in
+    let n : IsNextOf c.args.pid (lives_of s.desk s.slot s.forgotten.listed s.ended.items s.newest) = subst (IsNextOf c.args.pid) (sym c.self.view_is) c.requires.next in
+    let ok = c.in_ok-reserve.ensures.room in
     let a = c.len.ensures in
     let b = s.ended.ok.0 in
-    let e = s.forgotten.ok.0 in
-    let l = c.in_ok-reserve.ensures.len in
-    subst (λ rs. IsSlot c.args.pid.shard c.args.pid.slot rs (vec_capacity f) c.move_newest.new.ended.items (Some c.args.life)) (sym c.in_ok-reserve.ensures.items)
-    (subst (λ es. IsSlot c.args.pid.shard c.args.pid.slot s.forgotten.items (vec_capacity f) es (Some c.args.life)) (sym c.in_ok-move_newest.ensures.moved)
-    (pushed_slot s.desk s.slot (vec_capacity s.forgotten) s.forgotten.items s.ended.items s.newest c.self.invariant c.args.pid c.args.life (vec_capacity f) c.requires.pid (omega arith) n (omega arith)))
+    subst (λ rs. IsSlot c.args.pid.shard c.args.pid.slot rs (length f.listed + f.room) c.move_newest.new.ended.items (Some c.args.life)) (sym c.in_ok-reserve.ensures.listed)
+    (subst (λ es. IsSlot c.args.pid.shard c.args.pid.slot s.forgotten.listed (length f.listed + f.room) es (Some c.args.life)) (sym c.in_ok-move_newest.ensures.moved)
+    (pushed_slot s.desk s.slot (length s.forgotten.listed + s.forgotten.room) s.forgotten.listed s.ended.items s.newest c.self.invariant c.args.pid c.args.life (length f.listed + f.room) c.requires.pid (omega arith) n (omega (arith, ok, a, b, ap length c.in_ok-reserve.ensures.listed))))
 
 pub returns-clause-added : goal.returns-clause-added
 returns-clause-added c =
     let s = c.self.inside in
     let f = c.reserve.new.self in
-    let n : IsNextOf c.args.pid (lives_of s.desk s.slot s.forgotten.items s.ended.items s.newest) = subst (IsNextOf c.args.pid) (sym c.self.view_is) c.requires.next in
-    ap (λ rs. lives_of c.args.pid.shard c.args.pid.slot rs c.move_newest.new.ended.items (Some c.args.life)) c.in_ok-reserve.ensures.items
-    ∙ ap (λ es. lives_of c.args.pid.shard c.args.pid.slot s.forgotten.items es (Some c.args.life)) c.in_ok-move_newest.ensures.moved
-    ∙ pushed_lives s.desk s.slot (vec_capacity s.forgotten) s.forgotten.items s.ended.items s.newest c.self.invariant c.args.pid c.args.life c.requires.pid n
+    let n : IsNextOf c.args.pid (lives_of s.desk s.slot s.forgotten.listed s.ended.items s.newest) = subst (IsNextOf c.args.pid) (sym c.self.view_is) c.requires.next in
+    ap (λ rs. lives_of c.args.pid.shard c.args.pid.slot rs c.move_newest.new.ended.items (Some c.args.life)) c.in_ok-reserve.ensures.listed
+    ∙ ap (λ es. lives_of c.args.pid.shard c.args.pid.slot s.forgotten.listed es (Some c.args.life)) c.in_ok-move_newest.ensures.moved
+    ∙ pushed_lives s.desk s.slot (length s.forgotten.listed + s.forgotten.room) s.forgotten.listed s.ended.items s.newest c.self.invariant c.args.pid c.args.life c.requires.pid n
     ∙ ap (λ (l : List LifeState). l ++ c.args.life ∷ []) c.self.view_is
