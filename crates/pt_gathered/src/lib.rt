@@ -39,8 +39,8 @@
 //! exited process these are what it held at its exit.
 //!
 //! A quiet node has a list of all pids that ever were, which takes time and memory. [`Gathered::settle_unlisted`]
-//! settles without it: a [`Settled`] node has the history, and what resuming takes. [`Settled::list`] makes the quiet
-//! node of it, and [`Quiet::into_settled`] gives the list up.
+//! settles without it: a [`Settled`] node has the history, and what resuming takes. [`Settled::into_quiet`] makes the
+//! quiet node of it, and [`Quiet::into_settled`] gives the list up.
 //!
 //! # Resuming
 //!
@@ -55,9 +55,9 @@
 //! A letter that settling handles costs its receipt. If it is the only one of its pass, it also costs three simple
 //! tests for each desk, 192 in a node of 64; letters of one pass share these. Desks to which nothing is left over are
 //! not looked at, and each lane is looked at in full once. No list of letters is moved, and no journal and no table is
-//! copied. Reading the journals takes constant time, on average, for each event. `settle` and `list` take a step more
-//! for each pid that ever was, and `settle_unlisted` does not. `history` takes time by the logarithm of the number of
-//! desks for each event.
+//! copied. Reading the journals takes constant time, on average, for each event. `settle` and `into_quiet` take a step
+//! more for each pid that ever was, and `settle_unlisted` does not. `history` takes time by the logarithm of the number
+//! of desks for each event.
 //!
 //! Tests: `checks/rows/settling.txt`, `checks/rows/resumed.txt`, `checks/rows/going_on.txt`, `checks/rows/quiet.txt`
 //! and `checks/tried/test_calls/epochs.rt.txt`.
@@ -74,8 +74,8 @@
 //! - **Quiet.** Links are at both ends or at neither. Each monitor was cancelled, had its one `DOWN`, or is open and
 //!   kept. (`Quiet::laws`)
 //! - **Answers.** Once settled, each question of a live process has its one answer, which is true.
-//! - **Without a list.** `settle_unlisted` promises what `settle` does. `Settled::list` makes the quiet node with that
-//!   history of it, or gives it back as it was.
+//! - **Without a list.** `settle_unlisted` promises what `settle` does. `Settled::into_quiet` makes the quiet node of it,
+//!   or gives it back as it was.
 //! - **Accounts.** `Quiet` returns for each process what the definitions give for every merge of the journals.
 //! - **Settling that fails.** It keeps all that holds for a gathered node, and its contract says where it stopped.
 //!   (`SettlingStops`)

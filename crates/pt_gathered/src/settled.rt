@@ -31,7 +31,7 @@ use std::marker::Model;
 /// list of all its processes.
 ///
 /// It has what a program takes between two epochs: the history, the number of letters handled, and what resuming takes.
-/// [`list`](Settled::list) makes the quiet node of it. Only `history`, `latest_ends` and `list` take memory.
+/// [`into_quiet`](Settled::into_quiet) makes the quiet node of it. Only `history`, `latest_ends` and `into_quiet` take memory.
 #[derive(Drop)]
 pub struct Settled {
     node: AtRest,
@@ -78,8 +78,8 @@ impl Settled {
 
     /// The quiet node, with the list of all processes ever spawned. Fails only if there is no memory for the list: the
     /// settled node then comes back, as it was.
-    pub fn list(self) -> Result<Quiet, Settled>
-        ensures listed { IfOk result (λ quiet. quiet ≡ self) }
+    pub fn into_quiet(self) -> Result<Quiet, Settled>
+        ensures quiet { IfOk result (λ quiet. quiet ≡ self) }
         ensures back { IfErr result (λ back. back ≡ self) }
     {
         let alloc = self.node.alloc();

@@ -104,7 +104,7 @@ impl Gathered {
             Ok(settled) => settled,
             Err(unsettled) => return Err(unsettled),
         };
-        match settled.list() {
+        match settled.into_quiet() {
             Ok(quiet) => Ok(quiet),
             Err(settled) => {
                 let gathered = settled.into_gathered();
