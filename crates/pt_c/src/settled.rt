@@ -60,7 +60,7 @@ pub extern "C" fn pt_settle_unlisted(
     }
 }
 
-/// The settled node with the list of its pids, as `Settled::list` makes it. `out` has it then, and the handle of the
+/// The settled node with the list of its pids, as `Settled::into_quiet` makes it. `out` has it then, and the handle of the
 /// node without the list is empty.
 ///
 /// `out` must be empty: it returns 10 if it is not. If it returns 2, for want of memory, the node is in its handle as it
