@@ -249,6 +249,7 @@ one_round() {
     fi
     if wants epochs; then
         run plain "$room/crates/pt_bench_epochs/out/pt_bench_epochs"
+        for ends in 1000 100000 1000000; do run plain "$room/crates/pt_bench_epochs/out/pt_bench_epochs" pause "$ends"; done
         ping_epochs "$room/crates/pt_bench_epochs/out/pt_bench_epochs"
         remember_epochs "$room/crates/pt_bench_epochs/out/pt_bench_epochs"
     fi

@@ -180,6 +180,15 @@ table(
     ],
 )
 table(
+    "Epochs: milliseconds of a pause with no event before it, on one desk",
+    ["Ended processes", "settle_unlisted", "resume_settled", "settle", "resume"],
+    [
+        [f"{ends:,}", *[time((plain, "epochs", f"{call}_{how}_after_{ends}"), 1e3) for how in ("unlisted", "listed") for call in ("settle", "resume")]]
+        for ends in (1_000, 100_000, 1_000_000)
+        if (plain, "epochs", f"settle_listed_after_{ends}") in rates
+    ],
+)
+table(
     "Epochs: kilobytes of memory at the end and at most, and minor faults",
     ["Run", "at the end", "at most", "faults"],
     [[it[4:].replace("_", ", "), *[str(min(rates[(plain, "memory", f"{what}{it[3:]}")])) for what in ("now", "most", "faults")]]

@@ -33,17 +33,20 @@ extern "C" {
 typedef struct { void *at; } pt_desk;
 typedef struct { void *at; } pt_gathered;
 typedef struct { void *at; } pt_quiet;
+typedef struct { void *at; } pt_settled;
 typedef struct { void *at; } pt_history;
 
 #ifdef __cplusplus
 #define PT_NO_DESK pt_desk{nullptr}
 #define PT_NO_GATHERED pt_gathered{nullptr}
 #define PT_NO_QUIET pt_quiet{nullptr}
+#define PT_NO_SETTLED pt_settled{nullptr}
 #define PT_NO_HISTORY pt_history{nullptr}
 #else
 #define PT_NO_DESK ((pt_desk){0})
 #define PT_NO_GATHERED ((pt_gathered){0})
 #define PT_NO_QUIET ((pt_quiet){0})
+#define PT_NO_SETTLED ((pt_settled){0})
 #define PT_NO_HISTORY ((pt_history){0})
 #endif
 
@@ -168,10 +171,20 @@ uint32_t pt_settle(pt_gathered *node, pt_quiet *out);
  * `node` is as it was. */
 uint32_t pt_resume(pt_quiet *node, pt_desk *desks, size_t count);
 
+/* The same for a program that pauses often: pt_settle and pt_resume without the list of all pids that ever were, so a
+ * pause costs what happened since the last one. PT_EMPTY and so on as there. */
+uint32_t pt_settle_unlisted(pt_gathered *node, pt_settled *out);
+uint32_t pt_resume_settled(pt_settled *node, pt_desk *desks, size_t count);
+
+/* Makes that list: `node` is empty then, and `out`, empty before, has the settled node. PT_EMPTY, PT_FILLED; PT_MEMORY,
+ * and then `node` is as it was. */
+uint32_t pt_settled_into_quiet(pt_settled *node, pt_quiet *out);
+
 /* Give up what a handle has, and its memory: the handle is empty. PT_EMPTY, where it was. */
 uint32_t pt_give_up(pt_desk *desk);
 uint32_t pt_gathered_give_up(pt_gathered *node);
 uint32_t pt_quiet_give_up(pt_quiet *node);
+uint32_t pt_settled_give_up(pt_settled *node);
 uint32_t pt_history_give_up(pt_history *history);
 
 /* ---- calls of a process on its desk. Each may answer PT_GONE, PT_WORN, PT_MEMORY and PT_EMPTY */
@@ -230,6 +243,12 @@ uint32_t pt_quiet_account(pt_quiet *node, pt_pid p, pt_account *out);           
 uint32_t pt_quiet_linked(pt_quiet *node, pt_pid p, pt_pid peer, pt_ids *out);     /* PT_NOTHING */
 uint32_t pt_quiet_kept(pt_quiet *node, pt_pid target, pt_ref monitor, bool *out);
 uint32_t pt_quiet_watching(pt_quiet *node, pt_pid watcher, pt_ref monitor, bool *out);
+
+/* ---- what a settled node without the list tells. Each may answer PT_EMPTY */
+
+uint32_t pt_settled_history(pt_settled *node, pt_history *out);                   /* PT_FILLED, PT_MEMORY */
+uint32_t pt_settled_desks(pt_settled *node, uint8_t *out);
+uint32_t pt_settled_handled(pt_settled *node, uint64_t *out);
 
 /* ---- what a history tells. Each may answer PT_EMPTY */
 

@@ -9,11 +9,13 @@
 /* Gathers and settles the node, prints its history, and goes on from it. */
 static void epoch(pt_desk *desks, size_t count) {
     pt_gathered node = PT_NO_GATHERED;
-    pt_quiet quiet = PT_NO_QUIET;
+    pt_settled settled = PT_NO_SETTLED;
     pt_history history = PT_NO_HISTORY;
     pt_event event;
-    assert(pt_gather(desks, count, &node) == PT_OK && pt_settle(&node, &quiet) == PT_OK);
-    assert(pt_quiet_history(&quiet, &history) == PT_OK);
+    uint8_t number;
+    assert(pt_gather(desks, count, &node) == PT_OK && pt_settle_unlisted(&node, &settled) == PT_OK && node.at == NULL);
+    assert(pt_settled_desks(&settled, &number) == PT_OK && number == count);
+    assert(pt_settled_history(&settled, &history) == PT_OK);
     for (size_t k = 0; pt_history_at(&history, k, &event) == PT_OK; k++) {
         pt_print_event(stdout, event);
         puts("");
@@ -21,9 +23,25 @@ static void epoch(pt_desk *desks, size_t count) {
     puts("--");
     assert(pt_history_give_up(&history) == PT_OK);
     /* a wrong number of handles is refused, and nothing is lost */
-    assert(pt_resume(&quiet, desks, count - 1) == PT_BAD_DESKS);
-    assert(pt_resume(&quiet, desks, count) == PT_OK && quiet.at == NULL);
-    assert(pt_resume(&quiet, desks, count) == PT_EMPTY);
+    assert(pt_resume_settled(&settled, desks, count - 1) == PT_BAD_DESKS);
+    assert(pt_resume_settled(&settled, desks, count) == PT_OK && settled.at == NULL);
+    assert(pt_resume_settled(&settled, desks, count) == PT_EMPTY);
+}
+
+/* Settles the node, and lists its pids afterwards. */
+static void last(pt_desk *desks, size_t count, size_t wanted) {
+    pt_gathered node = PT_NO_GATHERED;
+    pt_settled settled = PT_NO_SETTLED;
+    pt_quiet quiet = PT_NO_QUIET;
+    uint64_t handled;
+    size_t pids;
+    assert(pt_settled_into_quiet(&settled, &quiet) == PT_EMPTY && pt_settled_give_up(&settled) == PT_EMPTY);
+    assert(pt_gather(desks, count, &node) == PT_OK && pt_settle_unlisted(&node, &settled) == PT_OK);
+    assert(pt_settled_handled(&settled, &handled) == PT_OK && handled == 0);
+    assert(pt_settled_into_quiet(&settled, &quiet) == PT_OK && settled.at == NULL);
+    assert(pt_quiet_pid_count(&quiet, &pids) == PT_OK && pids == wanted);
+    assert(pt_resume(&quiet, desks, count) == PT_OK && pt_gather(desks, count, &node) == PT_OK);
+    assert(pt_settle_unlisted(&node, &settled) == PT_OK && pt_settled_give_up(&settled) == PT_OK);
 }
 
 int main(void) {
@@ -48,6 +66,6 @@ int main(void) {
     assert(pt_send(&desks[1], worker, boss, (pt_body){.kind = 1}) == PT_GONE);
     assert(pt_spawn(&desks[1], &worker) == PT_OK && worker.version == 2);
     epoch(desks, 2);
-    assert(pt_give_up(&desks[0]) == PT_OK && pt_give_up(&desks[1]) == PT_OK);
+    last(desks, 2, 3);
     return 0;
 }

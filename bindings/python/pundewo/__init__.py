@@ -32,7 +32,7 @@ __version__ = "0.1.0"
 __all__ = [
     "ANY", "BUILD", "KILL", "KILLED", "NOPROC", "NORMAL", "SHUTDOWN", "Account", "Body", "Busy", "Code", "Config", "Desk",
     "Event", "Fault", "Gathered", "History", "Ids", "Item", "LeftOver", "LinkId", "Pick", "Pid", "Quiet", "Reason", "Ref",
-    "Signal", "Turned", "Unsettled", "gather", "open_node",
+    "Settled", "Signal", "Turned", "Unsettled", "gather", "open_node",
 ]
 
 T = TypeVar("T")
@@ -301,6 +301,44 @@ class Gathered(_Held):
         code = self._call(lib.pt_settle, quiet._at)
         if code:
             raise _fault(lib.pt_settle, (), code, Unsettled)
+        return quiet
+
+    def settle_unlisted(self) -> Settled:
+        """The same without the list of all pids that ever were: a pause then costs what happened since the last one."""
+        settled = Settled()
+        code = self._call(lib.pt_settle_unlisted, settled._at)
+        if code:
+            raise _fault(lib.pt_settle_unlisted, (), code, Unsettled)
+        return settled
+
+
+class Settled(_Held):
+    """A settled node without the list of its pids."""
+
+    _give_up = "pt_settled_give_up"
+
+    def history(self) -> History:
+        """The events of all desks in one legal order."""
+        return _history(self, lib.pt_settled_history)
+
+    def desks(self) -> int:
+        """How many desks the node has."""
+        return self._give(lib.pt_settled_desks, c.c_uint8()).value
+
+    def handled(self) -> int:
+        """How many letters settling handled."""
+        return self._give(lib.pt_settled_handled, c.c_uint64()).value
+
+    def resume(self) -> list[Desk]:
+        """Resumes the node, as `Quiet.resume` does. This value is empty afterwards."""
+        handles = (CHandle * self.desks())()
+        self._must(lib.pt_resume_settled, handles, len(handles))
+        return _desks_of(handles)
+
+    def into_quiet(self) -> Quiet:
+        """The settled node with the list of all pids that ever were. This value is empty afterwards."""
+        quiet = Quiet()
+        self._must(lib.pt_settled_into_quiet, quiet._at)
         return quiet
 
 

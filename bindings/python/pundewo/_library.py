@@ -99,7 +99,9 @@ def _declare() -> None:
     calls = {
         "open": [p(CHandle), size, CConfig], "gather": [p(CHandle), size, p(CHandle)],
         "settle": [p(CHandle)], "resume": [p(CHandle), size], "give_up": [], "gathered_give_up": [],
-        "quiet_give_up": [], "history_give_up": [],
+        "quiet_give_up": [], "history_give_up": [], "settle_unlisted": [p(CHandle)],
+        "resume_settled": [p(CHandle), size], "settled_into_quiet": [p(CHandle)], "settled_history": [p(CHandle)],
+        "settled_desks": [p(c.c_uint8)], "settled_handled": [p(c.c_uint64)], "settled_give_up": [],
         "spawn": [p(CPid)], "spawn_child": [CPid, flag, p(CPid)], "send": [CPid, CPid, CBody],
         "exit_signal": [CPid, CPid, CReason], "link": [CPid, CPid], "unlink": [CPid, CPid],
         "monitor": [CPid, CPid, p(CRef)], "demonitor": [CPid, CRef, flag, p(flag)], "ask_alive": [CPid, CPid, p(CRef)],

@@ -38,7 +38,8 @@ CALLS: dict[str, dict[str, dict[str, Domain]]] = {
         "waiting": {"p": PID}, "linked": {"p": PID, "peer": PID}, "event_count": {}, "events": {"start": LONG},
         "woken": {"start": LONG}, "close": {},
     },
-    "Gathered": {"desks": {}, "history": {}, "settle": {}, "close": {}},
+    "Gathered": {"desks": {}, "history": {}, "settle": {}, "settle_unlisted": {}, "close": {}},
+    "Settled": {"history": {}, "desks": {}, "handled": {}, "resume": {}, "into_quiet": {}, "close": {}},
     "Quiet": {
         "history": {}, "desks": {}, "resume": {}, "handled": {}, "pids": {}, "account": {"p": PID},
         "linked": {"p": PID, "peer": PID}, "kept": {"target": PID, "monitor": REF},
@@ -104,9 +105,11 @@ class Node:
             desk.turn()
         here.send(self.b, self.a, p.Body(9, 9))
         self.gathered = p.gather(p.open_node())
+        self.settled = p.gather(p.open_node()).settle_unlisted()
         self.quiet = p.gather(p.open_node()).settle()
         self.history = self.quiet.history()
-        self.at = {"Desk": here, "Gathered": self.gathered, "Quiet": self.quiet, "History": self.history, "": p}
+        self.at = {"Desk": here, "Gathered": self.gathered, "Settled": self.settled, "Quiet": self.quiet,
+                   "History": self.history, "": p}
 
     def call(self, where: str, name: str) -> Callable[..., Any]:
         call = getattr(self.at[where], name)

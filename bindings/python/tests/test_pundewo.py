@@ -295,6 +295,20 @@ class Handles(unittest.TestCase):
         self.assertEqual(caught.exception.code, Code.EMPTY)
         self.assertEqual(p.gather(more).desks(), 2)
 
+    def test_a_node_goes_on_without_a_list_of_its_pids(self):
+        desks = p.open_node(2)
+        a, b = desks[0].spawn(), desks[1].spawn()
+        desks[0].exit(a, p.NORMAL)
+        settled = p.gather(desks).settle_unlisted()
+        self.assertEqual((settled.desks(), settled.handled(), len(settled.history())), (2, 0, 3))
+        more = settled.resume()
+        self.assertEqual((more[0].alive(a), more[1].alive(b), more[0].event_count()), (False, True, 0))
+        with self.assertRaises(Fault) as caught:
+            settled.resume()
+        self.assertEqual(caught.exception.code, Code.EMPTY)
+        quiet = p.gather(more).settle_unlisted().into_quiet()
+        self.assertEqual(list(quiet.pids()), [a, b])
+
     def test_a_process_of_another_desk_is_gone(self):
         (desk,) = p.open_node()
         other = Pid(1, 0, 1)

@@ -128,6 +128,13 @@ unsafe extern "C" {
     pub fn pt_gather(desks: *mut Handle, count: usize, out: &mut Handle) -> u32;
     pub fn pt_settle(node: &mut Handle, out: &mut Handle) -> u32;
     pub fn pt_resume(node: &mut Handle, desks: *mut Handle, count: usize) -> u32;
+    pub fn pt_settle_unlisted(node: &mut Handle, out: &mut Handle) -> u32;
+    pub fn pt_resume_settled(node: &mut Handle, desks: *mut Handle, count: usize) -> u32;
+    pub fn pt_settled_into_quiet(node: &mut Handle, out: &mut Handle) -> u32;
+    pub fn pt_settled_history(node: &mut Handle, out: &mut Handle) -> u32;
+    pub fn pt_settled_desks(node: &mut Handle, out: &mut u8) -> u32;
+    pub fn pt_settled_handled(node: &mut Handle, out: &mut u64) -> u32;
+    pub fn pt_settled_give_up(node: &mut Handle) -> u32;
     pub fn pt_give_up(desk: &mut Handle) -> u32;
     pub fn pt_gathered_give_up(node: &mut Handle) -> u32;
     pub fn pt_quiet_give_up(node: &mut Handle) -> u32;

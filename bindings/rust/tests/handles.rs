@@ -38,6 +38,21 @@ fn desks_before_and_after_a_resumption_are_of_two_nodes() {
 }
 
 #[test]
+fn a_node_goes_on_without_a_list_of_its_pids() {
+    let mut desks = open(2, CONFIG).unwrap();
+    let pids: Vec<_> = desks.iter_mut().map(|desk| desk.spawn().unwrap()).collect();
+    desks[0].exit(pids[0], Reason::Normal).unwrap();
+    let settled = gather(desks).ok().unwrap().settle_unlisted().unwrap();
+    assert_eq!((settled.desks(), settled.handled()), (2, 0));
+    assert_eq!(settled.history().unwrap().count(), 3);
+    let mut desks = settled.resume().unwrap();
+    assert!(!desks[0].alive(pids[0]) && desks[1].alive(pids[1]));
+    let third = desks[0].spawn().unwrap();
+    let quiet = gather(desks).ok().unwrap().settle_unlisted().unwrap().into_quiet().unwrap();
+    assert_eq!(quiet.pids().collect::<Vec<_>>(), [pids[0], third, pids[1]]);
+}
+
+#[test]
 fn settings_out_of_range_are_told() {
     assert_eq!(open(0, CONFIG).err(), Some(Fault::BadDesks));
     assert_eq!(open(65, CONFIG).err(), Some(Fault::BadDesks));

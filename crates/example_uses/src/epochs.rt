@@ -11,7 +11,9 @@ ghost use Rattle.pt_events.specs.declared.event.Stamped.{Stamped};
 ghost use Rattle.pt_workers.specs.Running.{AllWork, always, begins_by};
 ghost use Rattle.example_uses.specs.Epochs.{Archives, IsArchived, Passes, PassAsOne};
 
-use pt_node::{FreeGate, Node, NodeBack, Quiet, Resting, RunFault, Stamped, Task, Unsettled};
+use pt_node::{
+    FreeGate, Node, NodeBack, RestingSettled, RunFault, Settled, Stamped, Task, Unsettled,
+};
 use std::alloc::Global;
 use std::io::Write;
 use std::thread::Threads;
@@ -64,9 +66,9 @@ pub enum Halted {
     /// A letter was not delivered.
     Settling(Unsettled),
     /// Its history was not kept: there was no memory for it, or the archive failed.
-    Archiving(Quiet),
+    Archiving(Settled),
     /// There was no memory to resume it.
-    Resuming(Resting),
+    Resuming(RestingSettled),
 }
 
 impl fmt::Display for Halted {
@@ -139,24 +141,24 @@ pub fn end_epoch<A: Archive>(alloc: Global, node: Node, archive: &mut A) -> Resu
         Ok(gathered) => gathered,
         Err(back) => return Err(Halted::Gathering(back)),
     };
-    let quiet = match gathered.settle() {
-        Ok(quiet) => quiet,
+    let settled = match gathered.settle_unlisted() {
+        Ok(settled) => settled,
         Err(unsettled) => return Err(Halted::Settling(unsettled)),
     };
-    if let Err(_refused) = archived(&quiet, archive) {
-        return Err(Halted::Archiving(quiet));
+    if let Err(_refused) = archived(&settled, archive) {
+        return Err(Halted::Archiving(settled));
     }
-    match Node::resume(alloc, quiet) {
+    match Node::resume_settled(alloc, settled) {
         Ok(node) => Ok(node),
         Err(resting) => Err(Halted::Resuming(resting)),
     }
 }
 
-/// Puts the history of the quiet node into the archive.
-fn archived<A: Archive>(quiet: &Quiet, archive: &mut A) -> io::Result<()>
+/// Puts the history of the settled node into the archive.
+fn archived<A: Archive>(settled: &Settled, archive: &mut A) -> io::Result<()>
     ensures { OnOk result ((history : List Stamped)
-        × IsArchived A.keeps quiet.now.gathered history archive.old archive.new) }
+        × IsArchived A.keeps settled.now.gathered history archive.old archive.new) }
 {
-    let history = quiet.history()?;
+    let history = settled.history()?;
     archive.keep(history.as_slice())
 }

@@ -5,7 +5,7 @@ use Rattle.pt_desk.specs.DeskState.{DeskState}
 use Rattle.pt_gathered.specs.Gathered.{GatheredState}
 use Rattle.pt_gathered.specs.Quiet.{QuietState}
 use Rattle.pt_table.specs.Answers.{HandlePlace, value_behind, values, had, full}
-use Rattle.pt_c.specs.Nodes.{IfEmpty, GathersAs, SettlesAs, IsSettledOf, NotSettled}
+use Rattle.pt_c.specs.Nodes.{IfEmpty, GathersAs, SettlesAs, IsSettledOf, NotSettled, ListsAs, ListsOne}
 use Rattle.pt_table.proofs.InRow.{first_value}
 
 module _ {S : Type 0} where
@@ -45,3 +45,7 @@ module _ (old : HandlePlace GatheredState) (g : GatheredState) (is : old ≡ ful
 
   pub not_settled : (code : ℕ) → NotSettled code g new before after → SettlesAs code old new before after
   not_settled code so = subst (λ o. SettlesAs code o new before after) (sym is) (if_empty before _ _ none (inr (inl so)))
+
+pub listed : (code : ℕ) (old new before after : HandlePlace QuietState) (q : QuietState) → old ≡ full q → is_some (value_behind before) ≡ false → ListsOne code q new before after
+    → ListsAs code old new before after
+listed code old new before after q is none so = subst (λ o. ListsAs code o new before after) (sym is) (if_empty before _ _ none so)

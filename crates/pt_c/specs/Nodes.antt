@@ -163,6 +163,16 @@ SettlesAs code (Some (Some g)) new before after =
     IfEmpty before (SettlesOne code g new before after) (Refused filled code (full g) new before after)
 SettlesAs code old new before after = Refused empty code old new before after
 
+-- the node with the list of its pids is in the other handle; or there was no memory, and both are as they were
+abbrev pub ListsOne : ℕ → QuietState → HandlePlace QuietState → HandlePlace QuietState → HandlePlace QuietState → Type 0
+ListsOne code q new before after =
+    ((code ≡ 0) × (new ≡ None) × (after ≡ full q)) ⊎ ((code ≡ 2) × (new ≡ full q) × (after ≡ before))
+
+abbrev pub ListsAs : ℕ → HandlePlace QuietState → HandlePlace QuietState → HandlePlace QuietState → HandlePlace QuietState → Type 0
+ListsAs code (Some (Some q)) new before after =
+    IfEmpty before (ListsOne code q new before after) (Refused filled code (full q) new before after)
+ListsAs code old new before after = Refused empty code old new before after
+
 -- going on -----------------------------------------------------------------------------
 
 -- each handle has its desk, and that of the settled node is empty

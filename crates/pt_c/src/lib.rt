@@ -1,6 +1,7 @@
 //! The process table for C: a static library, whose header is `bindings/c/pundewo.h`.
 //!
-//! C keeps opaque handles of one pointer: for a desk, for a gathered node, for a settled one, and for a history. An
+//! C keeps opaque handles of one pointer: for a desk, a gathered node, a settled one with and without the list of its
+//! pids, and a history. An
 //! export takes the value out of the handle, makes the call of Rattle that has its name, and puts the value back. By
 //! its contract, its code and what it writes are that call's answer, and if it fails, all is as it was. An empty handle
 //! is a code, too.
@@ -17,7 +18,7 @@
 //! - **Failures.** If a function fails, each handle and each struct passed in is as it was, also if there is no memory.
 //! - **Handles.** An empty handle, a full one that must be empty, and a wrong number of desks are codes.
 //! - **Nodes.** Opening, gathering, settling and resuming leave in the handles what `open`, `gather`, `settle` and
-//!   `resume` promise.
+//!   `resume` promise, or `settle_unlisted` and `resume_settled`.
 //! - **Threads.** Each handle may go to another thread.
 #![tactic(auto)]
 
@@ -26,3 +27,4 @@ mod calls;
 mod node;
 mod reads;
 mod resuming;
+mod settled;

@@ -211,7 +211,7 @@ pub extern "C" fn pt_history_give_up(alloc: Global, h: &mut HistoryHandle) -> u3
     }
 }
 
-fn end_code(full: bool) -> u32
+pub(crate) fn end_code(full: bool) -> u32
     ensures { result ≡ cond full 0 9 }
 {
     if full { DONE } else { EMPTY }

@@ -9,6 +9,7 @@ use Rattle.pt_accounts.specs.DeskLives.{latest_ends}
 use Rattle.pt_accounts.specs.LivesState.{Lives, AreLivesOf}
 use Rattle.pt_gathered.specs.Gathered.{GatheredState, begins, journals}
 use Rattle.pt_gathered.specs.Settling.{NothingLeft}
+use Rattle.pt_gathered.specs.Tables.{AreTables}
 
 pub record QuietState : Type 0 where
   pub gathered : GatheredState
@@ -21,6 +22,7 @@ pub record QuietState : Type 0 where
 pub record IsSettled (g : GatheredState) (lives : Lives) : Type 0 where
   pub nothing_left : NothingLeft g
   pub count : length lives ≡ length g.shards
+  pub tables : AreTables g.shards lives
   pub lives_are : AreLivesOf (begins g) (journals g) lives
 
 -- the greatest stamp of the desks below n, or the number above which stamps began

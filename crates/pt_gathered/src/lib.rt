@@ -38,20 +38,26 @@
 //! and why each exited, how many items arrived, were taken and wait, and its links, watchers and open monitors. For an
 //! exited process these are what it held at its exit.
 //!
+//! A quiet node has a list of all pids that ever were, which takes time and memory. [`Gathered::settle_unlisted`]
+//! settles without it: a [`Settled`] node has the history, and what resuming takes. [`Settled::into_quiet`] makes the
+//! quiet node of it, and [`Quiet::into_settled`] gives the list up.
+//!
 //! # Resuming
 //!
 //! A quiet node may continue with empty journals: what its desks leave is again a state as a node begins with, at the
 //! stamp [`Quiet::clock`] or a later one ([`Quiet::laws`]). [`Quiet::into_parts`] returns the desks, each with the
 //! table of what became of its processes. The next journal is read into that table. [`Quiet::latest_ends`] gives a new
-//! directory the exited processes. [`Quiet::state`] is the start for a judge that judges the next history alone.
+//! directory the exited processes. A settled node has the same calls. [`Quiet::state`] is the start for a judge that
+//! judges the next history alone.
 //!
 //! # Cost
 //!
 //! A letter that settling handles costs its receipt. If it is the only one of its pass, it also costs three simple
 //! tests for each desk, 192 in a node of 64; letters of one pass share these. Desks to which nothing is left over are
 //! not looked at, and each lane is looked at in full once. No list of letters is moved, and no journal and no table is
-//! copied. Reading the journals takes constant time, on average, for each event. `history` takes time by the logarithm
-//! of the number of desks for each event.
+//! copied. Reading the journals takes constant time, on average, for each event. `settle` and `into_quiet` take a step
+//! more for each pid that ever was, and `settle_unlisted` does not. `history` takes time by the logarithm of the number
+//! of desks for each event.
 //!
 //! Tests: `checks/rows/settling.txt`, `checks/rows/resumed.txt`, `checks/rows/going_on.txt`, `checks/rows/quiet.txt`
 //! and `checks/tried/test_calls/epochs.rt.txt`.
@@ -68,6 +74,8 @@
 //! - **Quiet.** Links are at both ends or at neither. Each monitor was cancelled, had its one `DOWN`, or is open and
 //!   kept. (`Quiet::laws`)
 //! - **Answers.** Once settled, each question of a live process has its one answer, which is true.
+//! - **Without a list.** `settle_unlisted` promises what `settle` does. `Settled::into_quiet` makes the quiet node of it,
+//!   or gives it back as it was.
 //! - **Accounts.** `Quiet` returns for each process what the definitions give for every merge of the journals.
 //! - **Settling that fails.** It keeps all that holds for a gathered node, and its contract says where it stopped.
 //!   (`SettlingStops`)
@@ -79,6 +87,7 @@ mod left_over;
 mod node_laws;
 mod quiet;
 mod resumed;
+mod settled;
 mod settling;
 
 pub use at_rest::Lane;
@@ -87,4 +96,5 @@ pub use left_over::LeftOver;
 pub use node_laws::laws_of;
 pub use pt_accounts::{Account, DeskLives};
 pub use quiet::Quiet;
+pub use settled::Settled;
 pub use settling::Unsettled;

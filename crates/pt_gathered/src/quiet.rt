@@ -23,6 +23,7 @@ ghost use Rattle.pt_gathered.specs.Pasts.{GoesOnFrom, IsQuietWhole, BeginsAgainA
 
 use crate::at_rest::AtRest;
 use crate::node_laws::laws_of_node;
+use crate::settled::{Settled, ends_of};
 use pt_accounts::{Account, DeskLives, Lives};
 use pt_events::Stamped;
 use pt_shard::{Config, Shard};
@@ -61,6 +62,18 @@ impl Quiet {
             handled,
             lives,
         }
+    }
+
+    /// The settled node, without the list of its processes. It takes no memory.
+    pub fn into_settled(self) -> Settled
+        ensures { result ≡ self }
+    {
+        let Quiet {
+            node,
+            handled,
+            lives,
+        } = self;
+        Settled::of(node, handled, lives.into_desks())
     }
 
     pub(crate) fn node(&self) -> &AtRest
@@ -124,12 +137,7 @@ impl Quiet {
     pub fn latest_ends(&self, stamp: u64) -> Result<Vec<(Pid, u64)>, AllocError>
         ensures { IfOk result (λ ends. ends.items ≡ ends_of stamp self.now.lives) }
     {
-        let mut ends = Vec::new(self.node.alloc());
-        let desks = self.lives.desks();
-        for which in 0..desks.len() {
-            desks[which].latest_ends(stamp, &mut ends)?;
-        }
-        Ok(ends)
+        ends_of(self.node.alloc(), self.lives.desks(), stamp)
     }
 
     /// The desks, in order of number, and for each desk the table of what became of its processes.

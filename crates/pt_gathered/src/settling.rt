@@ -2,7 +2,7 @@
 
 ghost use Rattle.std.specs.Prelude.{◌≡◌, ℕ, ◌<◌, ◌≤◌, length, [], OnOk, IfOk, IfErr};
 ghost use Rattle.pt_shard.specs.declared.stop.Stop.TheVariants.{Memory};
-ghost use Rattle.pt_gathered.specs.Gathered.{begins, journals, over_in};
+ghost use Rattle.pt_gathered.specs.Gathered.{over_in};
 ghost use Rattle.pt_gathered.specs.Settling.{Runs, Moves, Settles, NothingLeft, NothingTo, NothingBelow};
 ghost use Rattle.pt_gathered.specs.Order.{Passes, SettlingStops, Pass, PassStops, DeskComes, DeskStops, LaneComes};
 ghost use Rattle.pt_gathered.specs.Order.{LaneStops, PassesStop};
@@ -11,13 +11,13 @@ ghost use Rattle.pt_gathered.specs.Lawful.{LanesKeep, KeepsHeadline, IsLegalNode
 ghost use Rattle.pt_gathered.specs.Lawful.{WatchesStand, AnswersHold, QuestionsAnswered};
 ghost use Rattle.pt_gathered.specs.Pasts.{KeepsPast};
 ghost use Rattle.pt_gathered.specs.Tables.{AreTables, TablesAreTold};
-ghost use Rattle.pt_accounts.specs.LivesState.{AreLivesOf};
 
 use crate::at_rest::AtRest;
 use crate::gathered::Gathered;
 use crate::node_laws::laws_of;
 use crate::quiet::Quiet;
-use pt_accounts::{DeskLives, Lives};
+use crate::settled::Settled;
+use pt_accounts::DeskLives;
 use pt_shard::Stop;
 use pt_signal::MAX_DESKS;
 use std::alloc::AllocError;
@@ -100,8 +100,52 @@ impl Gathered {
         ensures refused_past { IfErr result (λ u. KeepsPast self u.gathered) }
         ensures refused_again { NothingLeft self → IfErr result (λ u. (u.gathered ≡ self) × (u.fault ≡ Memory)) }
     {
+        let settled = match self.settle_unlisted() {
+            Ok(settled) => settled,
+            Err(unsettled) => return Err(unsettled),
+        };
+        match settled.into_quiet() {
+            Ok(quiet) => Ok(quiet),
+            Err(settled) => {
+                let gathered = settled.into_gathered();
+                laws_of(&gathered);
+                Err(Unsettled {
+                    fault: Stop::Memory,
+                    gathered,
+                })
+            }
+        }
+    }
+
+    /// Settles the node as [`settle`](Gathered::settle) does, without the list of all pids that ever were: a pause of a
+    /// program that goes on. It costs the letters left over, and what happened since the desks were opened or resumed.
+    /// `settle` takes time and memory for the list besides.
+    ///
+    /// Fails as `settle` does, but for want of memory for the list. Settling again, by either call, resumes from there.
+    pub fn settle_unlisted(self) -> Result<Settled, Unsettled>
+        ensures order { IfOk result (λ s. (count : ℕ) × Passes (length self.shards) count self s.gathered) }
+        ensures runs { IfOk result (λ s. Runs self 0 s.gathered s.handled) }
+        ensures nothing_left { IfOk result (λ s. NothingLeft s.gathered) }
+        ensures bounded { IfOk result (λ s. IsBounded self s.gathered) }
+        ensures quiet { IfOk result (λ s. IsQuietNode s.gathered) }
+        ensures links { IfOk result (λ s. LinksStand s.gathered) }
+        ensures watches { IfOk result (λ s. WatchesStand s.gathered) }
+        ensures answers { IfOk result (λ s. AnswersHold s.gathered) }
+        ensures questions { IfOk result (λ s. QuestionsAnswered s.gathered) }
+        ensures past { IfOk result (λ s. KeepsPast self s.gathered) }
+        ensures again { NothingLeft self → IfOk result (λ s. (s.gathered ≡ self) × (s.handled ≡ 0)) }
+        ensures refused { IfErr result (λ u. Settles self u.gathered) }
+        ensures refused_order { IfErr result (λ u. SettlingStops (length self.shards) u.fault self u.gathered) }
+        ensures refused_bounded { IfErr result (λ u. IsBounded self u.gathered) }
+        ensures refused_lanes { IfErr result (λ u. LanesKeep u.gathered) }
+        ensures refused_headline { IfErr result (λ u. KeepsHeadline u.gathered) }
+        ensures refused_legal { IfErr result (λ u. IsLegalNode u.gathered) }
+        ensures refused_answers { IfErr result (λ u. AnswersHold u.gathered) }
+        ensures refused_past { IfErr result (λ u. KeepsPast self u.gathered) }
+        ensures refused_again { NothingLeft self → IfErr result (λ u. (u.gathered ≡ self) × (u.fault ≡ Memory)) }
+    {
         laws_of(&self);
-        let (mut settling, lives) = Settling::of(self);
+        let (mut settling, mut tables) = Settling::of(self);
         // read for the proof alone, here and below: it says what holds of every gathered node
         let _before = settling.node.desks();
         match settling.run_passes() {
@@ -109,21 +153,21 @@ impl Gathered {
             Err(fault) => {
                 let Settling { node, .. } = settling;
                 let _after = node.desks();
-                let gathered = Gathered::with(node, lives);
+                let gathered = Gathered::with(node, tables);
                 laws_of(&gathered);
                 return Err(Unsettled { fault, gathered });
             }
         }
         let Settling { node, handled, .. } = settling;
         let _after = node.desks();
-        match told(&node, lives) {
-            Ok(lives) => {
-                let quiet = Quiet::of(node, handled, lives);
-                quiet.laws();
-                Ok(quiet)
+        match read_journals(&node, &mut tables) {
+            Ok(()) => {
+                let settled = Settled::of(node, handled, tables);
+                settled.laws();
+                Ok(settled)
             }
-            Err(lives) => {
-                let gathered = Gathered::with(node, lives);
+            Err(_) => {
+                let gathered = Gathered::with(node, tables);
                 laws_of(&gathered);
                 let fault = Stop::Memory;
                 Err(Unsettled { fault, gathered })
@@ -304,23 +348,6 @@ impl Settling {
             moved = true;
         }
         Ok(moved)
-    }
-}
-
-/// Reads each journal to its end, from the place that its table has reached, and returns what they say of the
-/// processes. If there is no memory, it returns the tables as far as they came.
-fn told(node: &AtRest, lives: Vec<DeskLives>) -> Result<Lives, Vec<DeskLives>>
-    requires { AreTables node.now.shards lives.items }
-    ensures told { IfOk result (λ lives. AreLivesOf (begins node.now) (journals node.now) lives) }
-    ensures count { IfOk result (λ lives. length lives ≡ length node.now.shards) }
-    ensures back { IfErr result (λ lives. AreTables node.now.shards lives.items) }
-{
-    // read for the proof alone: it says what holds of every gathered node
-    let _desks = node.desks();
-    let mut lives = lives;
-    match read_journals(node, &mut lives) {
-        Ok(()) => Lives::of(node.alloc(), lives),
-        Err(_) => Err(lives),
     }
 }
 

@@ -29,9 +29,8 @@ pub record AreResumed (g : GatheredState) (n : ℕ) (desks : List DeskState) : T
 abbrev pub Resumes : GatheredState → List DeskState → Type 0
 Resumes g desks = AreResumed g (latest_stamp g) desks
 
--- the ends of new lanes among the desks of the node
-pub record AreNewPairs (g : GatheredState) (pairs : List (OutEnds × InEnds)) : Type 0 where
-  pub count : length pairs ≡ g.config.desks
+-- the ends of new lanes among so many desks, each lane with room for so many letters
+pub record AreNewPairs (desks lane : ℕ) (pairs : List (OutEnds × InEnds)) : Type 0 where
+  pub count : length pairs ≡ desks
   pub node : IsNode (map places pairs)
-  pub new : (d : ℕ) (p : OutEnds × InEnds) → d < g.config.desks
-      → IsNew g.config.desks g.config.lane (slice_index_or pairs d p)
+  pub new : (d : ℕ) (p : OutEnds × InEnds) → d < desks → IsNew desks lane (slice_index_or pairs d p)

@@ -51,6 +51,9 @@
 //! behind. Exited processes stay exited, and the versions and the clocks continue. What holds for an opened node holds
 //! for this one, over that start. A node may be resumed any number of times.
 //!
+//! [`Gathered::settle_unlisted`] and [`resume_settled`] do the same without a list of all pids that ever were. So a
+//! pause costs what happened since the last one, the live processes and the slots.
+//!
 //! Tests: `checks/rows`, `checks/tried/test_calls/nodes.rt.txt`, `checks/tried/test_calls/opening.rt.txt` and
 //! `crates/test_calls/src/nodes.rt`.
 //!
@@ -59,7 +62,7 @@
 //! - **Opening.** `open` returns the desks of one node, in order, or reports which setting is out of range. (`Opening`)
 //! - **Gathering.** `gather` returns the node with the journals as they were, or gives all desks back as they were.
 //! - **Resuming.** `resume` continues from a quiet node with empty journals, or gives it back as it was. Pids, versions
-//!   and clocks continue. (`AreResumed`)
+//!   and clocks continue. `resume_settled` does the same from a settled node without a list of its pids. (`AreResumed`)
 //! - **The node's calls.** Each call of `Node` does what the call of the pid's desk does, and the other desks stay. It
 //!   has no precondition. (`CallsAt`, `CallsTo`)
 //! - **Until still.** `turn_until_still` terminates, and handles no more letters than the load before. (`IsWithinLoad`)
@@ -83,7 +86,7 @@ pub use opening::open;
 pub use pt_carrier::Cause;
 pub use pt_desk::{Desk, Turned};
 pub use pt_events::{Event, Journal, Stamped};
-pub use pt_gathered::{Account, Gathered, LeftOver, Quiet, Unsettled};
+pub use pt_gathered::{Account, Gathered, LeftOver, Quiet, Settled, Unsettled};
 pub use pt_process::Process;
 pub use pt_shard::{
     Config, Fault, MAX_DESKS, MAX_LANE, MAX_SLOTS, MAX_STAMP, OpenError, Setting, Stop,
@@ -93,4 +96,4 @@ pub use pt_workers::{
     FreeGate, Gate, Ran, Rested, RunFault, Standing, Stopped, Takes, Task, Work, assign,
     next_woken, release, run, run_single, take_each,
 };
-pub use resuming::{Resting, resume};
+pub use resuming::{Resting, RestingSettled, resume, resume_settled};

@@ -32,9 +32,9 @@ use crate::making::look;
 use crate::node_fault::NodeFault;
 use crate::node_running::{run_desks, run_desks_single};
 use crate::opening::open;
-use crate::resuming::{Resting, resume};
+use crate::resuming::{Resting, RestingSettled, resume, resume_settled};
 use pt_desk::{Desk, Turned};
-use pt_gathered::{Gathered, Quiet};
+use pt_gathered::{Gathered, Quiet, Settled};
 use pt_process::Process;
 use pt_shard::{Config, Fault, OpenError};
 use pt_signal::{Body, Ids, Item, Pick, Pid, Reason, Ref};
@@ -118,6 +118,18 @@ impl Node {
         ensures resting { IfErr result (λ back. back.quiet ≡ quiet) }
     {
         match resume(alloc, quiet) {
+            Ok(desks) => Ok(Node { alloc, desks }),
+            Err(back) => Err(back),
+        }
+    }
+
+    /// Continues from a settled node without the list of its processes, as [`resume_settled`](crate::resume_settled)
+    /// does. Fails only if there is no memory.
+    pub fn resume_settled(alloc: Global, settled: Settled) -> Result<Node, RestingSettled>
+        ensures resumes { IfOk result (λ desks. Resumes settled.gathered desks) }
+        ensures resting { IfErr result (λ back. back.settled ≡ settled) }
+    {
+        match resume_settled(alloc, settled) {
             Ok(desks) => Ok(Node { alloc, desks }),
             Err(back) => Err(back),
         }

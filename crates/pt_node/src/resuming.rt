@@ -1,9 +1,11 @@
-//! Resuming a quiet node.
+//! Resuming a quiet node, or one that is settled and has no list of its processes.
 
 ghost use Rattle.std.specs.Prelude.{◌≡◌, ◌≤◌, [], length, map, IfErr, IfOk, vec_len};
 ghost use Rattle.std.specs.Arc.{arc_value};
 ghost use Rattle.std.specs.Vec.{vec_capacity};
 ghost use Rattle.pt_signal.specs.declared.config.TheConstants.{MAX_STAMP};
+ghost use Rattle.pt_signal.specs.Settings.{IsInRange};
+ghost use Rattle.pt_directory.specs.Seats.{AreEnded};
 ghost use Rattle.pt_shard.specs.Begun.{Every};
 ghost use Rattle.pt_shard.specs.Restart.{restarted};
 ghost use Rattle.pt_accounts.specs.DeskLives.{all_forgotten};
@@ -16,8 +18,9 @@ use crate::seating::{Seated, fresh_seats};
 use pt_accounts::DeskLives;
 use pt_carrier::{Ins, Outs};
 use pt_desk::Desk;
-use pt_gathered::Quiet;
+use pt_gathered::{Quiet, Settled};
 use pt_shard::{Config, Shard};
+use pt_signal::Pid;
 use std::alloc::{AllocError, Global};
 use std::error::Error;
 use std::fmt;
@@ -42,6 +45,27 @@ impl fmt::Display for Resting {
 }
 
 impl Error for Resting {}
+
+/// The settled node of a call of [`resume_settled`] that failed, since there was no memory.
+#[derive(Drop)]
+pub struct RestingSettled {
+    /// The node, as it was.
+    pub settled: Settled,
+}
+
+impl fmt::Debug for RestingSettled {
+    fn fmt<W: fmt::Write>(&self, f: &mut fmt::Formatter<W>) -> fmt::Result {
+        write!(f, "RestingSettled {{ .. }}")
+    }
+}
+
+impl fmt::Display for RestingSettled {
+    fn fmt<W: fmt::Write>(&self, f: &mut fmt::Formatter<W>) -> fmt::Result {
+        write!(f, "there was no memory to go on from the settled node")
+    }
+}
+
+impl Error for RestingSettled {}
 
 /// The memory that resuming takes: the lanes, the seats in a directory of exited processes, and the lists of shards and
 /// of desks, which are empty.
@@ -72,8 +96,24 @@ pub fn resume(alloc: Global, quiet: Quiet) -> Result<Vec<Desk>, Resting>
 {
     let start = quiet.clock();
     match prepare(alloc, &quiet, start) {
-        Ok(room) => Ok(go_on(quiet, start, room)),
+        Ok(room) => Ok(go_on(quiet.into_settled(), start, room)),
         Err(_) => Err(Resting { quiet }),
+    }
+}
+
+/// Continues from a settled node that has no list of its processes, as [`resume`] does from a quiet node: the desks are
+/// those that `resume` makes of the quiet node with the same history. Time and memory grow with what happened since the
+/// desks were opened or resumed last, with the live processes and the slots, and not with all processes that ever were.
+///
+/// Fails only if there is no memory: the settled node then comes back, as it was.
+pub fn resume_settled(alloc: Global, settled: Settled) -> Result<Vec<Desk>, RestingSettled>
+    ensures resumes { IfOk result (λ desks. Resumes settled.gathered desks.items) }
+    ensures resting { IfErr result (λ back. back.settled ≡ settled) }
+{
+    let start = settled.clock();
+    match prepare_settled(alloc, &settled, start) {
+        Ok(room) => Ok(go_on(settled, start, room)),
+        Err(_) => Err(RestingSettled { settled }),
     }
 }
 
@@ -81,7 +121,8 @@ pub fn resume(alloc: Global, quiet: Quiet) -> Result<Vec<Desk>, Resting>
 fn prepare(alloc: Global, quiet: &Quiet, start: u64) -> Result<Room, AllocError>
     requires latest { start ≡ latest_stamp quiet.now.gathered }
     requires within { start ≤ MAX_STAMP }
-    ensures pairs { IfOk result (λ room. AreNewPairs quiet.now.gathered room.pairs.items) }
+    ensures pairs { IfOk result (λ room. AreNewPairs quiet.now.gathered.config.desks quiet.now.gathered.config.lane
+        room.pairs.items) }
     ensures seats { IfOk result
         (λ room. AreFreshSeats (record quiet.now.gathered.config { start = start }) (ends_of start quiet.now.lives)
         (map (λ p. (arc_value p.0, p.1)) room.seats.items)) }
@@ -90,14 +131,57 @@ fn prepare(alloc: Global, quiet: &Quiet, start: u64) -> Result<Room, AllocError>
     ensures desks { IfOk result (λ room. (room.desks.items ≡ [])
         × (length quiet.now.gathered.shards ≤ vec_capacity room.desks)) }
 {
+    // read for the proof alone: whose processes the desks had
     quiet.versions();
     let config = Config {
         start,
         ..quiet.config()
     };
-    let count = usize::from(quiet.desks());
     let ended = quiet.latest_ends(start)?;
-    let seats = fresh_seats(alloc, config, ended.as_slice())?;
+    take_room(alloc, config, quiet.desks(), ended.as_slice())
+}
+
+/// Takes all memory that it needs to resume a settled node at this stamp, its latest.
+fn prepare_settled(alloc: Global, settled: &Settled, start: u64) -> Result<Room, AllocError>
+    requires latest { start ≡ latest_stamp settled.now.gathered }
+    requires within { start ≤ MAX_STAMP }
+    ensures pairs { IfOk result (λ room. AreNewPairs settled.now.gathered.config.desks settled.now.gathered.config.lane
+        room.pairs.items) }
+    ensures seats { IfOk result
+        (λ room. AreFreshSeats (record settled.now.gathered.config { start = start }) (ends_of start settled.now.lives)
+        (map (λ p. (arc_value p.0, p.1)) room.seats.items)) }
+    ensures shards { IfOk result (λ room. (room.shards.items ≡ [])
+        × (length settled.now.gathered.shards ≤ vec_capacity room.shards)) }
+    ensures desks { IfOk result (λ room. (room.desks.items ≡ [])
+        × (length settled.now.gathered.shards ≤ vec_capacity room.desks)) }
+{
+    // read for the proof alone: whose processes the desks had
+    settled.versions();
+    let config = Config {
+        start,
+        ..settled.config()
+    };
+    let ended = settled.latest_ends(start)?;
+    take_room(alloc, config, settled.desks(), ended.as_slice())
+}
+
+/// Takes the memory for so many desks of a node with these settings, in whose directory these processes have exited.
+fn take_room(
+    alloc: Global,
+    config: Config,
+    desks: u8,
+    ended: &[(Pid, u64)],
+) -> Result<Room, AllocError>
+    requires range { IsInRange config }
+    requires ended { AreEnded config.desks config.slots ended.now }
+    ensures pairs { IfOk result (λ room. AreNewPairs config.desks config.lane room.pairs.items) }
+    ensures seats { IfOk result
+        (λ room. AreFreshSeats config ended.now (map (λ p. (arc_value p.0, p.1)) room.seats.items)) }
+    ensures shards { IfOk result (λ room. (room.shards.items ≡ []) × (desks ≤ vec_capacity room.shards)) }
+    ensures desks { IfOk result (λ room. (room.desks.items ≡ []) × (desks ≤ vec_capacity room.desks)) }
+{
+    let count = usize::from(desks);
+    let seats = fresh_seats(alloc, config, ended)?;
     let shards = Vec::with_capacity(alloc, count)?;
     let mut desks = Vec::with_capacity(alloc, count)?;
     let Ok(pairs) = pt_carrier::open(alloc, config.desks, config.lane) else {
@@ -112,16 +196,16 @@ fn prepare(alloc: Global, quiet: &Quiet, start: u64) -> Result<Room, AllocError>
     })
 }
 
-/// Makes the desks of a quiet node that is resumed at this stamp, its latest. It takes no memory.
-fn go_on(quiet: Quiet, start: u64, room: Room) -> Vec<Desk>
-    requires latest { start ≡ latest_stamp quiet.gathered }
+/// Makes the desks of a settled node that is resumed at this stamp, its latest. It takes no memory.
+fn go_on(settled: Settled, start: u64, room: Room) -> Vec<Desk>
+    requires latest { start ≡ latest_stamp settled.gathered }
     requires within { start ≤ MAX_STAMP }
-    requires pairs { AreNewPairs quiet.gathered room.pairs.items }
-    requires seats { AreFreshSeats (record quiet.gathered.config { start = start }) (ends_of start quiet.lives)
+    requires pairs { AreNewPairs settled.gathered.config.desks settled.gathered.config.lane room.pairs.items }
+    requires seats { AreFreshSeats (record settled.gathered.config { start = start }) (ends_of start settled.lives)
         (map (λ p. (arc_value p.0, p.1)) room.seats.items) }
-    requires shards { (room.shards.items ≡ []) × (length quiet.gathered.shards ≤ vec_capacity room.shards) }
-    requires desks { (room.desks.items ≡ []) × (length quiet.gathered.shards ≤ vec_capacity room.desks) }
-    ensures { AreResumed quiet.gathered start result.items }
+    requires shards { (room.shards.items ≡ []) × (length settled.gathered.shards ≤ vec_capacity room.shards) }
+    requires desks { (room.desks.items ≡ []) × (length settled.gathered.shards ≤ vec_capacity room.desks) }
+    ensures { AreResumed settled.gathered start result.items }
 {
     let Room {
         pairs,
@@ -130,11 +214,11 @@ fn go_on(quiet: Quiet, start: u64, room: Room) -> Vec<Desk>
         mut desks,
     } = room;
     // read for the proof alone: what the desks leave behind, whose processes they had, and where their clocks stand
-    quiet.laws();
-    quiet.versions();
-    let _desks = quiet.desks();
-    let _clock = quiet.clock();
-    let (_config, old, mut tables) = quiet.into_parts();
+    settled.laws();
+    settled.versions();
+    let _desks = settled.desks();
+    let _clock = settled.clock();
+    let (_config, old, mut tables) = settled.into_parts();
     restart_all(old, start, &mut shards);
     forget_all(tables.as_mut_slice());
     make_whole(pairs, shards, seats, tables, &mut desks);

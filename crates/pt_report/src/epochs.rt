@@ -118,12 +118,12 @@ fn end_epoch(alloc: Global, node: Node) -> Result<(Node, Vec<Stamped>), ReportFa
     let Ok(gathered) = node.gather() else {
         return Err(ReportFault::Memory);
     };
-    let quiet = match gathered.settle() {
-        Ok(quiet) => quiet,
+    let settled = match gathered.settle_unlisted() {
+        Ok(settled) => settled,
         Err(unsettled) => return Err(ReportFault::from(unsettled.fault)),
     };
-    let history = quiet.history()?;
-    match Node::resume(alloc, quiet) {
+    let history = settled.history()?;
+    match Node::resume_settled(alloc, settled) {
         Ok(next) => Ok((next, history)),
         Err(_resting) => Err(ReportFault::Memory),
     }

@@ -1,6 +1,6 @@
 //! The places that handles have: a value on the heap, which can be taken out and leaves its place.
 
-use pt_node::{Desk, Gathered, LeftOver, Quiet, Stamped};
+use pt_node::{Desk, Gathered, LeftOver, Quiet, Settled, Stamped};
 use std::marker::Model;
 
 /// The place of a desk.
@@ -61,6 +61,21 @@ impl Model for HeldQuiet {
     ghost Value = { Option QuietState };
 
     ghost view = { λ h. h.quiet };
+}
+
+/// The place of a settled node without the list of its pids.
+#[derive(Drop)]
+pub struct HeldSettled {
+    pub settled: Option<Settled>,
+}
+
+impl Model for HeldSettled {
+    ghost use Rattle.std.specs.Prelude.{Option};
+    ghost use Rattle.pt_gathered.specs.Quiet.{QuietState};
+
+    ghost Value = { Option QuietState };
+
+    ghost view = { λ h. h.settled };
 }
 
 /// A history: the events of all desks, and the letters left over.

@@ -25,4 +25,5 @@ pub mod looking;
 mod loose;
 pub mod quiet_handle;
 pub mod rows;
+pub mod settled_handle;
 pub mod types;

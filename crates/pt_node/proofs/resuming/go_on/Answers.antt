@@ -19,7 +19,7 @@ use Rattle.pt_node.proofs.resuming.go_on.Goals as goal
 
 pub make_whole-requires-clause-accounted : goal.make_whole-requires-clause-accounted
 make_whole-requires-clause-accounted c =
-    let g = c.args.quiet.gathered in
+    let g = c.args.settled.gathered in
     let pairs = c.requires.pairs in
     let are : c.restart_all.new.shards.items ≡ map (restarted c.args.start) g.shards = c.restart_all.ensures ∙ ap (map (restarted c.args.start)) c.into_parts-old.ensures.shards in
     subst (λ s. AreAccounted s c.args.room.pairs.items) (sym are)
@@ -27,9 +27,9 @@ make_whole-requires-clause-accounted c =
 
 pub make_whole-requires-clause-seated : goal.make_whole-requires-clause-seated
 make_whole-requires-clause-seated c =
-    let g = c.args.quiet.gathered in
+    let g = c.args.settled.gathered in
     let n = c.args.start in
-    let lives = c.args.quiet.lives in
+    let lives = c.args.settled.lives in
     let told = c.versions.ensures in
     let since = subst (λ k. (d : ℕ) (x : ShardState) → d < length g.shards → (p : Pid) → is_unborn (phase_of (get_or g.shards d x) p) ≡ false → 0 < k) (sym c.requires.latest) told.later in
     let seats : List Seated = map (λ p. (arc_value p.0, p.1)) c.args.room.seats.items in
@@ -45,9 +45,9 @@ make_whole-requires-clause-seated c =
 
 pub returns : goal.returns
 returns c =
-    let g = c.args.quiet.gathered in
+    let g = c.args.settled.gathered in
     let n = c.args.start in
-    let lives = c.args.quiet.lives in
+    let lives = c.args.settled.lives in
     let told = c.versions.ensures in
     let since = subst (λ k. (d : ℕ) (x : ShardState) → d < length g.shards → (p : Pid) → is_unborn (phase_of (get_or g.shards d x) p) ≡ false → 0 < k) (sym c.requires.latest) told.later in
     let seats : List Seated = map (λ p. (arc_value p.0, p.1)) c.args.room.seats.items in

@@ -1,47 +1,75 @@
--- `Gathered::settle`: its clauses `refused_again` and `again`, and what its calls of `with` and `told` ask.
-use Rattle.std.proofs.Common.{length, refl, sym, ap, ◌∙◌, subst, le_refl}
+-- `Gathered::settle`: its contract, from that of `settle_unlisted`.
+use Rattle.std.proofs.Common.{◌≡◌, ℕ, length, inr, refl, sym, ap, ◌∙◌, subst}
 use Rattle.pt_gathered.specs.Gathered.{GatheredState}
-use Rattle.pt_gathered.specs.Settling.{NothingLeft, Runs}
-use Rattle.pt_gathered.specs.Order.{PassesStop}
+use Rattle.pt_gathered.specs.Settling.{NothingLeft, Runs, Settles}
+use Rattle.pt_gathered.specs.Order.{Passes}
+use Rattle.pt_gathered.specs.Lawful.{IsBounded, IsQuietNode, LinksStand, WatchesStand, AnswersHold, QuestionsAnswered}
+use Rattle.pt_gathered.specs.Pasts.{KeepsPast}
 use Rattle.pt_gathered.specs.Quiet.{QuietState}
-use Rattle.pt_gathered.specs.Tables.{AreTables}
-use Rattle.pt_gathered.proofs.Again.{passes_go_on, nothing_new}
-use Rattle.pt_gathered.proofs.Told.{tables_after}
 use Rattle.pt_gathered.proofs.gathered.Gathered.settle.Goals as goal
 
-pub with-gathered-requires : goal.with-gathered-requires
-with-gathered-requires c =
-    let old = c.of-settling.result.0.node in
-    let tables = c.of-settling.result.1.items in
-    let are : AreTables old.shards tables = subst (λ (g : GatheredState). AreTables g.shards tables) (sym c.of-settling.ensures.node) c.of-settling.ensures.tables in
-    tables_after old c.run_passes.new.self.node c.desks-before.ensures.gathered c.desks-after.ensures.gathered c.run_passes.ensures.runs.settles tables are
+pub returns-in-Ok-into_quiet-clause-order : goal.returns-in-Ok-into_quiet-clause-order
+returns-in-Ok-into_quiet-clause-order c = let a = c.args.self in subst (λ (q : QuietState). (count : ℕ) × Passes (length a.shards) count a q.gathered) (sym c.in-Ok-into_quiet.ensures.quiet) c.in-Ok.ensures.order
 
-pub told-requires : goal.told-requires
-told-requires c =
-    let old = c.of-settling.result.0.node in
-    let tables = c.of-settling.result.1.items in
-    let are : AreTables old.shards tables = subst (λ (g : GatheredState). AreTables g.shards tables) (sym c.of-settling.ensures.node) c.of-settling.ensures.tables in
-    tables_after old c.run_passes.new.self.node c.desks-before.ensures.gathered c.desks-after-2.ensures.gathered c.run_passes.ensures.runs.settles tables are
+pub returns-in-Ok-into_quiet-clause-runs : goal.returns-in-Ok-into_quiet-clause-runs
+returns-in-Ok-into_quiet-clause-runs c = let a = c.args.self in subst (λ (q : QuietState). Runs a 0 q.gathered q.handled) (sym c.in-Ok-into_quiet.ensures.quiet) c.in-Ok.ensures.runs
 
-pub returns-in-Err-clause-refused_again : goal.returns-in-Err-clause-refused_again
-returns-in-Err-clause-refused_again c none =
+pub returns-in-Ok-into_quiet-clause-nothing_left : goal.returns-in-Ok-into_quiet-clause-nothing_left
+returns-in-Ok-into_quiet-clause-nothing_left c = subst (λ (q : QuietState). NothingLeft q.gathered) (sym c.in-Ok-into_quiet.ensures.quiet) c.in-Ok.ensures.nothing_left
+
+pub returns-in-Ok-into_quiet-clause-bounded : goal.returns-in-Ok-into_quiet-clause-bounded
+returns-in-Ok-into_quiet-clause-bounded c = let a = c.args.self in subst (λ (q : QuietState). IsBounded a q.gathered) (sym c.in-Ok-into_quiet.ensures.quiet) c.in-Ok.ensures.bounded
+
+pub returns-in-Ok-into_quiet-clause-quiet : goal.returns-in-Ok-into_quiet-clause-quiet
+returns-in-Ok-into_quiet-clause-quiet c = subst (λ (q : QuietState). IsQuietNode q.gathered) (sym c.in-Ok-into_quiet.ensures.quiet) c.in-Ok.ensures.quiet
+
+pub returns-in-Ok-into_quiet-clause-links : goal.returns-in-Ok-into_quiet-clause-links
+returns-in-Ok-into_quiet-clause-links c = subst (λ (q : QuietState). LinksStand q.gathered) (sym c.in-Ok-into_quiet.ensures.quiet) c.in-Ok.ensures.links
+
+pub returns-in-Ok-into_quiet-clause-watches : goal.returns-in-Ok-into_quiet-clause-watches
+returns-in-Ok-into_quiet-clause-watches c = subst (λ (q : QuietState). WatchesStand q.gathered) (sym c.in-Ok-into_quiet.ensures.quiet) c.in-Ok.ensures.watches
+
+pub returns-in-Ok-into_quiet-clause-answers : goal.returns-in-Ok-into_quiet-clause-answers
+returns-in-Ok-into_quiet-clause-answers c = subst (λ (q : QuietState). AnswersHold q.gathered) (sym c.in-Ok-into_quiet.ensures.quiet) c.in-Ok.ensures.answers
+
+pub returns-in-Ok-into_quiet-clause-questions : goal.returns-in-Ok-into_quiet-clause-questions
+returns-in-Ok-into_quiet-clause-questions c = subst (λ (q : QuietState). QuestionsAnswered q.gathered) (sym c.in-Ok-into_quiet.ensures.quiet) c.in-Ok.ensures.questions
+
+pub returns-in-Ok-into_quiet-clause-past : goal.returns-in-Ok-into_quiet-clause-past
+returns-in-Ok-into_quiet-clause-past c = let a = c.args.self in subst (λ (q : QuietState). KeepsPast a q.gathered) (sym c.in-Ok-into_quiet.ensures.quiet) c.in-Ok.ensures.past
+
+pub returns-in-Ok-into_quiet-clause-again : goal.returns-in-Ok-into_quiet-clause-again
+returns-in-Ok-into_quiet-clause-again c none =
+    let same = c.in-Ok.ensures.again none in
+    (ap (λ (q : QuietState). q.gathered) c.in-Ok-into_quiet.ensures.quiet ∙ same.0, ap (λ (q : QuietState). q.handled) c.in-Ok-into_quiet.ensures.quiet ∙ same.1)
+
+pub returns-in-Err-into_quiet-clause-refused : goal.returns-in-Err-into_quiet-clause-refused
+returns-in-Err-into_quiet-clause-refused c =
     let a = c.args.self in
-    let stops : PassesStop (length a.shards) c.in-Err.fault a c.run_passes.new.self.node
-    = subst (λ (g : GatheredState). PassesStop (length g.shards) c.in-Err.fault g c.run_passes.new.self.node) c.of-settling.ensures.node c.in-Err.ensures.stops in
-    absurd (passes_go_on (length a.shards) a (le_refl (length a.shards)) none c.in-Err.fault c.run_passes.new.self.node stops)
+    subst (λ (g : GatheredState). Settles a g) (sym (c.into_gathered-gathered.ensures ∙ ap (λ (q : QuietState). q.gathered) c.in-Err-into_quiet.ensures.back)) c.in-Ok.ensures.runs.settles
 
-pub returns-in-Ok-told-clause-again : goal.returns-in-Ok-told-clause-again
-returns-in-Ok-told-clause-again c none =
-    let old = c.of-settling.result.0.node in
-    let new = c.run_passes.new.self in
-    let runs = subst (λ n. Runs old n new.node new.handled) c.of-settling.ensures.handled c.run_passes.ensures.runs in
-    let same = nothing_new old new.node new.handled (subst NothingLeft (sym c.of-settling.ensures.node) none) c.in-Ok.ensures.order runs in
-    (ap (λ (q : QuietState). q.gathered) c.of-quiet.ensures ∙ same.0 ∙ c.of-settling.ensures.node, ap (λ (q : QuietState). q.handled) c.of-quiet.ensures ∙ same.1)
+pub returns-in-Err-into_quiet-clause-refused_bounded : goal.returns-in-Err-into_quiet-clause-refused_bounded
+returns-in-Err-into_quiet-clause-refused_bounded c =
+    let a = c.args.self in
+    subst (λ (g : GatheredState). IsBounded a g) (sym (c.into_gathered-gathered.ensures ∙ ap (λ (q : QuietState). q.gathered) c.in-Err-into_quiet.ensures.back)) c.in-Ok.ensures.bounded
 
-pub returns-in-Err-told-clause-refused_again : goal.returns-in-Err-told-clause-refused_again
-returns-in-Err-told-clause-refused_again c none =
-    let old = c.of-settling.result.0.node in
-    let new = c.run_passes.new.self in
-    let runs = subst (λ n. Runs old n new.node new.handled) c.of-settling.ensures.handled c.run_passes.ensures.runs in
-    let same = nothing_new old new.node new.handled (subst NothingLeft (sym c.of-settling.ensures.node) none) c.in-Ok.ensures.order runs in
-    (c.with-gathered-in-Err-told.ensures ∙ same.0 ∙ c.of-settling.ensures.node, refl)
+pub returns-in-Err-into_quiet-clause-refused_past : goal.returns-in-Err-into_quiet-clause-refused_past
+returns-in-Err-into_quiet-clause-refused_past c =
+    let a = c.args.self in
+    subst (λ (g : GatheredState). KeepsPast a g) (sym (c.into_gathered-gathered.ensures ∙ ap (λ (q : QuietState). q.gathered) c.in-Err-into_quiet.ensures.back)) c.in-Ok.ensures.past
+
+pub returns-in-Err-into_quiet-clause-refused_order : goal.returns-in-Err-into_quiet-clause-refused_order
+returns-in-Err-into_quiet-clause-refused_order c =
+    let a = c.args.self in
+    let is = sym (c.into_gathered-gathered.ensures ∙ ap (λ (q : QuietState). q.gathered) c.in-Err-into_quiet.ensures.back) in
+    let order = c.in-Ok.ensures.order in
+    inr (record {
+      memory = refl;
+      count = order.0;
+      done = subst (λ (g : GatheredState). Passes (length a.shards) order.0 a g) is order.1;
+      nothing_left = subst NothingLeft is c.in-Ok.ensures.nothing_left;
+    })
+
+pub returns-in-Err-into_quiet-clause-refused_again : goal.returns-in-Err-into_quiet-clause-refused_again
+returns-in-Err-into_quiet-clause-refused_again c none =
+    (c.into_gathered-gathered.ensures ∙ ap (λ (q : QuietState). q.gathered) c.in-Err-into_quiet.ensures.back ∙ (c.in-Ok.ensures.again none).0, refl)

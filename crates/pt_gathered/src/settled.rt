@@ -1,0 +1,212 @@
+//! A settled node without the list of its processes.
+
+ghost use Rattle.pt_signal.specs.declared.config.TheConstants.{MAX_DESKS, MAX_STAMP};
+ghost use Rattle.std.specs.Prelude.{◌≡◌, ◌<◌, ◌≤◌, ℕ, [], ◌++◌, length, slice_index_or, reverse, IfOk, IfErr};
+ghost use Rattle.pt_events.specs.History.{IsLegal, Past};
+ghost use Rattle.pt_events.specs.Journal.{IsMerge, clock, events};
+ghost use Rattle.pt_laws.specs.Laws.{LegalWithLeftOver};
+ghost use Rattle.pt_laws.specs.Load.{IsQuiet};
+ghost use Rattle.pt_accounts.specs.DeskLives.{DeskTable};
+ghost use Rattle.pt_shard.specs.ShardState.{ShardState};
+ghost use Rattle.pt_gathered.specs.Gathered.{IsGathered, begins, journals, over};
+ghost use Rattle.pt_gathered.specs.Tables.{IsTold};
+ghost use Rattle.pt_gathered.specs.Quiet.{AreBornLater, AreInTurn, IsSettled, latest_stamp, ends_of};
+ghost use Rattle.pt_gathered.specs.Settling.{NothingLeft};
+ghost use Rattle.pt_gathered.specs.Lawful.{LanesKeep, KeepsHeadline, IsQuietNode, LinksStand, WatchesStand};
+ghost use Rattle.pt_gathered.specs.Lawful.{HoldingsStand, AnswersHold, QuestionsAnswered, BeginsAgain};
+ghost use Rattle.pt_gathered.specs.Pasts.{GoesOnFrom, IsQuietWhole, BeginsAgainAfter};
+
+use crate::at_rest::AtRest;
+use crate::gathered::Gathered;
+use crate::node_laws::laws_of_node;
+use crate::quiet::Quiet;
+use pt_accounts::{DeskLives, Lives};
+use pt_events::Stamped;
+use pt_shard::{Config, Shard};
+use pt_signal::Pid;
+use std::alloc::{AllocError, Global};
+use std::marker::Model;
+
+/// A node in which no letter is left over, as [`Gathered::settle_unlisted`] leaves it: a [`Quiet`] node without the
+/// list of all its processes.
+///
+/// It has what a program takes between two epochs: the history, the number of letters handled, and what resuming takes.
+/// [`into_quiet`](Settled::into_quiet) makes the quiet node of it. Only `history`, `latest_ends` and `into_quiet` take memory.
+#[derive(Drop)]
+pub struct Settled {
+    node: AtRest,
+    handled: u64,
+    tables: Vec<DeskLives>,
+}
+
+impl Model for Settled {
+    ghost use Rattle.pt_gathered.specs.Quiet.{QuietState, IsSettled};
+
+    ghost Value = { QuietState };
+
+    ghost view = { λ s. record { gathered = s.node; handled = s.handled; lives = s.tables.items } };
+
+    ghost invariant = { λ s. IsSettled s.node s.tables.items };
+}
+
+/// For each desk the processes whose exit is the latest of their slot, by slot, each with this stamp.
+pub(crate) fn ends_of(
+    alloc: Global,
+    desks: &[DeskLives],
+    stamp: u64,
+) -> Result<Vec<(Pid, u64)>, AllocError>
+    ensures { IfOk result (λ ends. ends.items ≡ ends_of stamp desks.now) }
+{
+    let mut ends = Vec::new(alloc);
+    for which in 0..desks.len() {
+        desks[which].latest_ends(stamp, &mut ends)?;
+    }
+    Ok(ends)
+}
+
+impl Settled {
+    pub(crate) fn of(node: AtRest, handled: u64, tables: Vec<DeskLives>) -> Settled
+        requires { IsSettled node tables.items }
+        ensures { result ≡ record { gathered = node; handled = handled; lives = tables.items } }
+    {
+        Settled {
+            node,
+            handled,
+            tables,
+        }
+    }
+
+    /// The quiet node, with the list of all processes ever spawned. Fails only if there is no memory for the list: the
+    /// settled node then comes back, as it was.
+    pub fn into_quiet(self) -> Result<Quiet, Settled>
+        ensures quiet { IfOk result (λ quiet. quiet ≡ self) }
+        ensures back { IfErr result (λ back. back ≡ self) }
+    {
+        let alloc = self.node.alloc();
+        let Settled {
+            node,
+            handled,
+            tables,
+        } = self;
+        match Lives::of(alloc, tables) {
+            Ok(lives) => Ok(Quiet::of(node, handled, lives)),
+            Err(tables) => Err(Settled::of(node, handled, tables)),
+        }
+    }
+
+    /// The gathered node, as settling left it.
+    pub(crate) fn into_gathered(self) -> Gathered
+        ensures { result ≡ self.gathered }
+    {
+        let Settled { node, tables, .. } = self;
+        Gathered::with(node, tables)
+    }
+
+    /// The number of letters handled, staying at `u64::MAX` once it is reached.
+    pub fn handled(&self) -> u64
+        ensures { result ≡ self.now.handled }
+    {
+        self.handled
+    }
+
+    /// The events of all desks in the order of stamp, then desk: a legal history with no letter in flight. Put after
+    /// what the node continues from, it is such a history from the very beginning on. Fails only if there is no memory.
+    pub fn history(&self) -> Result<Vec<Stamped>, AllocError>
+        ensures merge { IfOk result (λ h. IsMerge (journals self.now.gathered) (reverse h.items)) }
+        ensures legal { IfOk result
+            (λ h. LegalWithLeftOver (begins self.now.gathered) (reverse h.items) (over self.now.gathered)) }
+        ensures quiet { IfOk result (λ h. IsQuiet (begins self.now.gathered) (events (reverse h.items))) }
+        ensures whole { IfOk result (λ h. (past : Past) → GoesOnFrom past self.now.gathered
+            → IsLegal [] (events (reverse h.items) ++ past) × IsQuiet [] (events (reverse h.items) ++ past)) }
+    {
+        self.laws();
+        self.node.history()
+    }
+
+    /// The number of desks of the node.
+    pub fn desks(&self) -> u8
+        ensures count { result ≡ length self.now.gathered.shards }
+        ensures few { length self.now.gathered.shards ≤ MAX_DESKS }
+        ensures gathered { IsGathered self.now.gathered }
+    {
+        self.node.desks()
+    }
+
+    /// The settings of the node.
+    pub fn config(&self) -> Config
+        ensures { result ≡ self.now.gathered.config }
+    {
+        self.node.config()
+    }
+
+    /// The greatest stamp of the history, or the number above which stamps began if nothing happened.
+    pub fn clock(&self) -> u64
+        ensures latest { result ≡ latest_stamp self.now.gathered }
+        ensures journals { (d : ℕ) → clock self.now.gathered.config.start (journals self.now.gathered d) ≤ result }
+        ensures shards { (d : ℕ) (x : ShardState) → d < length self.now.gathered.shards
+            → (slice_index_or self.now.gathered.shards d x).clock ≤ result }
+        ensures within { 0 < length self.now.gathered.shards → result ≤ MAX_STAMP }
+    {
+        // read for the proof alone: it says what holds of every gathered node
+        let _desks = self.node.desks();
+        self.node.clock()
+    }
+
+    /// The processes whose exit is the latest of their slot, by shard and slot, each with this stamp. Fails only if
+    /// there is no memory.
+    pub fn latest_ends(&self, stamp: u64) -> Result<Vec<(Pid, u64)>, AllocError>
+        ensures { IfOk result (λ ends. ends.items ≡ ends_of stamp self.now.lives) }
+    {
+        ends_of(self.node.alloc(), self.tables.as_slice(), stamp)
+    }
+
+    /// The desks, in order of number, and for each desk the table of what became of its processes.
+    pub fn into_parts(self) -> (Config, Vec<Shard>, Vec<DeskLives>)
+        ensures config { result.0 ≡ self.gathered.config }
+        ensures shards { result.1.items ≡ self.gathered.shards }
+        ensures lives { result.2.items ≡ self.lives }
+        ensures count { length self.lives ≡ length self.gathered.shards }
+        ensures told { (d : ℕ) (x : ShardState) (t : DeskTable) → d < length self.gathered.shards
+            → IsTold (slice_index_or self.gathered.shards d x) (slice_index_or self.lives d t) }
+    {
+        // read for the proof alone: it says what holds of every gathered node
+        let _desks = self.node.desks();
+        let Settled { node, tables, .. } = self;
+        let (config, shards) = node.into_parts();
+        (config, shards, tables)
+    }
+
+    /// What holds for each process spawned on a desk, as [`Quiet::versions`] says. The function does nothing: its
+    /// contract is the promise.
+    pub fn versions(&self)
+        ensures turns { AreInTurn self.now.gathered.shards }
+        ensures later { AreBornLater self.now.gathered }
+        ensures gathered { IsGathered self.now.gathered }
+        ensures count { length self.now.lives ≡ length self.now.gathered.shards }
+        ensures told { (d : ℕ) (x : ShardState) (t : DeskTable) → d < length self.now.gathered.shards
+            → IsTold (slice_index_or self.now.gathered.shards d x) (slice_index_or self.now.lives d t) }
+    {
+        // read for the proof alone: it says what holds of every gathered node
+        let _desks = self.node.desks();
+        self.node.versions();
+    }
+
+    /// What the laws of histories say of a node with no letter in flight, for a caller that has only the settled node.
+    /// The function does nothing: its contract is the promise.
+    pub fn laws(&self)
+        ensures nothing_left { NothingLeft self.now.gathered }
+        ensures lanes { LanesKeep self.now.gathered }
+        ensures headline { KeepsHeadline self.now.gathered }
+        ensures quiet { IsQuietNode self.now.gathered }
+        ensures links { LinksStand self.now.gathered }
+        ensures watches { WatchesStand self.now.gathered }
+        ensures held { HoldingsStand self.now.gathered }
+        ensures answers { AnswersHold self.now.gathered }
+        ensures questions { QuestionsAnswered self.now.gathered }
+        ensures again { BeginsAgain self.now.gathered }
+        ensures whole { IsQuietWhole self.now.gathered }
+        ensures after { BeginsAgainAfter self.now.gathered }
+    {
+        laws_of_node(&self.node);
+    }
+}
