@@ -10,7 +10,7 @@ use Rattle.std.proofs.lemmas.Bool.Decides.{nat_tests}
 use Rattle.pt_signal.specs.declared.reason.Reason.{Reason}
 use Rattle.pt_signal.specs.contracts.reason.ReasonPartialEq.TheImpl.{ghosts as of_reason}
 use Rattle.pt_reasons.specs.declared.Run.{Run}
-use Rattle.pt_reasons.specs.Runs.{AreRuns, expanded, ends_with}
+use Rattle.pt_reasons.specs.Runs.{AreRuns, expanded, last_is}
 
 pub reason_is : (a b : Reason) → of_reason.eq a b ≡ true → a ≡ b
 reason_is a b h = grind (arith, common_steps)
@@ -69,11 +69,11 @@ pub last_push : (before : Option Reason) (runs : List Run) (run : Run) → last_
 last_push before [] run = refl
 last_push before (first ∷ runs) run = last_push (Some first.reason) runs run
 
--- what `ends_with` tells
-pub ends_with_push : (r : Reason) (runs : List Run) (run : Run) → ends_with r (runs ++ run ∷ []) ≡ of_reason.eq run.reason r
-ends_with_push r [] run = refl
-ends_with_push r (a ∷ []) run = refl
-ends_with_push r (a ∷ b ∷ runs) run = ends_with_push r (b ∷ runs) run
+-- what `last_is` tells
+pub last_is_push : (r : Reason) (runs : List Run) (run : Run) → last_is r (runs ++ run ∷ []) ≡ of_reason.eq run.reason r
+last_is_push r [] run = refl
+last_is_push r (a ∷ []) run = refl
+last_is_push r (a ∷ b ∷ runs) run = last_is_push r (b ∷ runs) run
 
 -- found by halves ---------------------------------------------------------------------
 
@@ -159,7 +159,7 @@ end_at n (suc k) (a ∷ []) run at e = absurd (cc)
 end_at n zero (a ∷ b ∷ runs) run at e = absurd (omega (arith, at))
 end_at n (suc k) (a ∷ b ∷ runs) run at e = end_at a.up_to k (b ∷ runs) run (omega (arith, at)) e
 
-ends_at : (r : Reason) (k : ℕ) (runs : List Run) (run : Run) → k + 1 ≡ length runs → slice_get runs k ≡ Some run → of_reason.eq run.reason r ≡ ends_with r runs
+ends_at : (r : Reason) (k : ℕ) (runs : List Run) (run : Run) → k + 1 ≡ length runs → slice_get runs k ≡ Some run → of_reason.eq run.reason r ≡ last_is r runs
 ends_at r k [] run at e = absurd (cc)
 ends_at r zero (a ∷ []) run at e = let same : run ≡ a = cc in ap (λ (x : Run). of_reason.eq x.reason r) same
 ends_at r (suc k) (a ∷ []) run at e = absurd (cc)
@@ -173,18 +173,18 @@ last_at (a ∷ runs) run e = omega arith
 pub end_is : (n : ℕ) (runs : List Run) (run : Run) → slice_get runs (length runs - 1) ≡ Some run → end_of n runs ≡ run.up_to
 end_is n runs run e = end_at n (length runs - 1) runs run (last_at runs run e) e
 
-pub ends_is : (r : Reason) (runs : List Run) (run : Run) → slice_get runs (length runs - 1) ≡ Some run → of_reason.eq run.reason r ≡ ends_with r runs
+pub ends_is : (r : Reason) (runs : List Run) (run : Run) → slice_get runs (length runs - 1) ≡ Some run → of_reason.eq run.reason r ≡ last_is r runs
 ends_is r runs run e = ends_at r (length runs - 1) runs run (last_at runs run e) e
 
 -- one more reason ------------------------------------------------------------------------
 
 -- the last run is longer by one
-pub longer : (runs old : List Run) (run : Run) (r : Reason) (up_to : ℕ) → old ≡ runs ++ run ∷ [] → AreRuns 0 None old → ends_with r old ≡ true
+pub longer : (runs old : List Run) (run : Run) (r : Reason) (up_to : ℕ) → old ≡ runs ++ run ∷ [] → AreRuns 0 None old → last_is r old ≡ true
     → up_to ≡ length (expanded 0 old) + 1
     → AreRuns 0 None (runs ++ record { up_to = up_to; reason = r } ∷ []) × (expanded 0 (runs ++ record { up_to = up_to; reason = r } ∷ []) ≡ expanded 0 old ++ r ∷ [])
 longer runs old run r up_to e are same up =
     let was = pop_runs 0 None runs run (subst (AreRuns 0 None) e are) in
-    let reason : run.reason ≡ r = reason_is run.reason r (sym (ends_with_push r runs run) ∙ sym (ap (ends_with r) e) ∙ same) in
+    let reason : run.reason ≡ r = reason_is run.reason r (sym (last_is_push r runs run) ∙ sym (ap (last_is r) e) ∙ same) in
     let all = counted 0 None (runs ++ run ∷ []) (subst (AreRuns 0 None) e are) ∙ end_push 0 runs run in
     let count : up_to ≡ run.up_to + 1 = omega (arith, up, ap (λ z. length (expanded 0 z)) e, all) in
     let fits : (run.up_to - end_of 0 runs) + 1 ≡ up_to - end_of 0 runs = omega (arith, was.1, count) in
@@ -196,7 +196,7 @@ longer runs old run r up_to e are same up =
       ∙ ap (λ x. (expanded 0 runs ++ replicate (run.up_to - end_of 0 runs) x) ++ r ∷ []) (sym reason)
       ∙ ap (λ z. z ++ r ∷ []) (sym (expanded_push 0 runs run) ∙ sym (ap (expanded 0) e)) )
 
-last_other : (before : Option Reason) (runs : List Run) (r : Reason) → ends_with r runs ≡ false → (before ≡ Some r → ⊥) → last_of before runs ≡ Some r → ⊥
+last_other : (before : Option Reason) (runs : List Run) (r : Reason) → last_is r runs ≡ false → (before ≡ Some r → ⊥) → last_of before runs ≡ Some r → ⊥
 last_other before [] r e none h = none h
 last_other before (a ∷ []) r e none h =
     let same : a.reason ≡ r = cc in
@@ -205,7 +205,7 @@ last_other before (a ∷ []) r e none h =
 last_other before (a ∷ b ∷ runs) r e none h = last_other None (b ∷ runs) r e (λ k. absurd (cc)) h
 
 -- a run of its own
-pub begun : (old : List Run) (r : Reason) (up_to : ℕ) → AreRuns 0 None old → ends_with r old ≡ false → up_to ≡ length (expanded 0 old) + 1
+pub begun : (old : List Run) (r : Reason) (up_to : ℕ) → AreRuns 0 None old → last_is r old ≡ false → up_to ≡ length (expanded 0 old) + 1
     → AreRuns 0 None (old ++ record { up_to = up_to; reason = r } ∷ []) × (expanded 0 (old ++ record { up_to = up_to; reason = r } ∷ []) ≡ expanded 0 old ++ r ∷ [])
 begun old r up_to are other up =
     let all = counted 0 None old are in
@@ -218,8 +218,8 @@ abbrev pub Pushes : List Run → Reason → List Run → Type 0
 Pushes old r new = AreRuns 0 None new × (expanded 0 new ≡ expanded 0 old ++ r ∷ [])
 
 pub pushed_longer : (old runs : List Run) (last : Option Run) (r : Reason) (up_to : ℕ) → old ≡ runs ++ option_to_list last → (last ≡ None → old ≡ [])
-    → AreRuns 0 None old → ends_with r old ≡ true → up_to ≡ length (expanded 0 old) + 1 → Pushes old r (runs ++ record { up_to = up_to; reason = r } ∷ [])
+    → AreRuns 0 None old → last_is r old ≡ true → up_to ≡ length (expanded 0 old) + 1 → Pushes old r (runs ++ record { up_to = up_to; reason = r } ∷ [])
 pushed_longer old runs None r up_to e empty are same up =
     let none : old ≡ [] = empty refl in
-    absurd (let h : false ≡ true = sym (ap (ends_with r) none) ∙ same in cc)
+    absurd (let h : false ≡ true = sym (ap (last_is r) none) ∙ same in cc)
 pushed_longer old runs (Some run) r up_to e empty are same up = longer runs old run r up_to e are same up

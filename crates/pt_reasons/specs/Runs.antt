@@ -22,7 +22,7 @@ AreRuns n before (run ∷ runs) =
     (n < run.up_to) × (before ≡ Some run.reason → ⊥) × AreRuns run.up_to (Some run.reason) runs
 
 -- the last run is of this reason
-abbrev pub ends_with : Reason → List Run → Bool
-ends_with r [] = false
-ends_with r (run ∷ []) = of_reason.eq run.reason r
-ends_with r (run ∷ next ∷ runs) = ends_with r (next ∷ runs)
+abbrev pub last_is : Reason → List Run → Bool
+last_is r [] = false
+last_is r (run ∷ []) = of_reason.eq run.reason r
+last_is r (run ∷ next ∷ runs) = last_is r (next ∷ runs)

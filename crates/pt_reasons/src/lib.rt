@@ -109,7 +109,7 @@ impl Reasons {
         ensures room { self.old.room ≤ self.new.room + 1 }
     {
         let up_to = self.len() as u32 + 1;
-        if ends_with(self.runs.as_slice(), reason) {
+        if last_is(self.runs.as_slice(), reason) {
             self.runs.pop();
         }
         self.runs.push_reserved(Run { up_to, reason });
@@ -130,8 +130,8 @@ impl Reasons {
 }
 
 /// Whether the last run is of this reason.
-fn ends_with(runs: &[Run], reason: Reason) -> bool
-    ensures { result ≡ spec.ends_with reason runs.now }
+fn last_is(runs: &[Run], reason: Reason) -> bool
+    ensures { result ≡ spec.last_is reason runs.now }
 {
     match runs.last() {
         Some(run) => run.reason == reason,
