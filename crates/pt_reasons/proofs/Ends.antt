@@ -119,8 +119,8 @@ found n place (suc i) before (run ∷ runs) are behind below above =
     ap (slice_get (replicate (run.up_to - n) run.reason ++ expanded run.up_to runs)) (omega (arith, are.0, reached))
     ∙ get_behind (run.up_to - n) (place - run.up_to) run.reason (expanded run.up_to runs)
     ∙ found run.up_to place i (Some run.reason) runs are.2 reached
-        (λ k d lt. below (suc k) d (omega (arith, lt)))
-        (λ d lt. above d (omega (arith, lt)))
+    (λ k d lt. below (suc k) d (omega (arith, lt)))
+    (λ d lt. above d (omega (arith, lt)))
 
 -- runs that rise, as a search by halves asks for it
 pub parted : (n place : ℕ) (before : Option Reason) (runs : List Run) → AreRuns n before runs → IsPartitionedBy (λ (run : Run). leb run.up_to place) runs
@@ -147,8 +147,8 @@ at_place place i runs are below above =
     let e : place ≡ place - 0 = omega arith in
     ap (slice_get (expanded 0 runs)) e
     ∙ found 0 place i None runs are (omega arith)
-        (λ k d lt. is_up_to (slice_index_or runs k d).up_to place (below k d (omega arith) lt))
-        (λ d lt. is_above (slice_index_or runs i d).up_to place (above i d (omega arith) lt))
+    (λ k d lt. is_up_to (slice_index_or runs k d).up_to place (below k d (omega arith) lt))
+    (λ d lt. is_above (slice_index_or runs i d).up_to place (above i d (omega arith) lt))
 
 -- the last run --------------------------------------------------------------------------
 
@@ -187,14 +187,15 @@ longer runs old run r up_to e are same up =
     let reason : run.reason ≡ r = reason_is run.reason r (sym (last_is_push r runs run) ∙ sym (ap (last_is r) e) ∙ same) in
     let all = counted 0 None (runs ++ run ∷ []) (subst (AreRuns 0 None) e are) ∙ end_push 0 runs run in
     let count : up_to ≡ run.up_to + 1 = omega (arith, up, ap (λ z. length (expanded 0 z)) e, all) in
-    let fits : (run.up_to - end_of 0 runs) + 1 ≡ up_to - end_of 0 runs = omega (arith, was.1, count) in
-    ( push_runs 0 None runs (record { up_to = up_to; reason = r }) was.0 (omega (arith, was.1, count)) (λ h. was.2 (h ∙ ap Some (sym reason)))
-    , expanded_push 0 runs (record { up_to = up_to; reason = r })
-      ∙ ap (λ n. expanded 0 runs ++ replicate n r) (sym fits)
-      ∙ ap (λ z. expanded 0 runs ++ z) (sym (replicate_more (run.up_to - end_of 0 runs) r))
-      ∙ sym (append_assoc (expanded 0 runs) (replicate (run.up_to - end_of 0 runs) r) (r ∷ []))
-      ∙ ap (λ x. (expanded 0 runs ++ replicate (run.up_to - end_of 0 runs) x) ++ r ∷ []) (sym reason)
-      ∙ ap (λ z. z ++ r ∷ []) (sym (expanded_push 0 runs run) ∙ sym (ap (expanded 0) e)) )
+    let fits : (run.up_to - end_of 0 runs) + 1 ≡ up_to - end_of 0 runs = omega (arith, was.1, count) in (
+      push_runs 0 None runs (record { up_to = up_to; reason = r }) was.0 (omega (arith, was.1, count)) (λ h. was.2 (h ∙ ap Some (sym reason))),
+      expanded_push 0 runs (record { up_to = up_to; reason = r })
+          ∙ ap (λ n. expanded 0 runs ++ replicate n r) (sym fits)
+          ∙ ap (λ z. expanded 0 runs ++ z) (sym (replicate_more (run.up_to - end_of 0 runs) r))
+          ∙ sym (append_assoc (expanded 0 runs) (replicate (run.up_to - end_of 0 runs) r) (r ∷ []))
+          ∙ ap (λ x. (expanded 0 runs ++ replicate (run.up_to - end_of 0 runs) x) ++ r ∷ []) (sym reason)
+          ∙ ap (λ z. z ++ r ∷ []) (sym (expanded_push 0 runs run) ∙ sym (ap (expanded 0) e)),
+    )
 
 last_other : (before : Option Reason) (runs : List Run) (r : Reason) → last_is r runs ≡ false → (before ≡ Some r → ⊥) → last_of before runs ≡ Some r → ⊥
 last_other before [] r e none h = none h
@@ -209,9 +210,10 @@ pub begun : (old : List Run) (r : Reason) (up_to : ℕ) → AreRuns 0 None old �
     → AreRuns 0 None (old ++ record { up_to = up_to; reason = r } ∷ []) × (expanded 0 (old ++ record { up_to = up_to; reason = r } ∷ []) ≡ expanded 0 old ++ r ∷ [])
 begun old r up_to are other up =
     let all = counted 0 None old are in
-    let fits : up_to - end_of 0 old ≡ 1 = omega (arith, up, all) in
-    ( push_runs 0 None old (record { up_to = up_to; reason = r }) are (omega (arith, up, all)) (last_other None old r other (λ k. absurd (cc)))
-    , expanded_push 0 old (record { up_to = up_to; reason = r }) ∙ ap (λ n. expanded 0 old ++ replicate n r) fits )
+    let fits : up_to - end_of 0 old ≡ 1 = omega (arith, up, all) in (
+      push_runs 0 None old (record { up_to = up_to; reason = r }) are (omega (arith, up, all)) (last_other None old r other (λ k. absurd (cc))),
+      expanded_push 0 old (record { up_to = up_to; reason = r }) ∙ ap (λ n. expanded 0 old ++ replicate n r) fits,
+    )
 
 -- what a reason that is pushed makes of the runs
 abbrev pub Pushes : List Run → Reason → List Run → Type 0

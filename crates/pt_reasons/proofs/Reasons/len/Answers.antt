@@ -11,5 +11,5 @@ returns-in-Some-clause-len c =
     let last : slice_get runs (length runs - 1) ≡ Some c.in-Some.run'.now = sym c.in-Some.ensures.value in
     let all = counted 0 None runs (subst (AreRuns 0 None) same c.self.invariant) in
     let listed : length (expanded 0 runs) ≡ length c.args.self.now.listed =
-        ap (λ x. length (expanded 0 x)) (sym same) ∙ ap (λ (s : ReasonsState). length s.listed) c.self.view_is in
+    ap (λ x. length (expanded 0 x)) (sym same) ∙ ap (λ (s : ReasonsState). length s.listed) c.self.view_is in
     omega (arith, all, end_is 0 runs c.in-Some.run'.now last, listed)

@@ -15,19 +15,20 @@ pushed : (c : goal.After-push_reserved) → Pushes c.self.inside.runs.items c.ar
 pushed c =
     let old = c.self.inside.runs.items in
     let up : c.len.result + 1 ≡ length (expanded 0 old) + 1 =
-        ap (λ n. n + 1) (c.len.ensures.len ∙ sym (ap (λ (s : ReasonsState). length s.listed) c.self.view_is)) in
+    ap (λ n. n + 1) (c.len.ensures.len ∙ sym (ap (λ (s : ReasonsState). length s.listed) c.self.view_is)) in
     let looked : c.as_slice.result.now ≡ old = c.as_slice.ensures.value in
     elim c.if-last_is.branch [
-      then-last_is w ↦
-        let same : last_is c.args.reason old ≡ true = ap (last_is c.args.reason) (sym looked) ∙ sym c.last_is.ensures ∙ w.if-last_is.true in
-        subst (Pushes old c.args.reason)
-        (ap (λ s. s.runs.items ++ record { up_to = c.len.result + 1; reason = c.args.reason } ∷ []) (sym w.self-inside-is) ∙ sym c.push_reserved.ensures.items)
-        (pushed_longer old w.pop.new.self.items w.pop.result c.args.reason (c.len.result + 1) w.pop.ensures.items (popped_none old _ _ w.pop.result (ap length (sym looked) ∙ c.as_slice.ensures.len) w.pop.ensures.cases) c.self.invariant same up)
-    | else-last_is w ↦
-        let other : last_is c.args.reason old ≡ false = ap (last_is c.args.reason) (sym looked) ∙ sym c.last_is.ensures ∙ w.if-last_is.false in
-        subst (Pushes old c.args.reason)
-        (ap (λ s. s.runs.items ++ record { up_to = c.len.result + 1; reason = c.args.reason } ∷ []) (sym w.self-inside-is) ∙ sym c.push_reserved.ensures.items)
-        (begun old c.args.reason (c.len.result + 1) c.self.invariant other up) ]
+      | then-last_is w ↦
+          let same : last_is c.args.reason old ≡ true = ap (last_is c.args.reason) (sym looked) ∙ sym c.last_is.ensures ∙ w.if-last_is.true in
+          subst (Pushes old c.args.reason)
+          (ap (λ s. s.runs.items ++ record { up_to = c.len.result + 1; reason = c.args.reason } ∷ []) (sym w.self-inside-is) ∙ sym c.push_reserved.ensures.items)
+          (pushed_longer old w.pop.new.self.items w.pop.result c.args.reason (c.len.result + 1) w.pop.ensures.items (popped_none old _ _ w.pop.result (ap length (sym looked) ∙ c.as_slice.ensures.len) w.pop.ensures.cases) c.self.invariant same up)
+      | else-last_is w ↦
+          let other : last_is c.args.reason old ≡ false = ap (last_is c.args.reason) (sym looked) ∙ sym c.last_is.ensures ∙ w.if-last_is.false in
+          subst (Pushes old c.args.reason)
+          (ap (λ s. s.runs.items ++ record { up_to = c.len.result + 1; reason = c.args.reason } ∷ []) (sym w.self-inside-is) ∙ sym c.push_reserved.ensures.items)
+          (begun old c.args.reason (c.len.result + 1) c.self.invariant other up)
+    ]
 
 pub invariant_of-self : goal.invariant_of-self
 invariant_of-self c = (pushed c).0

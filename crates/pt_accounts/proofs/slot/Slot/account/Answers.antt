@@ -34,7 +34,7 @@ returns-in-Some c =
     let place = c.args.version - 1 in
     let found : slice_get s.forgotten.listed place ≡ Some c.in-Some.reason = sym c.get.ensures ∙ c.in-Some.is in
     let k = early_known s.desk s.slot (length s.forgotten.listed + s.forgotten.room) s.forgotten.listed s.ended.items s.newest c.self.invariant c.args.self.now c.args.version c.in-Some.reason c.self.view_is c.if-version-eq0.false
-        (slice_get_within s.forgotten.listed place c.in-Some.reason found) (sym (get_or_from_slice_get s.forgotten.listed place c.in-Some.reason c.in-Some.reason found)) in
+    (slice_get_within s.forgotten.listed place c.in-Some.reason found) (sym (get_or_from_slice_get s.forgotten.listed place c.in-Some.reason c.in-Some.reason found)) in
     ap Some c.forgotten.ensures ∙ sym (ap (option_map account_of) k)
 
 pub overflow_sub-place-2 : goal.overflow_sub-place-2
@@ -45,7 +45,7 @@ overflow_sub-place-2 c =
 pub account-requires : goal.account-requires
 account-requires c =
     let is : Some c.in-Some-recent.life.now ≡ of_version c.args.self.now c.args.version =
-        ap (option_map (λ life. life.now)) (sym c.in-Some-recent.is) ∙ known (goal.at.account-requires c).After-recent in
+    ap (option_map (λ life. life.now)) (sym c.in-Some-recent.is) ∙ known (goal.at.account-requires c).After-recent in
     let k : IfSome (Some c.in-Some-recent.life.now) (IsCounted (2 ^ 64 - 1)) = subst (λ o. IfSome o (IsCounted (2 ^ 64 - 1))) (sym is) c.requires in
     omega (arith, k)
 

@@ -55,7 +55,7 @@ invariant_of-self c =
     let empty : c.shrink_to_fit.new.self.items ≡ [] = c.shrink_to_fit.ensures.items ∙ c.clear.ensures.items in
     let g = grown (goal.at.invariant_of-self c).After-add_reasons in
     let long : length q.listed ≡ length c.add_reasons.new.forgotten.listed + length (option_to_list c.forget_newest-reason.result) =
-        ap length c.add_reason.ensures.listed ∙ length-append c.add_reasons.new.forgotten.listed (option_to_list c.forget_newest-reason.result) in
+    ap length c.add_reason.ensures.listed ∙ length-append c.add_reasons.new.forgotten.listed (option_to_list c.forget_newest-reason.result) in
     subst (λ (l : List LifeState). IsSlot s.desk s.slot q.listed (length q.listed + q.room) l c.forget_newest-reason.new.newest) (sym empty)
     (forgot s.desk s.slot (length s.forgotten.listed + s.forgotten.room) s.forgotten.listed s.ended.items s.newest c.self.invariant q.listed c.forget_newest-reason.new.newest (length q.listed + q.room) (all_added (goal.at.invariant_of-self c).After-add_reason) c.forget_newest-reason.ensures.left (omega (arith, g.0, g.1, c.add_reason.ensures.room, long)))
 
