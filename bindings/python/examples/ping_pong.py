@@ -15,5 +15,6 @@ for num in range(ROUNDS):
     for sender, to in ((a, b), (b, a)):
         desk.send(sender, to, Body(1, num))
         desk.turn()
-        assert desk.receive(to, KIND).body.num == num
+        item = desk.receive(to, KIND)
+        assert item and item.body and item.body.num == num
 print(f"{2 * ROUNDS / (time.process_time() - begin) / 1e6:.3f} million messages a second")

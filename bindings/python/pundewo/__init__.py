@@ -7,6 +7,9 @@ a time. `open_node` makes the desks, `Desk.turn` moves letters between them, `ga
 A call checks each argument before it calls the library. A value of a wrong type is a TypeError and a number out of its
 range a ValueError, which name the argument: nothing has been called then. A call that fails is a `Fault`, which names
 the call and its processes. A desk that another thread is using is a `Busy`.
+
+Most calls may fail with MEMORY, and may be made again then, and with WORN once the clock of the desk is at 2^62. A call
+with a target fails with UNKNOWN if the desk does not `know` it.
 """
 
 from __future__ import annotations
@@ -49,11 +52,11 @@ class Fault(Exception):
     def __init__(self, code: Code, call: str = "", pids: tuple[Pid, ...] = ()):
         self.code = of_type("code", code, Code)
         self.call = of_type("call", call, str)
-        self.pids = of_type("pids", pids, tuple)
+        self.pids = tuple(of_type(f"pids[{place}]", pid, Pid) for place, pid in enumerate(of_type("pids", pids, tuple)))
         name = self.code.name.lower()
         super().__init__(f"{call}({', '.join(map(str, pids))}): {name}" if call else name)
 
-    def __reduce__(self) -> tuple:
+    def __reduce__(self) -> tuple[Any, ...]:
         return type(self), (self.code, self.call, self.pids)
 
 
@@ -83,6 +86,12 @@ class _Held:
             self._call(getattr(lib, self._give_up))
 
     __del__ = close
+
+    def __repr__(self) -> str:
+        return f"<{self._called()}>" if self._handle.at else f"<{self._called()}, empty>"
+
+    def _called(self) -> str:
+        return type(self).__name__
 
     def __enter__(self: H) -> H:
         return self
@@ -149,58 +158,112 @@ class Desk(_Held):
         self._handle.at = of_type("handle", handle, CHandle).at
         self._node, self.number, self._count = node, number, count
 
+    def _called(self) -> str:
+        return f"Desk {self.number} of {self._count}"
+
     def spawn(self) -> Pid:
-        """Spawns a process."""
+        """Spawns a process without a parent: Erlang's `spawn/1`, called from outside of the desk.
+
+        Fault: WORN, FULL if no slot is free, MEMORY.
+        """
         return pid_of(self._give(lib.pt_spawn, CPid()))
 
     def spawn_child(self, parent: Pid, linked: bool = False) -> Pid:
-        """Spawns a child of a process, and links both if `linked` is set."""
+        """Spawns a child of a process, and links both if `linked` is set: Erlang's `spawn/1` and `spawn_link/1`.
+
+        Fault: GONE if the parent is not alive here, WORN, FULL if no slot is free, MEMORY.
+        """
         return pid_of(self._give(lib.pt_spawn_child, CPid(), c_pid("parent", parent), flag("linked", linked)))
 
     def send(self, sender: Pid, to: Pid, body: Body) -> None:
-        """Sends a message."""
+        """Sends a message: Erlang's `!`. If the receiver is not alive when it arrives, it is lost.
+
+        Fault: GONE if the sender is not alive here, UNKNOWN, NOPROC if the desk sees that the receiver has exited, WORN,
+        MEMORY.
+        """
         self._must(lib.pt_send, c_pid("sender", sender), c_pid("to", to), c_body("body", body))
 
     def exit_signal(self, sender: Pid, to: Pid, reason: Reason) -> None:
-        """Sends an exit signal, as Erlang's `exit/2`."""
+        """Sends an exit signal that no link carries: Erlang's `exit/2`.
+
+        KILL makes its receiver exit with KILLED, whether it traps exits or not. A receiver that traps exits gets any other
+        reason as an item. Any other receiver exits with it, except that NORMAL has this effect only on the sender itself.
+
+        Fault: GONE if the sender is not alive here, UNKNOWN, WORN, MEMORY.
+        """
         self._must(lib.pt_exit_signal, c_pid("sender", sender), c_pid("to", to), c_reason("reason", reason))
 
     def link(self, p: Pid, to: Pid) -> None:
-        """Links p with another process."""
+        """Links p with another process: Erlang's `link/1`. Nothing happens if p holds a link with it, or is it.
+
+        If the other is not alive when the link arrives, an exit signal with NOPROC goes back.
+
+        Fault: GONE if p is not alive here, UNKNOWN; if there is a link to make, NOPROC if the desk sees that the other has
+        exited, WORN, MEMORY.
+        """
         self._must(lib.pt_link, c_pid("p", p), c_pid("to", to))
 
     def unlink(self, p: Pid, to: Pid) -> None:
-        """Removes the link of p with another process."""
+        """Removes the link of p with another process: Erlang's `unlink/1`. Nothing happens if there is none.
+
+        Fault: GONE if p is not alive here, UNKNOWN, WORN, MEMORY.
+        """
         self._must(lib.pt_unlink, c_pid("p", p), c_pid("to", to))
 
     def monitor(self, watcher: Pid, target: Pid) -> Ref:
-        """Monitors another process, and returns the reference that its DOWN will have."""
+        """Monitors another process, and returns the reference that its one DOWN will have: Erlang's `monitor/2`.
+
+        If the target is not alive when the monitor arrives, a DOWN with NOPROC goes back.
+
+        Fault: GONE if the watcher is not alive here, UNKNOWN, MYSELF if it is the target, NOPROC if the desk sees that the
+        target has exited, WORN, MEMORY.
+        """
         return ref_of(self._give(lib.pt_monitor, CRef(), c_pid("watcher", watcher), c_pid("target", target)))
 
     def demonitor(self, watcher: Pid, monitor: Ref, flush: bool = False) -> bool:
-        """Removes a monitor, and returns whether it wrote an event. `flush` also removes a DOWN that waits."""
+        """Cancels a monitor, and returns whether it wrote an event: Erlang's `demonitor/2`. `flush` also removes a DOWN
+        that waits.
+
+        Fault: GONE if the watcher is not alive here; if there is an event to write, WORN, MEMORY.
+        """
         return self._give(lib.pt_demonitor, c.c_bool(), c_pid("watcher", watcher), c_ref("monitor", monitor),
                           flag("flush", flush)).value
 
     def ask_alive(self, p: Pid, target: Pid) -> Ref:
-        """Asks whether another process is alive, and returns the reference that the answer will have."""
+        """Asks whether another process is alive, and returns the reference that the answer will have: Erlang's
+        `is_process_alive/1`.
+
+        Fault: GONE if p is not alive here, UNKNOWN, WORN, MEMORY.
+        """
         return ref_of(self._give(lib.pt_ask_alive, CRef(), c_pid("p", p), c_pid("target", target)))
 
     def trap(self, p: Pid, on: bool = True) -> bool:
-        """Sets whether p traps exits, and returns whether it did before."""
+        """Sets whether p traps exits, and returns whether it did before: Erlang's `process_flag(trap_exit, On)`.
+
+        Fault: GONE if p is not alive here, WORN, MEMORY.
+        """
         return self._give(lib.pt_trap, c.c_bool(), c_pid("p", p), flag("on", on)).value
 
     def receive(self, p: Pid, pick: Pick = ANY) -> Optional[Item]:
-        """Takes the first item that fits out of the mailbox of p; None if none fits."""
+        """Takes the first item that matches out of the mailbox of p; None if none does: Erlang's `receive .. after 0`.
+
+        Fault: GONE if p is not alive here; if an item matches, WORN, MEMORY.
+        """
         out = self._find(lib.pt_receive, CItem(), c_pid("p", p), c_pick("pick", pick))
         return None if out is None else item_of(out)
 
     def exit(self, p: Pid, reason: Reason = NORMAL) -> None:
-        """Ends p."""
+        """Makes p exit with this reason: Erlang's `exit/1`. Its links and monitors fire, and its mailbox is dropped.
+
+        Fault: GONE if p is not alive here, WORN, MEMORY.
+        """
         self._must(lib.pt_exit, c_pid("p", p), c_reason("reason", reason))
 
     def turn(self, budget: int = 64) -> Turned:
-        """Posts the letters that wait, and then handles at most `budget`."""
+        """Posts the letters that wait, and then handles at most `budget` of those that came.
+
+        `Turned.stopped` says why it stopped at a letter, which a later turn handles.
+        """
         out = self._give(lib.pt_turn, CTurned(), number("budget", budget, 0, U32))
         return unchecked(Turned, (out.posted, out.handled, Code(out.stopped) if out.stopped else None))
 
@@ -213,11 +276,11 @@ class Desk(_Held):
         return self._give(lib.pt_alive, c.c_bool(), c_pid("p", p)).value
 
     def knows(self, p: Pid) -> bool:
-        """Whether p may be the target of a call."""
+        """Whether p may be the target of a call. If it may not, the call fails with UNKNOWN."""
         return self._give(lib.pt_knows, c.c_bool(), c_pid("p", p)).value
 
     def pending(self) -> int:
-        """How many letters wait in the outbox and the hold."""
+        """The number of letters that wait in the outbox and the hold."""
         return self._give(lib.pt_pending, c.c_uint64()).value
 
     def vacant(self) -> Optional[Pid]:
@@ -239,7 +302,7 @@ class Desk(_Held):
         return None if out is None else ids_of(out)
 
     def event_count(self) -> int:
-        """How many events the journal has."""
+        """The number of events of the journal."""
         return self._give(lib.pt_event_count, c.c_size_t()).value
 
     def events(self, start: int = 0) -> Iterator[Event]:
@@ -247,8 +310,12 @@ class Desk(_Held):
         return self._each(lib.pt_event_at, CEvent, event_of, number("start", start, 0, U64))
 
     def woken(self, start: int) -> tuple[list[Pid], int]:
-        """The processes to which a signal came, or that left, from the event at this place on, and the place from
-        which to ask again. Nobody who got an item or ended is missed; a signal may queue nothing, as a link."""
+        """The processes that got a signal, or exited by their own call, from the event at this place on, and the place
+        from which to ask again.
+
+        No process that got an item or exited is missed. A returned one may have got no item: a signal that queues
+        nothing, such as a link, names its receiver too.
+        """
         at, pids = c.c_size_t(number("start", start, 0, U64)), []
         while (out := self._find(lib.pt_next_woken, CPid(), c.byref(at))) is not None:
             pids.append(pid_of(out))
@@ -262,6 +329,9 @@ class History(_Held):
 
     def __len__(self) -> int:
         return self._give(lib.pt_history_count, c.c_size_t()).value
+
+    def __iter__(self) -> Iterator[Event]:
+        return self.events()
 
     def events(self) -> Iterator[Event]:
         """The events, the first one first."""
@@ -296,7 +366,10 @@ class Gathered(_Held):
         return _history(self, lib.pt_gathered_history)
 
     def settle(self) -> Quiet:
-        """Delivers the letters left over; this value is empty afterwards."""
+        """Delivers the letters left over; this value is empty afterwards.
+
+        Unsettled: WORN if a clock is at its limit, MEMORY. The node has what was handled so far, and may be settled again.
+        """
         quiet = Quiet()
         code = self._call(lib.pt_settle, quiet._at)
         if code:

@@ -5,7 +5,7 @@ from __future__ import annotations
 import ctypes as c
 import os
 from pathlib import Path
-from typing import Callable, TypeVar
+from typing import Any, Callable, TypeVar
 
 from .values import (
     EVENTS, ITEMS, PICKS, REASONS, SIGNALS, Account, Body, Event, Ids, Item, LeftOver, LinkId, Pick, Pid, Reason, Ref,
@@ -96,7 +96,7 @@ BUILD = c.string_at(c.addressof(c.c_char.in_dll(lib, "pundewo_build"))).decode()
 
 def _declare() -> None:
     p, flag, size = c.POINTER, c.c_bool, c.c_size_t
-    calls = {
+    calls: dict[str, list[Any]] = {
         "open": [p(CHandle), size, CConfig], "gather": [p(CHandle), size, p(CHandle)],
         "settle": [p(CHandle)], "resume": [p(CHandle), size], "give_up": [], "gathered_give_up": [],
         "quiet_give_up": [], "history_give_up": [], "settle_unlisted": [p(CHandle)],
@@ -174,7 +174,7 @@ def signal_of(x: CSignal) -> Signal:
     return unchecked(Signal, (name, _WORDS[name](x) if name in _WORDS else (ref_of(x.reference),)))
 
 
-_WORDS: dict[str, Callable[[CSignal], tuple]] = {
+_WORDS: dict[str, Callable[[CSignal], tuple[Any, ...]]] = {
     "message": lambda x: (body_of(x.body),), "link": lambda x: (link_of(x.ids.one),), "unlink": lambda x: (ids_of(x.ids),),
     "exit": lambda x: (reason_of(x.reason),), "link-exit": lambda x: (ids_of(x.ids), reason_of(x.reason)),
     "down": lambda x: (ref_of(x.reference), reason_of(x.reason)), "alive-say": lambda x: (ref_of(x.reference), x.alive),
@@ -223,8 +223,8 @@ def c_pick(field: str, pick: Pick) -> CPick:
     crossing = CPick(code=PICKS.index(name))
     if name == "kind":
         crossing.kind = what
-    elif name in ("from", "exit-of"):
+    elif isinstance(what, Pid):
         crossing.pid = c_pid(f"{field}.what", what)
-    elif name in ("down-of", "alive-of"):
+    elif isinstance(what, Ref):
         crossing.reference = c_ref(f"{field}.what", what)
     return crossing

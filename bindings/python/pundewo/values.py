@@ -12,7 +12,7 @@ from __future__ import annotations
 
 from dataclasses import dataclass
 from enum import IntEnum
-from typing import Any, Iterable, NamedTuple, Optional, Sequence, TypeVar, Union
+from typing import TYPE_CHECKING, Any, Iterable, NamedTuple, Optional, Sequence, TypeVar, Union
 
 T = TypeVar("T")
 
@@ -114,9 +114,11 @@ class _Checked:
 
     __slots__ = ()
 
-    @classmethod
-    def _make(cls, words: Iterable[Any]) -> Any:
-        return cls(*words)
+    # (a type checker sees the named tuple's own, of the same type)
+    if not TYPE_CHECKING:
+        @classmethod
+        def _make(cls, iterable: Iterable[Any]) -> Any:
+            return cls(*iterable)
 
 
 class _Pid(NamedTuple):
@@ -292,8 +294,10 @@ class Pick(_Checked, _Pick):
         name = one_of("Pick.name", name, PICKS)
         if name == "kind":
             what = number("Pick.what", what, 0, U32)
+        elif name in ("from", "exit-of"):
+            what = of_type("Pick.what", what, Pid)
         else:
-            what = part("Pick.what", what, Pid if name in ("from", "exit-of") else Ref, name != "any")
+            what = part("Pick.what", what, Ref, name != "any")
         return unchecked(cls, (name, what))
 
     def __str__(self) -> str:

@@ -267,6 +267,11 @@ class Numbers(unittest.TestCase):
             with self.assertRaisesRegex(TypeError, "code is .* and must be of type Code"):
                 p.Fault(bad)
 
+    def test_a_fault_has_pids(self):
+        for bad in (1, [p.Pid(0, 0, 1)], ("<0.0.1>",), (p.Pid(0, 0, 1), (0, 0, 1)), (None,)):
+            with self.assertRaisesRegex(TypeError, "pids.* is .* and must be of type "):
+                p.Fault(p.Code.GONE, "send", bad)
+
     def test_a_fault_is_pickled(self):
         fault = pickle.loads(pickle.dumps(p.Unsettled(p.Code.MEMORY)))
         self.assertEqual((type(fault), fault.code, str(fault)), (p.Unsettled, p.Code.MEMORY, "memory"))

@@ -31,6 +31,25 @@ class Faults(unittest.TestCase):
         self.assertEqual(str(caught.exception), "open(): bad_desks")
 
 
+class Handles(unittest.TestCase):
+    def test_a_handle_is_printed(self):
+        here, there = p.open_node(2)
+        gathered = p.gather([here, there])
+        self.assertEqual((repr(here), repr(there)), ("<Desk 0 of 2, empty>", "<Desk 1 of 2, empty>"))
+        quiet = gathered.settle()
+        history = quiet.history()
+        self.assertEqual([repr(it) for it in (gathered, quiet, history)], ["<Gathered, empty>", "<Quiet>", "<History>"])
+        self.assertEqual([repr(it) for it in quiet.resume()], ["<Desk 0 of 2>", "<Desk 1 of 2>"])
+
+    def test_a_history_is_gone_through(self):
+        (desk,) = p.open_node()
+        pids = [desk.spawn() for _ in range(3)]
+        history = p.gather([desk]).history()
+        self.assertEqual([event.pid for event in history], pids)
+        self.assertEqual(list(history), list(history.events()))
+        self.assertEqual(len(history), 3)
+
+
 class Threads(unittest.TestCase):
     def test_a_desk_that_another_thread_uses_is_busy(self):
         (desk,) = p.open_node()

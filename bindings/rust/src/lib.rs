@@ -2,8 +2,9 @@
 //!
 //! A node is a set of [`Desk`]s. Each holds processes, keeps a journal of what happened on it, and belongs to one
 //! thread at a time: each call that changes it takes it by `&mut`, and one that reads it by `&`. Signals travel between
-//! desks as letters, which a [`turn`](Desk::turn) posts and handles. In the end [`gather`] brings all desks together,
-//! and [`settle`](Gathered::settle) the letters that are left over to their receivers.
+//! desks as letters, which a [`turn`](Desk::turn) posts and handles: nothing arrives before a turn of the receiver's
+//! desk. In the end [`gather`] brings all desks together, and [`settle`](Gathered::settle) delivers the letters that are
+//! left over.
 //!
 //! ```
 //! use pundewo::{Body, Config, Item, Pick, gather, open};
@@ -15,15 +16,25 @@
 //! desks[1].turn(16);
 //! let item = desks[1].receive(there, Pick::Kind(1))?;
 //! assert_eq!(item, Some(Item::User(here, Body { kind: 1, num: 7, who: None })));
-//! let quiet = gather(desks).map_err(|back| back.fault)?.settle().map_err(|back| back.fault)?;
+//! let quiet = gather(desks)?.settle()?;
 //! let history = quiet.history()?;
 //! assert_eq!(history.events().last().unwrap().to_string(), "4@1 took <1.0.1> kind 1 = user <0.0.1> 1 7");
+//! for event in &history {
+//!     println!("{event}");
+//! }
 //! # Ok::<(), pundewo::Fault>(())
 //! ```
 //!
+//! # Errors
+//!
+//! A call that fails has changed nothing, but the journal notes one that fails with [`Fault::NoProc`]. Two errors may come
+//! from most calls. [`Fault::Memory`]: there was no memory, and the call may be made again. [`Fault::Worn`]: the clock of
+//! the desk is at 2^62, so it takes no more events. [`Fault::Unknown`] comes from a call with a target that the desk does
+//! not [`know`](Desk::knows).
+//!
 //! # What is proved
 //!
-//! Of each function of the library, that it does what the table's own call does, and that a refusal changes nothing.
+//! Of each function of the library, that it does what the table's own call does, and that a failed call changes nothing.
 //! Nothing checks a Rust call against that contract: each function here meets what the one that it calls asks of its
 //! caller. Handles begin empty, are never copied, and are lent to one call at a time: they are private, a call that
 //! changes has `&mut`, and a reader locks the handle while it reads. [`gather`] tests that it has all desks of one
@@ -45,16 +56,19 @@
 #[doc = include_str!("../README.md")]
 struct Readme;
 
+mod iterators;
 #[doc(hidden)]
 pub mod raw;
+mod reading;
 mod values;
 
+pub use iterators::{Events, Journal, LeftOvers, Pids, Waiting};
+pub use reading::NotRead;
 pub use values::{
-    Account, Body, Config, Event, Fault, Happened, Ids, Item, LeftOver, LinkId, NotRead, Pick, Pid, Reason, Ref, Signal,
-    Turned,
+    Account, Body, Config, Event, Fault, Happened, Ids, Item, LeftOver, LinkId, Pick, Pid, Reason, Ref, Signal, Turned,
 };
 
-use raw::{Handle, RawAccount, RawEvent, RawIds, RawItem, RawLeftOver, RawRef, RawTurned};
+use raw::{Handle, RawAccount, RawIds, RawItem, RawRef, RawTurned};
 use std::fmt;
 use std::ptr::null_mut;
 use std::sync::atomic::{AtomicU64, Ordering};
@@ -165,7 +179,12 @@ fn desks_of(handles: Vec<Handle>) -> Vec<Desk> {
     handles.into_iter().zip(0..).map(desk_of).collect()
 }
 
-/// Opens a node: its desks, in order, on which nothing has happened.
+/// Opens a node: its desks, in order, without processes and with empty journals.
+///
+/// # Errors
+///
+/// [`Fault::BadDesks`], [`Fault::BadSlots`], [`Fault::BadTopVersion`], [`Fault::BadLane`] or [`Fault::BadStart`] names the
+/// first setting that is out of its range. [`Fault::Memory`], if there is none.
 pub fn open(count: usize, config: Config) -> Result<Vec<Desk>, Fault> {
     // (so many that no desk's number counts them would need memory for their handles first)
     if count > usize::from(u8::MAX) {
@@ -194,8 +213,18 @@ impl fmt::Display for DesksBack {
 
 impl std::error::Error for DesksBack {}
 
-/// Brings all desks of one [`open`] or one [`resume`](Quiet::resume) together, each once and in order; else they come
-/// back, with [`NotOneNode`](Fault::NotOneNode).
+/// So that `?` passes it on where a [`Fault`] is returned: the desks are given up then.
+impl From<DesksBack> for Fault {
+    fn from(back: DesksBack) -> Fault {
+        back.fault
+    }
+}
+
+/// Brings all desks of one [`open`] or one [`resume`](Quiet::resume) together, each once and in order.
+///
+/// # Errors
+///
+/// The desks come back as they were, with [`Fault::NotOneNode`] if they are not that, or with [`Fault::Memory`].
 pub fn gather(mut desks: Vec<Desk>) -> Result<Gathered, DesksBack> {
     let whole = desks.first().is_some_and(|first| {
         let (node, count) = (first.node, first.count);
@@ -226,7 +255,12 @@ impl Desk {
         self.number
     }
 
-    /// Makes a process that no other one bears.
+    /// Spawns a process without a parent: Erlang's `spawn/1`, called from outside of the desk. Its pid is the one that
+    /// [`vacant`](Desk::vacant) returns, which no process had before.
+    ///
+    /// # Errors
+    ///
+    /// [`Fault::Worn`], else [`Fault::Full`] if no slot is free, else [`Fault::Memory`].
     #[inline]
     pub fn spawn(&mut self) -> Result<Pid, Fault> {
         let mut out = Pid::default();
@@ -234,7 +268,13 @@ impl Desk {
         Ok(out)
     }
 
-    /// Makes a process that its parent bears, linked with it where that is asked.
+    /// Spawns a child of the parent, linked with it if `linked` is true: Erlang's `spawn/1` and `spawn_link/1`. Both halves of
+    /// the link are made at once, without a letter.
+    ///
+    /// # Errors
+    ///
+    /// [`Fault::Gone`] if the parent is not alive here, else [`Fault::Worn`], else [`Fault::Full`] if no slot is free, else
+    /// [`Fault::Memory`].
     #[inline]
     pub fn spawn_child(&mut self, parent: Pid, linked: bool) -> Result<Pid, Fault> {
         let mut out = Pid::default();
@@ -242,31 +282,62 @@ impl Desk {
         Ok(out)
     }
 
-    /// Sends a message.
+    /// Sends a message: Erlang's `!`. It arrives after all that the sender sent this receiver before. If the receiver is not
+    /// alive then, it is lost, and no process is notified.
+    ///
+    /// # Errors
+    ///
+    /// [`Fault::Gone`] if the sender is not alive here, [`Fault::Unknown`], [`Fault::NoProc`] if the desk sees that the receiver
+    /// has exited, [`Fault::Worn`] or [`Fault::Memory`].
     #[inline]
     pub fn send(&mut self, from: Pid, to: Pid, body: Body) -> Result<(), Fault> {
         told(unsafe { raw::pt_send(self.handle.own(), from, to, body.into()) })
     }
 
-    /// Sends an exit signal that no link carries.
+    /// Sends an exit signal that no link carries: Erlang's `exit/2`.
+    ///
+    /// [`Reason::Kill`] makes its receiver exit with [`Reason::Killed`], whether it traps exits or not. A receiver that traps
+    /// exits gets any other reason as an item. Any other receiver exits with that reason, except that [`Reason::Normal`] has
+    /// this effect only if it is the sender itself.
+    ///
+    /// # Errors
+    ///
+    /// [`Fault::Gone`] if the sender is not alive here, [`Fault::Unknown`], [`Fault::Worn`] or [`Fault::Memory`].
     #[inline]
     pub fn exit_signal(&mut self, from: Pid, to: Pid, reason: Reason) -> Result<(), Fault> {
         told(unsafe { raw::pt_exit_signal(self.handle.own(), from, to, reason.into()) })
     }
 
-    /// Links p with another process.
+    /// Links p with another process: Erlang's `link/1`. Nothing happens if p is the other one, or holds a link with it. If the
+    /// other is not alive when the link arrives, an exit signal with [`Reason::Noproc`] goes back.
+    ///
+    /// # Errors
+    ///
+    /// [`Fault::Gone`] if p is not alive here, [`Fault::Unknown`]; if there is a link to make, [`Fault::NoProc`] if the desk sees
+    /// that the other has exited, [`Fault::Worn`] or [`Fault::Memory`].
     #[inline]
     pub fn link(&mut self, p: Pid, to: Pid) -> Result<(), Fault> {
         told(unsafe { raw::pt_link(self.handle.own(), p, to) })
     }
 
-    /// Takes the link of p with another process back.
+    /// Removes the link of p with another process: Erlang's `unlink/1`. Nothing happens if there is none. From here on an exit
+    /// signal that the link carries has no effect on p: it may still arrive, and is dropped.
+    ///
+    /// # Errors
+    ///
+    /// [`Fault::Gone`] if p is not alive here, [`Fault::Unknown`], [`Fault::Worn`] or [`Fault::Memory`].
     #[inline]
     pub fn unlink(&mut self, p: Pid, to: Pid) -> Result<(), Fault> {
         told(unsafe { raw::pt_unlink(self.handle.own(), p, to) })
     }
 
-    /// Watches another process, and answers the reference that its DOWN will have.
+    /// Monitors another process, and returns the reference that its one [`Item::Down`] will have: Erlang's `monitor/2`. If the
+    /// target is not alive when the monitor arrives, a `DOWN` with [`Reason::Noproc`] goes back.
+    ///
+    /// # Errors
+    ///
+    /// [`Fault::Gone`] if the watcher is not alive here, [`Fault::Unknown`], [`Fault::Myself`] if it is the target,
+    /// [`Fault::NoProc`] if the desk sees that the target has exited, [`Fault::Worn`] or [`Fault::Memory`].
     #[inline]
     pub fn monitor(&mut self, watcher: Pid, target: Pid) -> Result<Ref, Fault> {
         let mut out = RawRef::default();
@@ -274,7 +345,14 @@ impl Desk {
         Ok(out.into())
     }
 
-    /// Gives a monitor up, and answers whether it wrote an event; `flush` takes a DOWN that waits.
+    /// Cancels a monitor, and returns whether that wrote an event: Erlang's `demonitor/2`.
+    ///
+    /// A monitor is open until its `DOWN` arrives, or its watcher cancels it or exits. If it is open, its `DOWN` enters the
+    /// mailbox no more. If it is not, its `DOWN` is taken out of the mailbox if `flush` is true and it waits there.
+    ///
+    /// # Errors
+    ///
+    /// [`Fault::Gone`] if the watcher is not alive here; if there is an event to write, [`Fault::Worn`] or [`Fault::Memory`].
     #[inline]
     pub fn demonitor(&mut self, watcher: Pid, monitor: Ref, flush: bool) -> Result<bool, Fault> {
         let mut wrote = false;
@@ -282,7 +360,12 @@ impl Desk {
         Ok(wrote)
     }
 
-    /// Asks whether another process is alive, and answers the reference that the answer will have.
+    /// Asks whether another process is alive, and returns the reference that the answer will have: Erlang's
+    /// `is_process_alive/1`. The [`Item::Alive`] arrives after all that the target sent p before. The target may be p.
+    ///
+    /// # Errors
+    ///
+    /// [`Fault::Gone`] if p is not alive here, [`Fault::Unknown`], [`Fault::Worn`] or [`Fault::Memory`].
     #[inline]
     pub fn ask_alive(&mut self, p: Pid, target: Pid) -> Result<Ref, Fault> {
         let mut out = RawRef::default();
@@ -290,7 +373,11 @@ impl Desk {
         Ok(out.into())
     }
 
-    /// Sets whether p traps exits, and answers whether it did.
+    /// Sets whether p traps exits, and returns whether it did before: Erlang's `process_flag(trap_exit, On)`.
+    ///
+    /// # Errors
+    ///
+    /// [`Fault::Gone`] if p is not alive here, [`Fault::Worn`] or [`Fault::Memory`].
     #[inline]
     pub fn trap(&mut self, p: Pid, on: bool) -> Result<bool, Fault> {
         let mut was = false;
@@ -298,7 +385,11 @@ impl Desk {
         Ok(was)
     }
 
-    /// Takes the first item that fits out of the mailbox of p, where one does.
+    /// Takes the first item that matches out of the mailbox of p, and `None` if none does: Erlang's `receive .. after 0`.
+    ///
+    /// # Errors
+    ///
+    /// [`Fault::Gone`] if p is not alive here; if an item matches, [`Fault::Worn`] or [`Fault::Memory`].
     #[inline]
     pub fn receive(&mut self, p: Pid, pick: Pick) -> Result<Option<Item>, Fault> {
         let mut out = RawItem::default();
@@ -309,13 +400,18 @@ impl Desk {
         }
     }
 
-    /// Ends p.
+    /// Makes p exit with this reason: Erlang's `exit/1`. Its links and monitors fire, and its mailbox is dropped.
+    ///
+    /// # Errors
+    ///
+    /// [`Fault::Gone`] if p is not alive here, [`Fault::Worn`] or [`Fault::Memory`].
     #[inline]
     pub fn exit(&mut self, p: Pid, reason: Reason) -> Result<(), Fault> {
         told(unsafe { raw::pt_exit(self.handle.own(), p, reason.into()) })
     }
 
-    /// Posts the letters that wait, and then handles at most `budget`.
+    /// Posts the letters that wait, and then handles at most `budget` of those that came. It never fails: what it did so far
+    /// stays, and [`Turned::stopped`] says why it stopped at a letter, which is handled by a later turn.
     #[inline]
     pub fn turn(&mut self, budget: u32) -> Turned {
         let mut out = RawTurned::default();
@@ -332,7 +428,7 @@ impl Desk {
         out
     }
 
-    /// Whether p lives here.
+    /// Whether p is alive here.
     #[inline]
     pub fn alive(&self, p: Pid) -> bool {
         let mut out = false;
@@ -340,7 +436,8 @@ impl Desk {
         out
     }
 
-    /// Whether p may be the target of a call.
+    /// Whether p may be the target of a call. If it may not, the call fails with [`Fault::Unknown`]: its numbers are out of the
+    /// node's ranges, or it would be a process of this desk that was never spawned.
     #[inline]
     pub fn knows(&self, p: Pid) -> bool {
         let mut out = false;
@@ -348,7 +445,7 @@ impl Desk {
         out
     }
 
-    /// How many letters wait in the outbox and the hold.
+    /// The number of letters that wait in the outbox and the hold.
     #[inline]
     pub fn pending(&self) -> u64 {
         let mut out = 0;
@@ -356,7 +453,7 @@ impl Desk {
         out
     }
 
-    /// The pid that the next birth has, or `None` where no slot is free.
+    /// The pid that the next process spawned here will have, or `None` if no slot is free.
     #[inline]
     pub fn vacant(&self) -> Option<Pid> {
         let mut out = Pid::default();
@@ -364,21 +461,16 @@ impl Desk {
         found(code, out)
     }
 
-    /// The items that wait in the mailbox of p, oldest first, or `None` where it does not live here.
+    /// The items that wait in the mailbox of p, oldest first, or `None` if p is not alive here.
     #[inline]
-    pub fn waiting(&self, p: Pid) -> Option<impl Iterator<Item = Item> + '_> {
+    pub fn waiting(&self, p: Pid) -> Option<Waiting<'_>> {
         let mut count = 0;
         let code = unsafe { raw::pt_waiting(&mut self.handle.lent(), p, &mut count) };
-        found(code, count).map(|count| {
-            (0..count).map_while(move |place| {
-                let mut out = RawItem::default();
-                let code = unsafe { raw::pt_peek(&mut self.handle.lent(), p, place, &mut out) };
-                found(code, out.into())
-            })
-        })
+        found(code, count).map(|count| Waiting::new(&self.handle, p, 0..count))
     }
 
-    /// The ids under which p is linked with another process, by p's own half of the link.
+    /// The ids under which p is linked with another process, or `None` if there is no link, or p is not alive here. This is p's
+    /// own half of the link: that of the other may differ while letters of the two are on their way.
     #[inline]
     pub fn linked(&self, p: Pid, peer: Pid) -> Option<Ids> {
         let mut out = RawIds::default();
@@ -386,7 +478,7 @@ impl Desk {
         found(code, out.into())
     }
 
-    /// How many events the journal has.
+    /// The number of events of the journal.
     #[inline]
     pub fn event_count(&self) -> usize {
         let mut out = 0;
@@ -396,16 +488,16 @@ impl Desk {
 
     /// The events of the journal from this place on, oldest first.
     #[inline]
-    pub fn events(&self, from: usize) -> impl Iterator<Item = Event> + '_ {
-        (from..).map_while(move |place| {
-            let mut out = RawEvent::default();
-            let code = unsafe { raw::pt_event_at(&mut self.handle.lent(), place, &mut out) };
-            found(code, out.into())
-        })
+    pub fn events(&self, from: usize) -> Journal<'_> {
+        let count = self.event_count();
+        Journal::new(&self.handle, (), from.min(count)..count)
     }
 
-    /// The next process to which a signal came, or that left, from the event at place `at` on, which is then behind
-    /// that event. Nobody who got an item or ended is missed; a signal may queue nothing, as a link.
+    /// The next process that got a signal, or exited by its own call, from the event at place `at` on. `at` is then the place
+    /// after that event, so a caller that keeps `at` gets each such event once.
+    ///
+    /// No process that got an item or exited is missed. A returned one may have got no item: a signal that queues nothing, such
+    /// as a link, names its receiver too.
     // (a scheduler calls this for each event, with the desk for itself: so without a lock)
     #[inline]
     pub fn next_woken(&mut self, at: &mut usize) -> Option<Pid> {
@@ -449,8 +541,15 @@ impl fmt::Display for Unsettled {
 
 impl std::error::Error for Unsettled {}
 
+/// So that `?` passes it on where a [`Fault`] is returned: the node is given up then.
+impl From<Unsettled> for Fault {
+    fn from(back: Unsettled) -> Fault {
+        back.fault
+    }
+}
+
 impl Gathered {
-    /// How many desks the node has.
+    /// The number of desks of the node.
     #[inline]
     pub fn desks(&self) -> u8 {
         let mut out = 0;
@@ -459,13 +558,22 @@ impl Gathered {
     }
 
     /// The events of all desks in one legal order, and the letters left over.
+    ///
+    /// # Errors
+    ///
+    /// [`Fault::Memory`], if there is none.
     pub fn history(&self) -> Result<History, Fault> {
         let mut handle = NONE;
         told(unsafe { raw::pt_gathered_history(&mut self.handle.lent(), &mut handle) })?;
         Ok(History { handle: Held::new(handle) })
     }
 
-    /// Brings the letters left over to their receivers, until there are none.
+    /// Delivers the letters left over, until there are none.
+    ///
+    /// # Errors
+    ///
+    /// The node comes back with what was handled so far, and may be settled again: with [`Fault::Worn`] if a clock is at its
+    /// limit, or with [`Fault::Memory`].
     pub fn settle(mut self) -> Result<Quiet, Unsettled> {
         let mut handle = NONE;
         match unsafe { raw::pt_settle(self.handle.own(), &mut handle) } {
@@ -612,15 +720,26 @@ impl fmt::Display for Resting {
 
 impl std::error::Error for Resting {}
 
+/// So that `?` passes it on where a [`Fault`] is returned: the settled node is given up then.
+impl From<Resting> for Fault {
+    fn from(back: Resting) -> Fault {
+        back.fault
+    }
+}
+
 impl Quiet {
     /// The events of all desks in one legal order.
+    ///
+    /// # Errors
+    ///
+    /// [`Fault::Memory`], if there is none.
     pub fn history(&self) -> Result<History, Fault> {
         let mut handle = NONE;
         told(unsafe { raw::pt_quiet_history(&mut self.handle.lent(), &mut handle) })?;
         Ok(History { handle: Held::new(handle) })
     }
 
-    /// How many desks the node has.
+    /// The number of desks of the node.
     #[inline]
     pub fn desks(&self) -> u8 {
         let mut out = 0;
@@ -628,20 +747,23 @@ impl Quiet {
         out
     }
 
-    /// Goes on from the node: its desks, in order, with empty journals over what was left behind. Who lives has its
-    /// links, its monitors, its flag and its waiting items; who ended stays ended; clocks and the versions of slots go
-    /// on. Take the [`history`](Quiet::history) before, where it is to be kept: the node is spent.
+    /// Resumes the node: returns its desks, in order, with empty journals. Take the [`history`](Quiet::history) before, if you
+    /// want to keep it.
     ///
-    /// Refused only where there is no memory: the node then comes back, as it was.
+    /// A live process keeps its links, monitors, flag and waiting items. An exited process stays exited. Clocks and the versions
+    /// of slots continue.
+    ///
+    /// # Errors
+    ///
+    /// The settled node comes back as it was, with [`Fault::Memory`], if there is none.
     ///
     /// ```
     /// use pundewo::{Config, Reason, gather, open};
     ///
-    /// let mut desks = open(1, Config { slots: 8, top_version: 100, lane: 16, start: 0 })?;
+    /// let mut desks = open(1, Config::default())?;
     /// let (first, other) = (desks[0].spawn()?, desks[0].spawn()?);
     /// desks[0].exit(first, Reason::Normal)?;
-    /// let quiet = gather(desks).map_err(|back| back.fault)?.settle().map_err(|back| back.fault)?;
-    /// let mut desks = quiet.resume().map_err(|back| back.fault)?;
+    /// let mut desks = gather(desks)?.settle()?.resume()?;
     /// assert_eq!((desks[0].event_count(), desks[0].clock()), (0, 3));
     /// assert!(desks[0].alive(other) && !desks[0].alive(first));
     /// assert_eq!(desks[0].spawn()?.version, 2);
@@ -657,7 +779,7 @@ impl Quiet {
         }
     }
 
-    /// How many letters settling handled.
+    /// The number of letters that settling handled.
     #[inline]
     pub fn handled(&self) -> u64 {
         let mut out = 0;
@@ -665,17 +787,15 @@ impl Quiet {
         out
     }
 
-    /// The pids of all processes that were ever born, by shard, slot and version.
+    /// The pids of all processes that were ever spawned, by shard, slot and version.
     #[inline]
-    pub fn pids(&self) -> impl Iterator<Item = Pid> + '_ {
-        (0..).map_while(move |place| {
-            let mut out = Pid::default();
-            let code = unsafe { raw::pt_quiet_pid_at(&mut self.handle.lent(), place, &mut out) };
-            found(code, out)
-        })
+    pub fn pids(&self) -> Pids<'_> {
+        let mut count = 0;
+        unsafe { raw::pt_quiet_pid_count(&mut self.handle.lent(), &mut count) };
+        Pids::new(&self.handle, (), 0..count)
     }
 
-    /// What became of p, or `None` where it was never born.
+    /// What became of p, or `None` if it was never spawned.
     #[inline]
     pub fn account(&self, p: Pid) -> Option<Account> {
         let mut out = RawAccount::default();
@@ -683,7 +803,7 @@ impl Quiet {
         found(code, out.into())
     }
 
-    /// The ids under which p is linked with another process, or was just after its own end.
+    /// The ids under which p is linked with another process, or was just after its own exit.
     #[inline]
     pub fn linked(&self, p: Pid, peer: Pid) -> Option<Ids> {
         let mut out = RawIds::default();
@@ -691,7 +811,7 @@ impl Quiet {
         found(code, out.into())
     }
 
-    /// Whether a process keeps a watch of this reference, or did just after its own end.
+    /// Whether a process keeps a watch of this reference, or did just after its own exit.
     #[inline]
     pub fn kept(&self, target: Pid, monitor: Ref) -> bool {
         let mut out = false;
@@ -726,7 +846,7 @@ impl Drop for History {
 }
 
 impl History {
-    /// How many events it has.
+    /// The number of events.
     #[inline]
     pub fn count(&self) -> usize {
         let mut out = 0;
@@ -736,21 +856,25 @@ impl History {
 
     /// The events, the first one first.
     #[inline]
-    pub fn events(&self) -> impl Iterator<Item = Event> + '_ {
-        (0..).map_while(move |place| {
-            let mut out = RawEvent::default();
-            let code = unsafe { raw::pt_history_at(&mut self.handle.lent(), place, &mut out) };
-            found(code, out.into())
-        })
+    pub fn events(&self) -> Events<'_> {
+        Events::new(&self.handle, (), 0..self.count())
     }
 
     /// The letters left over, by sending desk, then by receiving desk.
     #[inline]
-    pub fn left_over(&self) -> impl Iterator<Item = LeftOver> + '_ {
-        (0..).map_while(move |place| {
-            let mut out = RawLeftOver::default();
-            let code = unsafe { raw::pt_history_left_at(&mut self.handle.lent(), place, &mut out) };
-            found(code, out.into())
-        })
+    pub fn left_over(&self) -> LeftOvers<'_> {
+        let mut count = 0;
+        unsafe { raw::pt_history_left_count(&mut self.handle.lent(), &mut count) };
+        LeftOvers::new(&self.handle, (), 0..count)
+    }
+}
+
+impl<'a> IntoIterator for &'a History {
+    type Item = Event;
+    type IntoIter = Events<'a>;
+
+    #[inline]
+    fn into_iter(self) -> Events<'a> {
+        self.events()
     }
 }

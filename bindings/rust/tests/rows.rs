@@ -166,7 +166,7 @@ fn on_desks(desks: &mut [Desk], name: &str, w: &[&str]) -> String {
 }
 
 /// Looks at a history.
-fn on_history(mut history: History, name: &str, w: &[&str]) -> String {
+fn on_history(history: History, name: &str, w: &[&str]) -> String {
     match name {
         "events" => history.count().to_string(),
         "event" => event_text(history.events(), w),
@@ -205,7 +205,7 @@ fn opened(node: &mut Node, w: &[&str]) -> String {
 }
 
 fn gathered(desks: Vec<Desk>) -> (Node, String) {
-    let mut gathered = gather(desks).unwrap();
+    let gathered = gather(desks).unwrap();
     let left = gathered.history().unwrap().left_over().count();
     (Node::Gathered(gathered), format!("left-over {left}"))
 }
@@ -233,7 +233,7 @@ fn make(node: &mut Node, name: &str, w: &[&str]) -> String {
             let answer = on_desks(&mut desks, name, w);
             (Node::Running(desks), answer)
         }
-        (name, Node::Gathered(mut gathered)) => {
+        (name, Node::Gathered(gathered)) => {
             let answer = on_history(gathered.history().unwrap(), name, w);
             (Node::Gathered(gathered), answer)
         }
@@ -249,7 +249,7 @@ fn make(node: &mut Node, name: &str, w: &[&str]) -> String {
 
 /// Gathers and settles what is left of a node. A clock at its limit takes no more receipts.
 fn close(node: Node) {
-    let mut gathered = match node {
+    let gathered = match node {
         Node::Running(desks) => gather(desks).unwrap(),
         Node::Gathered(gathered) => gathered,
         Node::Settled(_) | Node::Closed => return,
@@ -257,7 +257,7 @@ fn close(node: Node) {
     let events = gathered.history().unwrap().count();
     match gathered.settle() {
         Ok(quiet) => {
-            let mut history = quiet.history().unwrap();
+            let history = quiet.history().unwrap();
             assert!(history.left_over().next().is_none() && history.count() >= events);
         }
         Err(back) => assert_eq!(back.fault, Fault::Worn),
