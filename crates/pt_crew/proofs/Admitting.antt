@@ -4,7 +4,8 @@ use Rattle.pt_signal.specs.declared.pid.Pid.{Pid}
 use Rattle.pt_crew.specs.declared.crew.Crew.{Crew}
 use Rattle.pt_crew.specs.declared.births.Role.{Role}
 use Rattle.pt_crew.specs.Crews.{waiting, queue, IsSame}
-use Rattle.pt_crew.specs.Parts.{aboard, AdmitsOf, AdmitsFirst, CanEnter, QueueIsLonger}
+use Rattle.pt_crew.specs.Parts.{aboard, AdmitsOf, AdmitsFirst, CanEnter}
+use Rattle.pt_crew.specs.Stepping.{QueueIsLonger}
 use Rattle.pt_crew.proofs.Visiting.{same_roles}
 
 module _ {B : Type 0} (lives : Pid → Bool) (old mid new : Crew B) (room : IsSame old mid) where

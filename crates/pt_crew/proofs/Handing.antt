@@ -15,7 +15,7 @@ use Rattle.pt_shard.specs.declared.fault.Fault.TheVariants.{Full, Memory, Worn, 
 use Rattle.pt_shard.specs.ShardState.{ShardState, lives, state_in}
 use Rattle.pt_shard.specs.Calls.{Calls, take_event, first_match}
 use Rattle.pt_crew.specs.declared.behaviour.Next.{Next}
-use Rattle.pt_crew.specs.declared.behaviour.Next.TheVariants.{Wait, WaitUntil, Proceed, Stop}
+use Rattle.pt_crew.specs.declared.behaviour.Next.TheVariants.{Wait, WaitUntil, Proceed, Running, Stop}
 use Rattle.pt_crew.specs.declared.births.Role.{Role}
 use Rattle.pt_crew.specs.Births.{bore}
 use Rattle.pt_crew.specs.declared.crew.Tended.{Tended}
@@ -52,7 +52,7 @@ items_then [] ys = refl
 items_then (t ∷ xs) ys = ap (λ (l : List (Pid × Item)). item_handed t.0 t.1 ++ l) (items_then xs ys) ∙ sym (append_assoc (item_handed t.0 t.1) (items_handed xs) (items_handed ys))
 
 -- what is found fits
-found_fits : (test : Item → Bool) (items : List Item) (i : Item) → Some i ≡ find test items → test i ≡ true
+pub found_fits : (test : Item → Bool) (items : List Item) (i : Item) → Some i ≡ find test items → test i ≡ true
 found_fits test [] i e = absurd (cc)
 found_fits test (x ∷ items) i e = go (test x) refl e (found_fits test items i)
   where
@@ -149,9 +149,14 @@ module _ {B : Type 0} (answers : Answers B) (time : ℕ) where
     proceeds b t true was h = one b Proceed None d t was (inl refl) refl h
     proceeds b t false was h = left d t refl h
 
+    runs : (b : B) (t : Tended) (living : Bool) → old p ≡ Some (b, Running) → MatchBool living (StaysAs Idle (b, Running) d t (new p) e) (LeavesAs d t (new p) e) → Handed answers time old d new e
+    runs b t true was h = stood d Idle t (b, Running) was refl h
+    runs b t false was h = left d t refl h
+
     seen : (b : B) (n : Next) (t : Tended) → old p ≡ Some (b, n) → SeesTo answers time p b n d t (new p) e births → Handed answers time old d new e
     seen b (Stop r) t was h = ended b r t h.0 was h.1 h.2
     seen b Proceed t was h = proceeds b t (lives d p) was h
+    seen b Running t was h = runs b t (lives d p) was h
     seen b (Wait k) t was h = took b (Wait k) k false t h.0 h.1 was refl (λ bad. absurd (cc)) h.2 h.3
     seen b (WaitUntil k at) t was h =
         took b (WaitUntil k at) k (nat_le at time) t h.0 h.1 was refl (λ over. inr (at, refl, leb-true at time over)) h.2 h.3

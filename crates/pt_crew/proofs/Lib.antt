@@ -1,7 +1,9 @@
 -- The lemmas that more than one function of the crate uses.
 pub mod Places
+pub mod EndedBefore
 pub mod Waking
 pub mod Timing
+pub mod Answering
 pub mod Beginning
 pub mod Reading
 pub mod Room

@@ -22,7 +22,7 @@ use Rattle.pt_shard.specs.Extends.{Extends}
 use Rattle.pt_workers.proofs.Waiting.{born_later}
 use Rattle.pt_crew.specs.declared.births.Role.{Role}
 use Rattle.pt_crew.specs.declared.behaviour.Next.{Next}
-use Rattle.pt_crew.specs.declared.behaviour.Next.TheVariants.{Wait, WaitUntil, Proceed, Stop}
+use Rattle.pt_crew.specs.declared.behaviour.Next.TheVariants.{Wait, WaitUntil, Proceed, Running, Stop}
 use Rattle.pt_crew.specs.declared.crew.Member.{Member}
 use Rattle.pt_crew.specs.declared.crew.Crew.{Crew}
 use Rattle.pt_crew.specs.declared.crew.Tended.{Tended}
@@ -31,7 +31,8 @@ use Rattle.pt_crew.specs.Visiting.{Answers, BearsChildren, HandsTo, StaysAs, See
 use Rattle.pt_crew.specs.Crews.{HasRoom, HasTimers, KnowsDesk, members, queue, role, roles, left, waiting, unmarked, read_events, rounds_asked, time_of, was_refused}
 use Rattle.pt_crew.specs.Births.{bore}
 use Rattle.pt_crew.specs.Waking.{IsQueue, Knows, Members, AreTimed, has_work, in_queue, sleeps_until, timer_of, limit_of}
-use Rattle.pt_crew.specs.Parts.{MemberTends, PutsMember, Serves, SleepsUntil, kept_as, sleeper}
+use Rattle.pt_crew.specs.Parts.{MemberTends, PutsMember, SleepsUntil, kept_as, sleeper}
+use Rattle.pt_crew.specs.Stepping.{Serves}
 use Rattle.pt_crew.proofs.Waking.{changed, taken_out, put_back, first_in, there, some_none, same_some}
 use Rattle.pt_crew.proofs.Timing.{untimed, timed_anew, stops_none, queued_bare}
 use Rattle.pt_crew.proofs.Places.{written_at, held_at}
@@ -163,6 +164,9 @@ not_handed (Wait k) (living s) is = not_by s.waiting is
 not_handed (Wait k) (ended r s) is = cc
 not_handed (WaitUntil k at) f is = cc
 not_handed Proceed f is = cc
+not_handed Running unborn is = cc
+not_handed Running (living s) is = cc
+not_handed Running (ended r s) is = cc
 not_handed (Stop r) f is = cc
 
 module _ {B : Type 0} (answers : Answers B) (p : Pid) (b : B) (n : Next) (e : ShardState) (now : Option (B × Next)) (births : List (Role B)) where
@@ -198,6 +202,10 @@ module _ {B : Type 0} (answers : Answers B) (p : Pid) (b : B) (n : Next) (e : Sh
   takes_idle over d mid k (Err Myself) calls h = absurd (let is = h.0 in cc)
   takes_idle over d mid k (Err NoProc) calls h = absurd (let is = h.0 in cc)
 
+  runs_idle : (alive : Bool) (d : ShardState) → MatchBool alive (StaysAs Idle (b, n) d Idle now e) (LeavesAs d Idle now e) → IsAsWas d
+  runs_idle true d h = (h.1, h.2)
+  runs_idle false d h = absurd (let is = h.0 in cc)
+
   proceeds_idle : (alive : Bool) (d : ShardState) → MatchBool alive (HandsTo answers p b None d Idle now e births) (LeavesAs d Idle now e) → IsAsWas d
   proceeds_idle true d h = handed_idle None d h
   proceeds_idle false d h = absurd (let is = h.0 in cc)
@@ -206,6 +214,7 @@ idle_stays : {B : Type 0} (answers : Answers B) (time : ℕ) (p : Pid) (b : B) (
     → (now ≡ Some (b, n)) × (e ≡ d)
 idle_stays answers time p b (Stop r) d e now births h = ends_idle answers p b (Stop r) e now births d (b, Stop r) h.0 h.2
 idle_stays answers time p b Proceed d e now births h = proceeds_idle answers p b Proceed e now births (lives d p) d h
+idle_stays answers time p b Running d e now births h = runs_idle answers p b Running e now births (lives d p) d h
 idle_stays answers time p b (Wait k) d e now births h = takes_idle answers p b (Wait k) e now births false d h.1 k h.0 h.2 h.3
 idle_stays answers time p b (WaitUntil k at) d e now births h = takes_idle answers p b (WaitUntil k at) e now births (nat_le at time) d h.1 k h.0 h.2 h.3
 
@@ -220,6 +229,9 @@ kept_handed m (Wait k) (living s) = kept_by m s.waiting
 kept_handed m (Wait k) (ended r s) = refl
 kept_handed m (WaitUntil k at) f = refl
 kept_handed m Proceed f = refl
+kept_handed m Running unborn = refl
+kept_handed m Running (living s) = refl
+kept_handed m Running (ended r s) = refl
 kept_handed m (Stop r) f = refl
 
 -- one that sleeps then, or is refused ---------------------------------------------------------

@@ -29,7 +29,7 @@ use Rattle.pt_signal.specs.Values.{fits}
 use Rattle.pt_events.specs.History.{Phase, unborn, living, ended, is_living, state_of}
 use Rattle.pt_workers.proofs.GoingOn.{stays}
 use Rattle.pt_crew.proofs.Telling.{is_answered}
-use Rattle.pt_crew.specs.declared.behaviour.Next.TheVariants.{Wait, WaitUntil, Proceed, Stop}
+use Rattle.pt_crew.specs.declared.behaviour.Next.TheVariants.{Wait, WaitUntil, Proceed, Running, Stop}
 use Rattle.pt_crew.specs.declared.behaviour.Next.{Next}
 use Rattle.pt_crew.specs.Waking.{has_work, pick_of}
 use Rattle.pt_crew.specs.Visiting.{takes, takes_by}
@@ -188,6 +188,7 @@ idle_next : (n : Next) (p : Pid) (k : Pick) (d : ShardState) → pick_of n ≡ S
 idle_next (Wait j) p k d is idle = ap (λ (x : Pick). has_work (Wait x) (phase_of d p)) (same_pick j k is) ∙ idle
 idle_next (WaitUntil j at) p k d is idle = ap (λ (x : Pick). has_work (Wait x) (phase_of d p)) (same_pick j k is) ∙ idle
 idle_next Proceed p k d is idle = absurd (cc)
+idle_next Running p k d is idle = absurd (cc)
 idle_next (Stop r) p k d is idle = absurd (cc)
 
 pub idle_for : (n : Next) (p : Pid) (k : Pick) (old new : ShardState) → pick_of n ≡ Some k → Calls p (take_event old p k) (first_match old p k) old (Ok None) new → has_work n (phase_of new p) ≡ false

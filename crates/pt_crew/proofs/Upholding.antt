@@ -28,7 +28,7 @@ use Rattle.pt_shard.specs.declared.stop.Stop.{Stop}
 use Rattle.pt_shard.specs.declared.stop.Stop.TheVariants.{Memory as NoRoom, Worn as Spent}
 use Rattle.pt_desk.specs.Turns.{Fetches, HandlesNext, HandlesAll, Stays, EndsWith, Turns}
 use Rattle.pt_crew.specs.declared.behaviour.Next.{Next}
-use Rattle.pt_crew.specs.declared.behaviour.Next.TheVariants.{Wait, WaitUntil, Proceed, Stop as Stopping}
+use Rattle.pt_crew.specs.declared.behaviour.Next.TheVariants.{Wait, WaitUntil, Proceed, Running, Stop as Stopping}
 use Rattle.pt_crew.specs.declared.births.Role.{Role}
 use Rattle.pt_crew.specs.declared.crew.Crew.{Crew}
 use Rattle.pt_crew.specs.declared.crew.Tended.{Tended}
@@ -188,6 +188,9 @@ module _ {B : Type 0} (answers : Answers B) (stands : Relation B) (k : IsUpheld 
     bears_handed (Wait k) (ended r s) b = b
     bears_handed (WaitUntil k at) f b = b
     bears_handed Proceed f b = b
+    bears_handed Running unborn b = b
+    bears_handed Running (living s) b = b
+    bears_handed Running (ended r s) b = b
     bears_handed (Stopping r) f b = b
 
     -- it does not leave then
@@ -201,6 +204,9 @@ module _ {B : Type 0} (answers : Answers B) (stands : Relation B) (k : IsUpheld 
     not_handed (Wait k) (ended r s) is = absurd (cc)
     not_handed (WaitUntil k at) f is = absurd (cc)
     not_handed Proceed f is = absurd (cc)
+    not_handed Running unborn is = absurd (cc)
+    not_handed Running (living s) is = absurd (cc)
+    not_handed Running (ended r s) is = absurd (cc)
     not_handed (Stopping r) f is = absurd (cc)
 
     -- it was handed an item, or none
@@ -276,10 +282,17 @@ module _ {B : Type 0} (answers : Answers B) (stands : Relation B) (k : IsUpheld 
         handed None d d e t now born here (later_is d d refl) (acts_is p d d refl) (inl goes_on, alive, refl) bears h
     proceeds d e t now false alive goes_on born here bears h = gone_as d e t now born here h.2 (subst (λ (x : Tended). BearsAs x waited waits) h.0 bears) h.1
 
+    -- the outside has not said yet what it does next
+    runs : (d e : ShardState) (t : Tended) (now : Option (B × Next)) (alive : Bool) → is_unborn (phase_of d p) ≡ false → stands role.0 role.1 p d
+        → BearsAs t waited waits → MatchBool alive (StaysAs Idle role d t now e) (LeavesAs d t now e) → Comes p (Some role) t d e now waited waits
+    runs d e t now true born here bears h = stayed Idle t d e now (λ is. absurd (cc)) h.0 born here (subst (λ (x : Tended). BearsAs x waited waits) h.0 bears) h.1 h.2
+    runs d e t now false born here bears h = gone_as d e t now born here h.2 (subst (λ (x : Tended). BearsAs x waited waits) h.0 bears) h.1
+
   seen : (time : ℕ) (p : Pid) (b : B) (n : Next) (waited waits : List (Role B)) (d e : ShardState) (t : Tended) (now : Option (B × Next)) → is_unborn (phase_of d p) ≡ false → stands b n p d
       → BearsAs t waited waits → SeesTo answers time p b n d t now e (bore waited waits) → Comes p (Some (b, n)) t d e now waited waits
   seen time p b (Stopping r) waited waits d e t now born here bears h = asked p (b, Stopping r) waited waits d e r t now h.0 refl born here bears h.1 h.2
   seen time p b Proceed waited waits d e t now born here bears h = proceeds p (b, Proceed) waited waits d e t now (lives d p) refl refl born here bears h
+  seen time p b Running waited waits d e t now born here bears h = runs p (b, Running) waited waits d e t now (lives d p) born here bears h
   seen time p b (Wait pick) waited waits d e t now born here bears h = took p (b, Wait pick) waited waits pick false d h.1 e t now h.0 refl (λ bad. absurd (cc)) born here bears h.2 h.3
   seen time p b (WaitUntil pick at) waited waits d e t now born here bears h =
       took p (b, WaitUntil pick at) waited waits pick (nat_le at time) d h.1 e t now h.0 refl (λ over none. inr (pick, refl, refl, none)) born here bears h.2 h.3

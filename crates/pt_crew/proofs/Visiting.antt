@@ -18,7 +18,8 @@ use Rattle.pt_crew.specs.Crews.{members, role, roles, queue, waiting, left, scen
 use Rattle.pt_crew.specs.Waking.{IsAwake, AreRung, has_work}
 use Rattle.pt_crew.specs.declared.births.Role.{Role}
 use Rattle.pt_crew.specs.Births.{bore}
-use Rattle.pt_crew.specs.Parts.{QueueIsLonger, WakesBy, Serves, Admits, AdmitsFirst, AdmitsOf, CanEnter, aboard}
+use Rattle.pt_crew.specs.Parts.{WakesBy, Admits, AdmitsFirst, AdmitsOf, CanEnter, aboard}
+use Rattle.pt_crew.specs.Stepping.{EndsStep, QueueIsLonger, Serves}
 use Rattle.pt_crew.proofs.Waking.{by_cases, elsewhere, there, same_back}
 use Rattle.pt_crew.proofs.Timing.{rung_as}
 
@@ -280,9 +281,8 @@ module _ {B : Type 0} (answers : Answers B) where
     time = times ∙ so.time;
   }
 
-  pub last_look : (n : ℕ) (old mid late new : Crew B) (d e : ShardState) → Stepping n old d mid e → n ≡ max 1 old.rounds → Admits (lives e) mid late
-      → AreSame (roles late) (roles new) → QueueIsLonger (queue late) (queue new) → KeepsRest late new → StepsOn answers old d new e
-  last_look n old mid late new d e so count admits kept longer rest = record {
+  pub last_look : (n : ℕ) (old mid new : Crew B) (d e : ShardState) → Stepping n old d mid e → n ≡ max 1 old.rounds → EndsStep mid e new → StepsOn answers old d new e
+  last_look n old mid new d e so count ends = record {
     woken = so.woken;
     first = so.first;
     due = so.due;
@@ -291,18 +291,36 @@ module _ {B : Type 0} (answers : Answers B) where
     rounds = so.rounds;
     count = so.count ∙ count;
     once = so.once;
-    entered = admits.entered;
-    born = admits.born ∙ ap (λ (l : List (Role B)). admits.entered ++ l) (sym rest.waiting);
-    enters = subst (λ (x : Aboard B). EntersAll (lives e) admits.entered (roles mid, left mid) x) still admits.enters;
-    told = rest.refused ∙ admits.told ∙ ap (λ (l : List (Role B)). mid.refused || are_any l) (sym rest.waiting);
-    queue = longer_then (queue mid) (queue late) (queue new) admits.longer longer;
+    entered = ends.entered;
+    born = ends.born;
+    enters = ends.enters;
+    told = ends.told;
+    queue = ends.longer;
     desk = refl;
-    same = rest.rounds ∙ admits.rounds ∙ so.same;
-    time = rest.time ∙ admits.time ∙ so.time;
+    same = ends.rounds ∙ so.same;
+    time = ends.time ∙ so.time;
   }
-    where
-      still : aboard late ≡ aboard new
-      still i = ((λ q. sym (kept q) i), sym rest.left i)
+
+-- nobody stands in the queue
+pub serves_none : {B : Type 0} (answers : Answers B) (start : List Pid) (old new : Crew B) (d : ShardState) → start ≡ [] → IsSame old new → Serves answers start old d new d
+serves_none answers start old new d none same = subst (λ (ps : List Pid). Serves answers ps old d new d) (sym none) (same, refl)
+
+-- those that were born entered, and what was new was read
+pub ends_step : {B : Type 0} (old mid new : Crew B) (d : ShardState) → Admits (lives d) old mid → AreSame (roles mid) (roles new) → QueueIsLonger (queue mid) (queue new) → KeepsRest mid new
+    → (Attends old d → IsAwake (members new) (queue new) d) → EndsStep old d new
+ends_step old mid new d admits kept longer rest awake = record {
+  entered = admits.entered;
+  born = admits.born ∙ ap (λ (l : List (Role _)). admits.entered ++ l) (sym rest.waiting);
+  enters = subst (λ (x : Aboard _). EntersAll (lives d) admits.entered (roles old, left old) x) still admits.enters;
+  told = rest.refused ∙ admits.told ∙ ap (λ (l : List (Role _)). old.refused || are_any l) (sym rest.waiting);
+  awake = awake;
+  longer = longer_then (queue old) (queue mid) (queue new) admits.longer longer;
+  rounds = rest.rounds ∙ admits.rounds;
+  time = rest.time ∙ admits.time;
+}
+  where
+    still : aboard mid ≡ aboard new
+    still i = ((λ q. sym (kept q) i), sym rest.left i)
 
 -- whether somebody waits ------------------------------------------------------------------
 

@@ -11,25 +11,28 @@ use Rattle.pt_events.specs.History.{Phase, unborn, living, ended, is_living, is_
 use Rattle.pt_shard.specs.ShardState.{ShardState, phase_of}
 use Rattle.pt_shard.specs.Extends.{Extends}
 use Rattle.pt_crew.specs.declared.behaviour.Next.{Next}
-use Rattle.pt_crew.specs.declared.behaviour.Next.TheVariants.{Wait, WaitUntil, Proceed, Stop}
+use Rattle.pt_crew.specs.declared.behaviour.Next.TheVariants.{Wait, WaitUntil, Proceed, Running, Stop}
 use Rattle.pt_crew.specs.declared.crew.Member.{Member}
 use Rattle.pt_crew.specs.Waking.{Members, IsQueue, Knows, has_work, in_queue}
 use Rattle.pt_crew.specs.declared.crew.Crew.{Crew}
 use Rattle.pt_timers.specs.declared.Timer.{Timer}
 use Rattle.pt_crew.specs.Waking.{timer_of}
 use Rattle.pt_crew.specs.Crews.{members, role, queue, HasTimers, IsSame, KeepsRest, KnowsDesk}
-use Rattle.pt_crew.specs.Parts.{QueueHolds, QueueIsLonger, Wakes, is_marked}
+use Rattle.pt_crew.specs.Parts.{QueueHolds, Wakes, is_marked}
+use Rattle.pt_crew.specs.Stepping.{QueueIsLonger}
 use Rattle.std.specs.Option.{option_map}
 use Rattle.pt_signal.proofs.Same.{same_pid_refl, same_pid_is}
 use Rattle.pt_workers.specs.Waking.{came_in, came_to}
 use Rattle.pt_workers.proofs.Waiting.{born_later, need_not_before, neither}
 use Rattle.pt_crew.proofs.Places.{same_pid_sym, same_pid_laws}
+use Rattle.pt_crew.proofs.EndedBefore.{ended_before}
 
 -- nothing came to p since the desk was so: what it has to do now it had to do then
 worked_before : (old new : ShardState) (e : Extends old new) (n : Next) (p : Pid) → came_in p e.more ≡ false → has_work n (phase_of new p) ≡ true → has_work n (phase_of old p) ≡ true
 worked_before old new e (Wait k) p none w = need_not_before old new e k p none w
 worked_before old new e (WaitUntil k at) p none w = need_not_before old new e k p none w
 worked_before old new e Proceed p none w = refl
+worked_before old new e Running p none w = ended_before old new e p none w
 worked_before old new e (Stop r) p none w = refl
 
 -- the desk goes on: what is not read grows

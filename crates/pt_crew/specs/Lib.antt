@@ -5,6 +5,7 @@ pub mod Handing
 pub mod Crews
 pub mod Telling
 pub mod Upholding
+pub mod Stepping
 pub mod Parts
 pub mod Running
 pub mod Asking

@@ -20,18 +20,15 @@ use Rattle.pt_timers.specs.Order.{same_timer}
 use Rattle.pt_timers.specs.State.{TimersState, IsPending, body_of}
 use Rattle.pt_timers.specs.Calls.{Started}
 use Rattle.pt_crew.specs.Waking.{IsQueue, has_work, timer_of, limit_of}
-use Rattle.pt_crew.specs.Visiting.{Answers, AreSame, VisitsOne, again_as, leaves_crew, is_refused, left_as}
+use Rattle.pt_crew.specs.Visiting.{AreSame, again_as, leaves_crew, is_refused, left_as}
 use Rattle.pt_crew.specs.declared.births.Role.{Role}
 use Rattle.pt_crew.specs.Crews.{IsSame, KeepsRest, Aboard, EntersOne, EntersAll, HasTimers, members, queue, role, roles, left}
-use Rattle.pt_crew.specs.Crews.{waiting, scene, are_any, unmarked, read_events, rounds_asked, was_refused, time_of}
+use Rattle.pt_crew.specs.Stepping.{QueueIsLonger}
+use Rattle.pt_crew.specs.Crews.{waiting, are_any, unmarked, read_events, rounds_asked, was_refused, time_of}
 
 -- what the queue of a crew is
 abbrev pub QueueHolds : {B : Type 0} → Crew B → Type 0
 QueueHolds c = IsQueue (members c) (queue c)
-
--- others stand behind the queue
-abbrev pub QueueIsLonger : List Pid → List Pid → Type 0
-QueueIsLonger old new = (more : List Pid) × (new ≡ old ++ more)
 
 -- p is marked, if it is of the crew; all else stays
 pub record Wakes {B : Type 0} (p : Pid) (old new : Crew B) : Type 0 where
@@ -110,6 +107,10 @@ abbrev pub is_marked : {B : Type 0} → Option (Member B) → Bool
 is_marked None = false
 is_marked (Some m) = m.queued
 
+-- p is marked, if it is of the crew
+abbrev pub AllMarked : {B : Type 0} → Pid → Crew B → Type 0
+AllMarked {B} p c = (m : Member B) → members c p ≡ Some m → m.queued ≡ true
+
 -- who is aboard
 abbrev pub aboard : {B : Type 0} → Crew B → Aboard B
 aboard c = (roles c, left c)
@@ -137,12 +138,6 @@ pub record Admits {B : Type 0} (lives : Pid → Bool) (old new : Crew B) : Type 
   pub longer : QueueIsLonger (queue old) (queue new)
   pub rounds : rounds_asked new ≡ rounds_asked old
   pub time : time_of new ≡ time_of old
-
--- the first of the queue is come to, and stands behind it then or nowhere
-abbrev pub Serves : {B : Type 0} → Answers B → List Pid → Crew B → ShardState → Crew B → ShardState → Type 0
-Serves answers [] old d new e = Unit {0}
-Serves answers (p ∷ rest) old d new e =
-    (back : List Pid) × VisitsOne answers p (scene [] old d) (scene back new e) × (queue new ≡ rest ++ back)
 
 -- a timer, if there is one, is pending no more
 abbrev pub Stops : Option Timer → TimersState Pid → TimersState Pid → Type 0

@@ -16,7 +16,7 @@ use Rattle.pt_shard.specs.ShardState.{ShardState, lives, phase_of}
 use Rattle.pt_shard.specs.Calls.{Calls, take_event, first_match}
 use Rattle.pt_shard.specs.Extends.{Extends}
 use Rattle.pt_crew.specs.declared.behaviour.Next.{Next}
-use Rattle.pt_crew.specs.declared.behaviour.Next.TheVariants.{Wait, WaitUntil, Proceed, Stop}
+use Rattle.pt_crew.specs.declared.behaviour.Next.TheVariants.{Wait, WaitUntil, Proceed, Running, Stop}
 use Rattle.pt_crew.specs.declared.births.Role.{Role}
 use Rattle.pt_crew.specs.Births.{bore}
 use Rattle.pt_crew.specs.declared.crew.Tended.{Tended}
@@ -76,6 +76,7 @@ handed_by (i ∷ items) = Again
 
 abbrev pub handed_as : Next → Phase → Tended
 handed_as (Wait k) (living s) = handed_by s.waiting
+handed_as Running (living s) = Done
 handed_as next phase = Again
 
 -- the item, or none, is handed to the behaviour, which takes none itself, and bears these
@@ -123,6 +124,8 @@ SeesTo answers time p b (Stop reason) d t now e births =
     × EndsAs (b, Stop reason) result t now
 SeesTo answers time p b Proceed d t now e births =
     MatchBool (lives d p) (HandsTo answers p b None d t now e births) (LeavesAs d t now e)
+SeesTo answers time p b Running d t now e births =
+    MatchBool (lives d p) (StaysAs Idle (b, Running) d t now e) (LeavesAs d t now e)
 SeesTo answers time p b (Wait pick) d t now e births = AsksFor answers p (b, Wait pick) pick false d t now e births
 SeesTo answers time p b (WaitUntil pick at) d t now e births =
     AsksFor answers p (b, WaitUntil pick at) pick (nat_le at time) d t now e births

@@ -8,11 +8,11 @@ use Rattle.pt_signal.specs.declared.pid.Pid.{Pid}
 use Rattle.pt_signal.specs.declared.item.Pick.{Pick}
 use Rattle.pt_signal.specs.Values.{same_pid}
 use Rattle.pt_events.specs.declared.event.Stamped.{Stamped}
-use Rattle.pt_events.specs.History.{Phase, is_unborn}
+use Rattle.pt_events.specs.History.{Phase, is_unborn, is_ended}
 use Rattle.pt_shard.specs.ShardState.{ShardState, phase_of}
 use Rattle.pt_workers.specs.Waking.{came_in, need_not_wait}
 use Rattle.pt_crew.specs.declared.behaviour.Next.{Next}
-use Rattle.pt_crew.specs.declared.behaviour.Next.TheVariants.{Wait, WaitUntil, Proceed, Stop}
+use Rattle.pt_crew.specs.declared.behaviour.Next.TheVariants.{Wait, WaitUntil, Proceed, Running, Stop}
 use Rattle.pt_crew.specs.declared.crew.Member.{Member}
 
 -- A process in this phase has something to do: it need not wait, as an item that its pick fits stands in its mailbox, or
@@ -21,6 +21,7 @@ abbrev pub has_work : Next → Phase → Bool
 has_work (Wait k) f = need_not_wait k f
 has_work (WaitUntil k at) f = need_not_wait k f
 has_work Proceed f = true
+has_work Running f = is_ended f
 has_work (Stop r) f = true
 
 -- the pick that it waits for

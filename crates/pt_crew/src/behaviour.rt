@@ -24,6 +24,9 @@ pub enum Next {
     WaitUntil(Pick, u64),
     /// It gets `None` when it runs next: Erlang's `{continue, ..}`.
     Proceed,
+    /// It was handed something, and the outside has not said yet what it does next: Erlang's `running`. It gets nothing
+    /// until [`Crew::answer`](crate::Crew::answer) is called.
+    Running,
     /// It exits with this reason when it runs next.
     Stop(Reason),
 }

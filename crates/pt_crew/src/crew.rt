@@ -1,7 +1,7 @@
 //! The crew of one desk.
 
-ghost use Rattle.std.specs.Prelude.{◌≡◌, ◌≤◌, ◌++◌, OnOk, OnErr, IsOk, [], None, Some, false, true, length};
-ghost use Rattle.std.specs.Prelude.{◌<◌, option_to_list, vec_capacity, vec_len};
+ghost use Rattle.std.specs.Prelude.{◌≡◌, ◌≤◌, ◌++◌, ◌∷◌, OnOk, OnErr, IsOk, [], None, Some, false, true, length};
+ghost use Rattle.std.specs.Prelude.{◌<◌, IfErr, IfOk, MatchBool, option_to_list, vec_capacity, vec_len};
 ghost use Rattle.std.specs.Option.{option_copied, option_map};
 ghost use Rattle.std.specs.Map.{keys_of};
 ghost use Rattle.std.specs.VecDeque.{deque_capacity, deque_len};
@@ -15,7 +15,9 @@ ghost use Rattle.pt_crew.specs.Crews.{AreBorn, Attends, Enters, HasRoom, HasTime
 ghost use Rattle.pt_crew.specs.Crews.{KnowsDesk, CrewWorks, left};
 ghost use Rattle.pt_crew.specs.Crews.{crew_size, members, queue, read_events, role, roles, rounds_asked, scene, time_of};
 ghost use Rattle.pt_crew.specs.Crews.{waiting, was_refused};
-ghost use Rattle.pt_crew.specs.Parts.{Admits, AdmitsFirst, CanEnter, QueueIsLonger, Serves, MemberTends, Wakes, WakesAt};
+ghost use Rattle.pt_crew.specs.Stepping.{BeginsStep, EndsStep, EntersChild, IsAnswered, QueueIsLonger, Serves, first_of};
+ghost use Rattle.pt_crew.specs.Stepping.{is_running};
+ghost use Rattle.pt_crew.specs.Parts.{Admits, AdmitsFirst, AllMarked, CanEnter, MemberTends, Wakes, WakesAt};
 ghost use Rattle.pt_crew.specs.Parts.{PutsMember, SleepsUntil, Stops, WakesBy, sleeper};
 ghost use Rattle.pt_crew.specs.Parts.{is_marked, kept_as};
 ghost use Rattle.pt_crew.specs.Waking.{IsAwake, is_queued, pick_of, timer_of, limit_of};
@@ -30,6 +32,7 @@ use pt_timers::{Timer, Timers};
 use pt_workers::{Desk, Event, Fault, Item, Pick, Pid, Turned, Work};
 use std::alloc::{AllocError, Global};
 use std::collections::VecDeque;
+use std::mem;
 
 /// A process of the crew. It is public since the definitions of a crew name it; no call returns one.
 #[derive(Drop)]
@@ -232,6 +235,16 @@ impl<B: Behaviour + Drop> Crew<B> {
         self.left.pop()
     }
 
+    /// The process in front of the queue, or `None` if the queue is empty: [`Crew::run_first`] runs it.
+    pub fn first(&self) -> Option<Pid>
+        ensures { result ≡ first_of (queue self.now) }
+    {
+        match self.queue.front() {
+            Some(p) => Some(*p),
+            None => None,
+        }
+    }
+
     /// Whether a call of the last step failed, since there was no memory or no stamp. The process that it was for is as
     /// it was, and is in the queue.
     pub fn refused(&self) -> bool
@@ -283,6 +296,93 @@ impl<B: Behaviour + Drop> Crew<B> {
             }
             Err(_) => Err(Fault::Memory),
         }
+    }
+
+    /// Spawns a child of the parent on the desk, linked with it if `linked` is true. The child enters the crew and does
+    /// this first, as with [`Crew::enter`].
+    ///
+    /// It fails as [`Desk::spawn_child`] does, and if there is no memory in the crew; then nothing has changed.
+    pub fn enter_child(
+        &mut self,
+        desk: &mut Desk,
+        parent: Pid,
+        linked: bool,
+        behaviour: B,
+        next: Next,
+    ) -> Result<Pid, Fault>
+        ensures does { EntersChild parent linked behaviour next self.old desk.old.shard result self.new
+            desk.new.shard }
+        ensures knows { KnowsDesk self.old desk.old.shard → KnowsDesk self.new desk.new.shard }
+        ensures room { HasRoom self.old → HasRoom self.new }
+        ensures timers { HasTimers self.old → HasTimers self.new }
+        ensures goes_on { GoesOn desk.old desk.new }
+    {
+        self.make_room()?;
+        let pid = desk.spawn_child(parent, linked)?;
+        let _lawful = desk.journal();
+        self.take_in(Role {
+            pid,
+            behaviour,
+            next,
+        });
+        Ok(pid)
+    }
+
+    /// Says what a running process ([`Next::Running`]) does next. It joins the queue's end then, unless it is there.
+    ///
+    /// It returns `false`, and nothing has changed, if the process is not running or not of the crew. It fails for want
+    /// of memory only if the crew attends no desk, and then nothing has changed.
+    pub fn answer(&mut self, p: Pid, next: Next) -> Result<bool, AllocError>
+        ensures is { IfOk result (λ yes. yes ≡ is_running (roles self.old p)) }
+        ensures answered { IfOk result
+            (λ yes. MatchBool yes (IsAnswered p next self.old self.new) (IsSame self.old self.new)) }
+        ensures refused { OnErr result (IsSame self.old self.new) }
+        ensures attends { (d : ShardState) → Attends self.old d → IsOk result × Attends self.new d }
+    {
+        match self.next(p) {
+            Some(Next::Running) => {}
+            _ => return Ok(false),
+        }
+        self.wake(p)?;
+        self.set_next(p, next);
+        Ok(true)
+    }
+
+    /// Puts another behaviour in the place of that of a process, and returns the one that it had. What the process does
+    /// next stays. If it is not of the crew, the behaviour that was passed comes back, and nothing has changed.
+    pub fn replace(&mut self, p: Pid, behaviour: B) -> Result<B, B>
+        ensures replaced { IfOk result (λ was. (n : Next) × (roles self.old p ≡ Some (was, n))
+            × AreWith p (Some (behaviour, n)) (roles self.old) (roles self.new)) }
+        ensures back { IfErr result (λ back. (back ≡ behaviour) × (roles self.old p ≡ None) × IsSame self.old self.new) }
+        ensures queue { queue self.new ≡ queue self.old }
+        ensures read { read_events self.new ≡ read_events self.old }
+        ensures rest { KeepsRest self.old self.new }
+        ensures attends { (d : ShardState) → Attends self.old d → Attends self.new d }
+    {
+        let Some(place) = self.hints.place_of(&self.members, p) else {
+            return Err(behaviour);
+        };
+        let (_, member) = self.members.pair_mut(place);
+        Ok(mem::replace(&mut member.behaviour, behaviour))
+    }
+
+    /// Sets what a process of the crew does next.
+    fn set_next(&mut self, p: Pid, next: Next)
+        ensures none { roles self.old p ≡ None → IsSame self.old self.new }
+        ensures set { (b : B) (n : Next) → roles self.old p ≡ Some (b, n)
+            → AreWith p (Some (b, next)) (roles self.old) (roles self.new) }
+        ensures queue { queue self.new ≡ queue self.old }
+        ensures read { read_events self.new ≡ read_events self.old }
+        ensures rest { KeepsRest self.old self.new }
+        ensures knows { (d : ShardState) → AllMarked p self.old → KnowsDesk self.old d → KnowsDesk self.new d }
+        ensures timers { AllMarked p self.old → HasTimers self.old → HasTimers self.new }
+        ensures room { HasRoom self.old → HasRoom self.new }
+    {
+        let Some(place) = self.hints.place_of(&self.members, p) else {
+            return;
+        };
+        let (_, member) = self.members.pair_mut(place);
+        member.next = next;
     }
 
     /// Continues over the desk of the same number in a node that was resumed. It reads the journal of that desk from
@@ -436,11 +536,41 @@ impl<B: Behaviour + Drop> Crew<B> {
         self.take_in(newborn);
     }
 
+    /// Begins a step. It forgets who left in the last one and what was refused, reads what is new in the desk's journal,
+    /// and wakes each process whose time has come.
+    ///
+    /// [`Work::step`] does this first. A program whose handlers are outside makes the step itself: this call, then
+    /// [`Crew::run_first`] as often as it likes, and then [`Crew::end_step`].
+    pub fn begin_step(&mut self, desk: &Desk)
+        ensures begins { BeginsStep self.old desk.now.shard self.new }
+        ensures knows { KnowsDesk self.old desk.now.shard → KnowsDesk self.new desk.now.shard }
+        ensures timers { HasTimers self.old → HasTimers self.new }
+        ensures room { HasRoom self.old → HasRoom self.new }
+    {
+        self.left.clear();
+        self.refused = false;
+        self.look(desk);
+        self.ring();
+    }
+
+    /// Ends a step. The processes that behaviours spawned enter the crew, as far as there is memory, and what is new in
+    /// the desk's journal is read.
+    pub fn end_step(&mut self, desk: &Desk)
+        ensures ends { EndsStep self.old desk.now.shard self.new }
+        ensures knows { KnowsDesk self.old desk.now.shard → KnowsDesk self.new desk.now.shard }
+        ensures timers { HasTimers self.old → HasTimers self.new }
+        ensures room { HasRoom self.old → HasRoom self.new }
+    {
+        self.admit(desk);
+        self.look(desk);
+    }
+
     /// A spawned process enters.
     fn take_in(&mut self, newborn: Role<B>)
         requires { CanEnter self.old }
         ensures does { AreWith newborn.pid (Some (newborn.behaviour, newborn.next)) (roles self.old)
             (roles self.new) }
+        ensures queue { members self.old newborn.pid ≡ None → queue self.new ≡ queue self.old ++ newborn.pid ∷ [] }
         ensures longer { QueueIsLonger (queue self.old) (queue self.new) }
         ensures rest { KeepsRest self.old self.new }
         ensures knows { (d : ShardState) → is_unborn (phase_of d newborn.pid) ≡ false → KnowsDesk self.old d
@@ -491,8 +621,10 @@ impl<B: Behaviour + Drop> Crew<B> {
         }
     }
 
-    /// Runs the first process of the queue.
-    fn serve(&mut self, desk: &mut Desk)
+    /// Runs the first process of the queue, as a round of a step does. It does nothing if the queue is empty.
+    ///
+    /// A process that is running ([`Next::Running`]) gets nothing. If it has exited it leaves the crew.
+    pub fn run_first(&mut self, desk: &mut Desk)
         ensures serves { Serves B.answers (queue self.old) self.old desk.old.shard self.new desk.new.shard }
         ensures knows { KnowsDesk self.old desk.old.shard → KnowsDesk self.new desk.new.shard }
         ensures room { HasRoom self.old → HasRoom self.new }
@@ -562,7 +694,7 @@ impl<B: Behaviour + Drop> Crew<B> {
         ensures goes_on { GoesOn desk.old desk.new }
     {
         for _place in 0..self.queue.len() {
-            self.serve(desk);
+            self.run_first(desk);
         }
     }
 }
@@ -597,6 +729,13 @@ fn tend<B: Behaviour + Drop>(
             }
             hand(member, births, desk, time, p, None);
             handed(member.next, desk, p)
+        }
+        Next::Running => {
+            if desk.alive_here(p) {
+                Tended::Idle
+            } else {
+                Tended::Gone
+            }
         }
         Next::Wait(pick) => receive(member, births, desk, time, p, pick, false),
         Next::WaitUntil(pick, at) => receive(member, births, desk, time, p, pick, at <= time),
@@ -648,6 +787,7 @@ fn handed(next: Next, desk: &Desk, p: Pid) -> Tended
 {
     match (next, desk.waiting(p)) {
         (Next::Wait(_), Some(items)) if items.is_empty() => Tended::Done,
+        (Next::Running, Some(_)) => Tended::Done,
         _ => Tended::Again,
     }
 }
@@ -716,16 +856,12 @@ impl<B: Behaviour + Drop> Work for Crew<B> {
     ghost does = { λ old d new e. CrewDoes B.answers old d.shard new e.shard };
 
     fn step(&mut self, desk: &mut Desk) {
-        self.left.clear();
-        self.refused = false;
-        self.look(desk);
-        self.ring();
+        self.begin_step(desk);
         self.round(desk);
         for _round in 1..self.rounds {
             self.round(desk);
         }
-        self.admit(desk);
-        self.look(desk);
+        self.end_step(desk);
     }
 
     fn turned(&mut self, _desk: &Desk, _turned: Turned) {}

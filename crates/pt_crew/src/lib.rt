@@ -16,6 +16,10 @@
 //! # Messages that are sent later
 //! Erlang's `send_after`. A behaviour keeps [`Alarms`] in its state, and sends by [`Alarms::ring`] what is due.
 //!
+//! # Handlers outside
+//! A behaviour that answers [`Next::Running`] waits until the program says by [`Crew::answer`] what it does next. With
+//! [`Crew::begin_step`], [`Crew::run_first`] and [`Crew::end_step`] the program takes the step itself.
+//!
 //! Tests: `checks/tried/test_calls/crews.rt.txt`, `checks/tried/test_calls/timed_crews.rt.txt`,
 //! `checks/tried/test_calls/asking.rt.txt`, `checks/tried/test_calls/alarms.rt.txt`,
 //! `crates/test_calls/src/on_a_desk.rt` and
@@ -42,6 +46,10 @@
 //!   or if a spawned process could not enter. (`told`)
 //! - **Invariants.** What a behaviour upholds by its answers, its crew keeps for all its processes, and through runs.
 //!   (`crew_upholds`, `runs_uphold`)
+//! - **Steps from outside.** A step is `begin_step`, `run_first` and `end_step`, each with a contract of its own.
+//!   (`BeginsStep`, `Serves`, `EndsStep`)
+//! - **Running.** A process that is running gets nothing until it is answered, and does next what was answered. If it
+//!   exits meanwhile, it leaves. (`IsAnswered`)
 //! - **Idle.** `is_idle` and `are_idle` say whether no process has anything to do.
 //! - **A call ends once.** It ends by its answer, by the `DOWN` of its server or by its deadline, whichever it is shown
 //!   first, and never by two of them. (`calls_end_once`)

@@ -14,7 +14,7 @@ use Rattle.pt_shard.specs.Known.{knows}
 use Rattle.pt_shard.specs.Calls.{Calls}
 use Rattle.pt_desk.specs.DeskState.{DeskState}
 use Rattle.pt_crew.specs.declared.behaviour.Next.{Next}
-use Rattle.pt_crew.specs.declared.behaviour.Next.TheVariants.{Wait, WaitUntil, Proceed, Stop}
+use Rattle.pt_crew.specs.declared.behaviour.Next.TheVariants.{Wait, WaitUntil, Proceed, Running, Stop}
 use Rattle.pt_crew.specs.declared.births.Role.{Role}
 use Rattle.pt_crew.specs.declared.births.Births.{Births}
 use Rattle.pt_crew.specs.Births.{Bore, born}
@@ -208,6 +208,7 @@ abbrev pub Supervises : Next → Standing → Type 0
 Supervises (Wait pick) s = WaitsFor pick s
 Supervises (WaitUntil pick at) s = WaitsForUntil pick at s
 Supervises Proceed s = Unit {0}
+Supervises Running s = ⊥
 Supervises (Stop reason) s = (s.stopping ≡ Some reason) × NoneLives s.children
 
 -- no end of which a supervisor hears makes that a permanent child is not to live

@@ -4,7 +4,7 @@ use Rattle.std.proofs.Common.{sym, ap, subst}
 use Rattle.pt_shard.specs.ShardState.{ShardState, phase_of}
 use Rattle.pt_signal.specs.declared.item.Pick.TheVariants.{Any}
 use Rattle.pt_crew.specs.declared.behaviour.Next.{Next}
-use Rattle.pt_crew.specs.declared.behaviour.Next.TheVariants.{Wait, WaitUntil, Proceed, Stop}
+use Rattle.pt_crew.specs.declared.behaviour.Next.TheVariants.{Wait, WaitUntil, Proceed, Running, Stop}
 use Rattle.pt_crew.specs.declared.births.Role.{Role}
 use Rattle.pt_crew.specs.Visiting.{Answers}
 use Rattle.pt_crew.specs.Upholding.{Relation, IsUpheld, AllFirst, children_by}
@@ -18,6 +18,7 @@ abbrev pub GoesOnWith : Next → Type 0
 GoesOnWith (Wait k) = Unit {0}
 GoesOnWith (WaitUntil k at) = Unit {0}
 GoesOnWith Proceed = Unit {0}
+GoesOnWith Running = Unit {0}
 GoesOnWith (Stop r) = ⊥
 
 abbrev pub NeverStops : {B : Type 0} → Relation B

@@ -3,7 +3,8 @@ use Rattle.std.proofs.Common.{◌≡◌, drop}
 use Rattle.std.specs.Map.{keys_of}
 use Rattle.pt_crew.specs.Visiting.{AreSame}
 use Rattle.pt_crew.specs.Crews.{KeepsRest, HasRoom, HasTimers, queue, roles}
-use Rattle.pt_crew.specs.Parts.{QueueIsLonger, MarkedBut, QueueHolds}
+use Rattle.pt_crew.specs.Parts.{MarkedBut, QueueHolds}
+use Rattle.pt_crew.specs.Stepping.{QueueIsLonger}
 use Rattle.pt_crew.proofs.crew.Crew.begin_again.Given as goal
 
 abbrev pub invariant-loop-place : goal.invariant-loop-place

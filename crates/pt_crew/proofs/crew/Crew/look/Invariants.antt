@@ -2,7 +2,7 @@
 use Rattle.std.proofs.Common.{◌-◌, length}
 use Rattle.pt_crew.specs.Visiting.{AreSame}
 use Rattle.pt_crew.specs.Crews.{KeepsRest, KnowsDesk, HasRoom, HasTimers, queue, roles}
-use Rattle.pt_crew.specs.Parts.{QueueIsLonger}
+use Rattle.pt_crew.specs.Stepping.{QueueIsLonger}
 use Rattle.pt_crew.proofs.crew.Crew.look.Given as goal
 
 abbrev pub invariant-loop-self : goal.invariant-loop-self

@@ -3,7 +3,7 @@ use Rattle.std.proofs.Common.{◌≡◌, ◌+◌, ◌≤◌, length}
 use Rattle.pt_shard.specs.ShardState.{ShardState}
 use Rattle.pt_crew.specs.Visiting.{AreSame}
 use Rattle.pt_crew.specs.Crews.{KeepsRest, KnowsDesk, HasRoom, HasTimers, queue, read_events, roles}
-use Rattle.pt_crew.specs.Parts.{QueueIsLonger}
+use Rattle.pt_crew.specs.Stepping.{QueueIsLonger}
 use Rattle.pt_crew.proofs.crew.Crew.ring.Given as goal
 
 abbrev pub invariant-loop-due : goal.invariant-loop-due

@@ -22,14 +22,14 @@ loop-place-preserved g c =
     let inv = c.loop-place.invariant in
     let len = c.len-place-end.ensures in
     record {
-      so_far = one_more g.B.Behaviour.answers (queue c.args.self.now) c.loop-place._place c.args.self.now c.loop-place.self c.serve.new.self c.args.desk.now.shard c.loop-place.desk.shard c.serve.new.desk.shard
-          (omega (arith, c.loop-place-test.true, len)) inv.so_far c.serve.ensures.serves;
-      knows = λ k. c.serve.ensures.knows (inv.knows k);
-      room = λ r. c.serve.ensures.room (inv.room r);
-      timers = λ k t. c.serve.ensures.timers (inv.knows k) (inv.timers k t);
-      time = c.serve.ensures.time ∙ inv.time;
-      same = c.serve.ensures.same ∙ inv.same;
-      goes_on = goes_on_then c.args.desk.now c.loop-place.desk c.serve.new.desk inv.goes_on c.serve.ensures.goes_on;
+      so_far = one_more g.B.Behaviour.answers (queue c.args.self.now) c.loop-place._place c.args.self.now c.loop-place.self c.run_first.new.self c.args.desk.now.shard c.loop-place.desk.shard c.run_first.new.desk.shard
+          (omega (arith, c.loop-place-test.true, len)) inv.so_far c.run_first.ensures.serves;
+      knows = λ k. c.run_first.ensures.knows (inv.knows k);
+      room = λ r. c.run_first.ensures.room (inv.room r);
+      timers = λ k t. c.run_first.ensures.timers (inv.knows k) (inv.timers k t);
+      time = c.run_first.ensures.time ∙ inv.time;
+      same = c.run_first.ensures.same ∙ inv.same;
+      goes_on = goes_on_then c.args.desk.now c.loop-place.desk c.run_first.new.desk inv.goes_on c.run_first.ensures.goes_on;
     }
 
 pub returns-clause-visits : goal.returns-clause-visits

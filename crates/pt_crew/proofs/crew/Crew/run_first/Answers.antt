@@ -1,4 +1,4 @@
--- `Crew::serve`: its clauses `knows`, `room`, `serves` and `timers`.
+-- `Crew::run_first`: its clauses `knows`, `room`, `serves` and `timers`.
 use Rattle.std.proofs.Common.{List, ◌∷◌, None, refl, subst, arith}
 use Rattle.pt_signal.specs.declared.pid.Pid.{Pid}
 use Rattle.pt_desk.proofs.Turning.{extends}
@@ -7,7 +7,7 @@ use Rattle.pt_crew.specs.Waking.{Knows}
 use Rattle.pt_crew.proofs.Waking.{changed, taken_out, turned, absent_at, no_place, some_none}
 use Rattle.pt_crew.proofs.Visiting.{passes_first, refused_first, is_there}
 use Rattle.pt_crew.proofs.Serving.{Came, serves_it, knows_it, timers_for_it, room_for_it}
-use Rattle.pt_crew.proofs.crew.Crew.serve.Goals as goal
+use Rattle.pt_crew.proofs.crew.Crew.run_first.Goals as goal
 
 pub returns-in_default-place_of-clause-knows : goal.returns-in_default-place_of-clause-knows
 returns-in_default-place_of-clause-knows g c =
