@@ -17,7 +17,7 @@ pub enum RegistryError {
     /// The registry cannot monitor the process. With `NoProc` the process is seen to have exited.
     #[error("{0}")]
     Unwatched(CallFault),
-    /// The number stands for no name of the list.
+    /// The list has no name at this place.
     #[error("there is no such name")]
     NoName,
 }
