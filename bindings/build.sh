@@ -35,7 +35,8 @@ fi
 
 version=$(sed -n 's/^pub const VERSION: &str = "\(.*\)";/\1/p' "$here/../crates/pt_render/src/choices.rt")
 build="pundewo $version, proved"
-if nm "$archive" 2>/dev/null | grep -q ' pt_c_is_not_proved$'; then
+# (grep reads all that nm prints: if it stopped at the first match, nm would fail, and the archive would pass for proved)
+if nm "$archive" 2>/dev/null | grep ' pt_c_is_not_proved$' >/dev/null; then
     build="pundewo $version, not proved: for trying out"
 fi
 echo "extern const char pundewo_build[]; const char pundewo_build[] = \"$build\";" |

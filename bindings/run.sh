@@ -31,6 +31,9 @@ needs python3 "the Python module" "apt-get install python3 (3.9 or later)"
 if ! cargo clippy --version >/dev/null 2>&1; then
     echo "bindings: no clippy: the Rust crate is not linted (rustup component add clippy; apt-get install rust-clippy)"
 fi
+if ! command -v mypy >/dev/null; then
+    echo "bindings: no mypy: the types of the Python package are not checked (apt-get install mypy)"
+fi
 # (only what is wrong with memory shows under it)
 if ! command -v valgrind >/dev/null; then
     echo "bindings: no valgrind: the memory of the C examples is not looked at (apt-get install valgrind libc6-dbg)"
@@ -78,6 +81,9 @@ fi
 # The folder that a user builds: the header, both libraries, and what pkg-config reads.
 export PT_C_ARCHIVE=$work/lib/libpt_c.a
 "$here/build.sh" "$work/built" >"$work/printed"
+if nm "$PT_C_ARCHIVE" | grep ' pt_c_is_not_proved$' >/dev/null; then
+    grep ', not proved: ' "$work/printed" || { echo "bindings: a library that was not proved does not say so"; exit 1; }
+fi
 c="cc -std=c11 -D_GNU_SOURCE -O2 -Wall -Wextra -Werror"
 build() { # PROGRAM [FOLDER]
     $c -pthread -I "$work/built/include" -o "$work/$1" "${2:-$here/c}/$1.c" "$work/built/lib/libpundewo.a"
@@ -109,7 +115,7 @@ by_the_page() { # SED-SCRIPT
 mkdir -p "$work/page"
 ln -s "$here" "$work/page/bindings"
 by_the_page '' >"$work/printed"
-for example in about no_memory resumed ring supervisor; do
+for example in about no_memory resumed ring rows supervisor; do
     by_the_page "/^\.\//d; s/ping_pong/$example/g" >"$work/printed"
     [ -x "$work/page/$example" ] || { echo "bindings: the lines of docs/EMBEDDING.md do not build $example"; exit 1; }
 done
@@ -130,7 +136,11 @@ build no_memory
 "$work/supervisor" | diff "$here/c/supervisor.out" -
 "$work/resumed" | diff "$here/c/resumed.out" -
 "$work/ring" >"$work/printed"
-echo '#include "pundewo.h"' | cc -x c++ -I "$here/c" -Wall -Wextra -Werror -fsyntax-only -
+for standard in c++11 c++20; do
+    echo '#include "pundewo_text.h"
+        pt_desk desk = PT_NO_DESK; pt_gathered node = PT_NO_GATHERED; pt_quiet quiet = PT_NO_QUIET; pt_history all = PT_NO_HISTORY;' |
+        cc -x c++ -std=$standard -I "$here/c" -Wall -Wextra -Wpedantic -Werror -fsyntax-only -
+done
 if command -v valgrind >/dev/null; then
     # (fair: four threads that spin would else wait for each other for minutes)
     memory="valgrind -q --fair-sched=try --error-exitcode=9 --leak-check=full --show-leak-kinds=all --errors-for-leak-kinds=all"
@@ -147,16 +157,32 @@ echo "c: examples passed"
     cd "$here/rust"
     cargo test -q --offline
     RUSTDOCFLAGS="-D warnings" cargo doc -q --offline --no-deps
-    cargo build -q --offline --examples
+    cargo run -q --offline --example supervisor | diff "$here/c/supervisor.out" -
+    cargo run -q --offline --example ring >"$work/printed"
+    cargo run -q --offline --example ping_pong 200 >"$work/printed"
     if cargo clippy --version >/dev/null 2>&1; then
-        cargo clippy -q --offline --lib --examples -- -D warnings
+        cargo clippy -q --offline --all-targets -- -D warnings
         echo "rust: clippy finds nothing"
     fi
+    for lib in /nowhere "$work"; do # there is no library
+        if PUNDEWO_LIB=$lib CARGO_TARGET_DIR=$work/without cargo build -q --offline 2>"$work/printed"; then
+            echo "rust: the crate was built without the library"
+            exit 1
+        fi
+        grep -q "^  pundewo: PUNDEWO_LIB is $lib, and there is no libpundewo.a: run " "$work/printed"
+    done
 )
-echo "rust: tests and pages passed"
+echo "rust: tests, pages and examples passed"
 
 # Python: tests beside the sources, and the package as pip installs it, without a network
-(cd "$here/python" && python3 -m unittest discover -q -s tests)
+(
+    cd "$here/python"
+    python3 -m unittest discover -q -s tests
+    PYTHONPATH=. python3 examples/supervisor.py | diff "$here/c/supervisor.out" -
+    if command -v mypy >/dev/null; then
+        mypy --strict --no-incremental pundewo build_wheel.py examples
+    fi
+)
 echo "python: tests passed"
 python3 -m venv "$work/venv"
 "$work/venv/bin/pip" install -q --no-index --disable-pip-version-check "$here/python"

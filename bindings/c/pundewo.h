@@ -216,6 +216,20 @@ uint32_t pt_vacant(pt_desk *desk, pt_pid *out);                                 
 uint32_t pt_waiting(pt_desk *desk, pt_pid p, size_t *out);                        /* PT_NOTHING: p does not live here */
 uint32_t pt_peek(pt_desk *desk, pt_pid p, size_t place, pt_item *out);            /* PT_NOTHING: no item there */
 uint32_t pt_linked(pt_desk *desk, pt_pid p, pt_pid peer, pt_ids *out);            /* PT_NOTHING: no link */
+
+/* What a process of the desk has, by place, 0 the oldest: its links, its open monitors, and the monitors that others have
+ * of it. A count answers PT_NOTHING where p is not alive here, and so does pt_traps; the others where there is none. */
+uint32_t pt_link_count(pt_desk *desk, pt_pid p, size_t *out);
+uint32_t pt_link_at(pt_desk *desk, pt_pid p, size_t place, pt_pid *peer, pt_ids *ids);
+uint32_t pt_monitor_count(pt_desk *desk, pt_pid p, size_t *out);
+uint32_t pt_monitor_at(pt_desk *desk, pt_pid p, size_t place, pt_ref *monitor, pt_pid *target);
+uint32_t pt_watcher_count(pt_desk *desk, pt_pid p, size_t *out);
+uint32_t pt_watcher_at(pt_desk *desk, pt_pid p, size_t place, pt_ref *monitor, pt_pid *watcher);
+uint32_t pt_traps(pt_desk *desk, pt_pid p, bool *out);
+
+/* The live process in a slot of the desk; PT_NOTHING: none. All slots below the setting `slots` have all of them. */
+uint32_t pt_lives_in(pt_desk *desk, uint32_t slot, pt_pid *out);
+
 uint32_t pt_event_count(pt_desk *desk, size_t *out);
 uint32_t pt_event_at(pt_desk *desk, size_t place, pt_event *out);                 /* PT_NOTHING: no such event */
 

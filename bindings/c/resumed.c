@@ -56,7 +56,17 @@ int main(void) {
     assert(pt_monitor(&desks[0], boss, worker, &watch) == PT_OK);
     epoch(desks, 2);
     assert(pt_event_count(&desks[0], &events) == PT_OK && events == 0);
-    /* the monitor still stands */
+    /* the monitor still stands, on both desks */
+    size_t count;
+    pt_ref monitor;
+    pt_pid other;
+    assert(pt_monitor_count(&desks[0], boss, &count) == PT_OK && count == 1);
+    assert(pt_monitor_at(&desks[0], boss, 0, &monitor, &other) == PT_OK);
+    assert(monitor.desk == watch.desk && monitor.number == watch.number && other.shard == 1 && other.slot == worker.slot);
+    assert(pt_watcher_count(&desks[1], worker, &count) == PT_OK && count == 1);
+    assert(pt_watcher_at(&desks[1], worker, 0, &monitor, &other) == PT_OK);
+    assert(monitor.desk == watch.desk && monitor.number == watch.number && other.shard == 0 && other.slot == boss.slot);
+    assert(pt_watcher_at(&desks[1], worker, 1, &monitor, &other) == PT_NOTHING);
     assert(pt_exit(&desks[1], worker, (pt_reason){PT_OTHER, 7}) == PT_OK);
     assert(pt_turn(&desks[1], 64, &turned) == PT_OK && pt_turn(&desks[0], 64, &turned) == PT_OK);
     assert(pt_receive(&desks[0], boss, (pt_pick){.code = PT_PICK_DOWN_OF, .reference = watch}, &item) == PT_OK);

@@ -1,4 +1,6 @@
 /* Plays the table of worked rows (bindings/rows.py) through the C interface, and compares each answer. */
+#define _POSIX_C_SOURCE 200809L /* fmemopen */
+
 #include <stdlib.h>
 #include <string.h>
 

@@ -36,12 +36,18 @@ def word(path: str, form: str) -> str:
     return found[1]
 
 
+def words(name: str) -> list[str]:
+    """The texts of a list of pyproject.toml."""
+    return re.findall(r'"(.*?)"', word("pyproject.toml", rf"^{name} = \[((?:[^]]|\n)*)\]"))
+
+
 def metadata(version: str) -> str:
     """The wheel's METADATA."""
     summary = word("pyproject.toml", r'^description = "(.*)"')
     wanted = word("pyproject.toml", r'^requires-python = "(.*)"')
     return "\n".join([
         "Metadata-Version: 2.1", "Name: pundewo", f"Version: {version}", f"Summary: {summary}",
+        f"Keywords: {','.join(words('keywords'))}", *(f"Classifier: {it}" for it in words("classifiers")),
         f"Requires-Python: {wanted}", "Description-Content-Type: text/markdown", "", (HERE / "README.md").read_text(),
     ])
 

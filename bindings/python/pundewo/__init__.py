@@ -26,8 +26,9 @@ from ._library import (
     pid_of, reason_of, ref_of,
 )
 from .values import (
-    ANY, KILL, KILLED, NOPROC, NORMAL, SHUTDOWN, U8, U32, U64, Account, Body, Code, Config, Event, Ids, Item, LeftOver,
-    LinkId, Pick, Pid, Reason, Ref, Signal, Turned, flag, number, of_type, shown, unchecked,
+    ANY, EVENTS, ITEMS, KILL, KILLED, NOPROC, NORMAL, PICKS, REASONS, SHUTDOWN, SIGNALS, U8, U32, U64, Account, Body, Code,
+    Config, Event, Ids, Item, LeftOver, LinkId, Pick, Pid, Reason, Ref, Signal, Turned, flag, number, of_type, shown,
+    unchecked,
 )
 
 __version__ = "0.1.0"
@@ -36,6 +37,9 @@ __all__ = [
     "ANY", "BUILD", "KILL", "KILLED", "NOPROC", "NORMAL", "SHUTDOWN", "Account", "Body", "Busy", "Code", "Config", "Desk",
     "Event", "Fault", "Gathered", "History", "Ids", "Item", "LeftOver", "LinkId", "Pick", "Pid", "Quiet", "Reason", "Ref",
     "Settled", "Signal", "Turned", "Unsettled", "gather", "open_node",
+    "ANY", "BUILD", "EVENTS", "ITEMS", "KILL", "KILLED", "NOPROC", "NORMAL", "PICKS", "REASONS", "SHUTDOWN", "SIGNALS",
+    "Account", "Body", "Busy", "Code", "Config", "Desk", "Event", "Fault", "Gathered", "History", "Ids", "Item", "LeftOver",
+    "LinkId", "Pick", "Pid", "Quiet", "Reason", "Ref", "Signal", "Turned", "Unsettled", "gather", "open_node",
 ]
 
 T = TypeVar("T")
@@ -300,6 +304,49 @@ class Desk(_Held):
         """The ids under which p is linked with another process, by p's own half of the link."""
         out = self._find(lib.pt_linked, CIds(), c_pid("p", p), c_pid("peer", peer))
         return None if out is None else ids_of(out)
+
+    def links(self, p: Pid) -> Optional[list[tuple[Pid, Ids]]]:
+        """The processes that p is linked with, oldest link first, each with the ids of the link; None if p is not alive
+        here. This is p's own half of each."""
+        process = c_pid("p", p)
+        count = self._find(lib.pt_link_count, c.c_size_t(), process)
+        if count is None:
+            return None
+        links = []
+        for place in range(count.value):
+            peer = CPid()
+            ids = self._give(lib.pt_link_at, CIds(), process, place, c.byref(peer))
+            links.append((pid_of(peer), ids_of(ids)))
+        return links
+
+    def monitors(self, p: Pid) -> Optional[list[tuple[Ref, Pid]]]:
+        """The open monitors of p, oldest first, each with its target; None if p is not alive here."""
+        return self._monitors(lib.pt_monitor_count, lib.pt_monitor_at, c_pid("p", p))
+
+    def watchers(self, p: Pid) -> Optional[list[tuple[Ref, Pid]]]:
+        """The monitors that others have of p, oldest first, each with its owner; None if p is not alive here."""
+        return self._monitors(lib.pt_watcher_count, lib.pt_watcher_at, c_pid("p", p))
+
+    def _monitors(self, count_of: Callable[..., int], at: Callable[..., int], p: CPid) -> Optional[list[tuple[Ref, Pid]]]:
+        count = self._find(count_of, c.c_size_t(), p)
+        if count is None:
+            return None
+        monitors = []
+        for place in range(count.value):
+            monitor = CRef()
+            pid = self._give(at, CPid(), p, place, c.byref(monitor))
+            monitors.append((ref_of(monitor), pid_of(pid)))
+        return monitors
+
+    def traps(self, p: Pid) -> Optional[bool]:
+        """Whether p traps exits; None if p is not alive here."""
+        out = self._find(lib.pt_traps, c.c_bool(), c_pid("p", p))
+        return None if out is None else out.value
+
+    def lives_in(self, slot: int) -> Optional[Pid]:
+        """The live process in this slot, or None if there is none. `vacant` names the next slot that is used."""
+        out = self._find(lib.pt_lives_in, CPid(), number("slot", slot, 0, U32))
+        return None if out is None else pid_of(out)
 
     def event_count(self) -> int:
         """The number of events of the journal."""

@@ -36,6 +36,7 @@ CALLS: dict[str, dict[str, dict[str, Domain]]] = {
         "trap": {"p": PID, "on": FLAG}, "receive": {"p": PID, "pick": PICK}, "exit": {"p": PID, "reason": REASON},
         "turn": {"budget": WORD}, "clock": {}, "alive": {"p": PID}, "knows": {"p": PID}, "pending": {}, "vacant": {},
         "waiting": {"p": PID}, "linked": {"p": PID, "peer": PID}, "event_count": {}, "events": {"start": LONG},
+        "links": {"p": PID}, "monitors": {"p": PID}, "watchers": {"p": PID}, "traps": {"p": PID}, "lives_in": {"slot": WORD},
         "woken": {"start": LONG}, "close": {},
     },
     "Gathered": {"desks": {}, "history": {}, "settle": {}, "settle_unlisted": {}, "close": {}},
@@ -126,7 +127,8 @@ class Node:
         pids = [self.a, self.b, self.c]
         desks = [(desk.number, desk.clock(), desk.event_count(), desk.pending(), desk.vacant(),
                   [str(event) for event in desk.events()], [(desk.alive(pid), desk.knows(pid)) for pid in pids],
-                  [desk.waiting(pid) for pid in pids]) for desk in self.desks]
+                  [desk.waiting(pid) for pid in pids], [(desk.links(pid), desk.monitors(pid), desk.watchers(pid),
+                  desk.traps(pid)) for pid in pids], [desk.lives_in(slot) for slot in range(9)]) for desk in self.desks]
         return [desks, self.gathered.desks(), self.quiet.desks(), self.quiet.handled(), len(self.history)]
 
 

@@ -94,6 +94,7 @@ class Package(unittest.TestCase):
         self.assertTrue(Path(p.__file__).with_name("py.typed").exists())
         for name in p.__all__:
             self.assertTrue(hasattr(p, name), name)
+        self.assertEqual(p.__all__, sorted(p.__all__, key=lambda name: (not name.isupper(), name[0].islower(), name)))
 
 
 if __name__ == "__main__":

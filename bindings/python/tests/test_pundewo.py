@@ -317,6 +317,28 @@ class Handles(unittest.TestCase):
             desk.receive(other)
         self.assertEqual(caught.exception.code, Code.GONE)
 
+    def test_what_a_process_has(self):
+        here, there = p.open_node(2)
+        a, b, c = here.spawn(), here.spawn(), there.spawn()
+        here.link(a, b)
+        here.trap(b)
+        monitors = [(here.monitor(a, target), target) for target in (b, c)]
+        for desk in (here, there):
+            desk.turn()
+        (peer, ids), = here.links(a)
+        self.assertEqual((peer, here.links(b)), (b, [(a, ids)]))
+        self.assertEqual((here.linked(a, b), here.linked(b, a)), (ids, ids))
+        self.assertEqual((here.monitors(a), here.monitors(b)), (monitors, []))
+        self.assertEqual((here.watchers(b), there.watchers(c)), ([(monitors[0][0], a)], [(monitors[1][0], a)]))
+        self.assertEqual((here.traps(a), here.traps(b), there.links(c)), (False, True, []))
+        self.assertEqual([here.lives_in(slot) for slot in (0, 1, 2, 2**32 - 1)], [a, b, None, None])
+        for other in (c, Pid(0, 9, 1)):
+            told = here.links(other), here.monitors(other), here.watchers(other), here.traps(other)
+            self.assertEqual(told, (None, None, None, None))
+        here.exit(b)
+        here.turn()
+        self.assertEqual((here.links(a), here.links(b), here.lives_in(1)), ([], None, None))
+
     def test_who_is_woken(self):
         (desk,) = p.open_node()
         a, b = desk.spawn(), desk.spawn()

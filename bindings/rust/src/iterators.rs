@@ -1,11 +1,27 @@
 //! Iterators over what a desk, a settled node and a history have by place. Each knows how much is left, and goes from
 //! both ends. While one borrows its desk nothing changes there, so what it returns is one state.
 
-use crate::raw::{self, Handle, RawEvent, RawItem, RawLeftOver};
-use crate::{Event, Held, Item, LeftOver, Pid, found};
+use crate::raw::{self, Handle, RawEvent, RawIds, RawItem, RawLeftOver, RawRef};
+use crate::{Desk, Event, Held, Ids, Item, LeftOver, Pid, Ref, found};
 use std::fmt;
 use std::iter::FusedIterator;
 use std::ops::Range;
+
+/// Two values that one call reads.
+#[derive(Default)]
+struct Both<T, U>(T, U);
+
+impl From<Both<Pid, RawIds>> for (Pid, Ids) {
+    fn from(both: Both<Pid, RawIds>) -> (Pid, Ids) {
+        (both.0, both.1.into())
+    }
+}
+
+impl From<Both<RawRef, Pid>> for (Ref, Pid) {
+    fn from(both: Both<RawRef, Pid>) -> (Ref, Pid) {
+        (both.0.into(), both.1)
+    }
+}
 
 /// An iterator over places, each of which a call of the library reads into a `$raw`. `$of` is what the call asks for
 /// besides.
@@ -100,6 +116,72 @@ by_place! {
 by_place! {
     /// The items that wait in a mailbox, oldest first: [`Desk::waiting`](crate::Desk::waiting). They stay there.
     Waiting of Item, RawItem, Pid, |handle, pid, place, out| unsafe { raw::pt_peek(handle, pid, place, out) }
+}
+
+by_place! {
+    /// The links of a process, oldest first, each with the other process and the ids of the link:
+    /// [`Desk::links`](crate::Desk::links).
+    Links of (Pid, Ids), Both<Pid, RawIds>, Pid,
+    |handle, pid, place, out| unsafe { raw::pt_link_at(handle, pid, place, &mut out.0, &mut out.1) }
+}
+
+by_place! {
+    /// The open monitors of a process, oldest first, each with its target: [`Desk::monitors`](crate::Desk::monitors).
+    Monitors of (Ref, Pid), Both<RawRef, Pid>, Pid,
+    |handle, pid, place, out| unsafe { raw::pt_monitor_at(handle, pid, place, &mut out.0, &mut out.1) }
+}
+
+by_place! {
+    /// The monitors that others have of a process, oldest first, each with its owner:
+    /// [`Desk::watchers`](crate::Desk::watchers).
+    Watchers of (Ref, Pid), Both<RawRef, Pid>, Pid,
+    |handle, pid, place, out| unsafe { raw::pt_watcher_at(handle, pid, place, &mut out.0, &mut out.1) }
+}
+
+/// The live processes of a desk, by slot: [`Desk::pids`](crate::Desk::pids).
+#[derive(Clone)]
+#[must_use = "an iterator reads nothing until it is used"]
+pub struct Living<'a> {
+    desk: &'a Desk,
+    slots: Range<u32>,
+}
+
+impl<'a> Living<'a> {
+    pub(crate) fn new(desk: &'a Desk, slots: Range<u32>) -> Living<'a> {
+        Living { desk, slots }
+    }
+}
+
+impl Iterator for Living<'_> {
+    type Item = Pid;
+
+    fn next(&mut self) -> Option<Pid> {
+        self.slots.find_map(|slot| self.desk.lives_in(slot))
+    }
+
+    fn size_hint(&self) -> (usize, Option<usize>) {
+        (0, Some(self.slots.len()))
+    }
+}
+
+impl DoubleEndedIterator for Living<'_> {
+    fn next_back(&mut self) -> Option<Pid> {
+        while let Some(slot) = self.slots.next_back() {
+            if let Some(pid) = self.desk.lives_in(slot) {
+                return Some(pid);
+            }
+        }
+        None
+    }
+}
+
+impl FusedIterator for Living<'_> {}
+
+/// Prints what is left.
+impl fmt::Debug for Living<'_> {
+    fn fmt(&self, f: &mut fmt::Formatter<'_>) -> fmt::Result {
+        f.debug_list().entries(self.clone()).finish()
+    }
 }
 
 by_place! {

@@ -62,7 +62,7 @@ pub mod raw;
 mod reading;
 mod values;
 
-pub use iterators::{Events, Journal, LeftOvers, Pids, Waiting};
+pub use iterators::{Events, Journal, LeftOvers, Links, Living, Monitors, Pids, Waiting, Watchers};
 pub use reading::NotRead;
 pub use values::{
     Account, Body, Config, Event, Fault, Happened, Ids, Item, LeftOver, LinkId, Pick, Pid, Reason, Ref, Signal, Turned,
@@ -156,6 +156,7 @@ pub struct Desk {
     node: u64,
     number: u8,
     count: usize,
+    slots: u32,
 }
 
 impl Drop for Desk {
@@ -172,10 +173,10 @@ impl fmt::Debug for Desk {
 }
 
 /// The desks of a new node, each with one of these handles.
-fn desks_of(handles: Vec<Handle>) -> Vec<Desk> {
+fn desks_of(handles: Vec<Handle>, slots: u32) -> Vec<Desk> {
     static NODES: AtomicU64 = AtomicU64::new(0);
     let (node, count) = (NODES.fetch_add(1, Ordering::Relaxed), handles.len());
-    let desk_of = |(handle, number)| Desk { handle: Held::new(handle), node, number, count };
+    let desk_of = |(handle, number)| Desk { handle: Held::new(handle), node, number, count, slots };
     handles.into_iter().zip(0..).map(desk_of).collect()
 }
 
@@ -193,7 +194,7 @@ pub fn open(count: usize, config: Config) -> Result<Vec<Desk>, Fault> {
     let mut handles: Vec<Handle> = (0..count).map(|_| NONE).collect();
     // SAFETY: the handles are empty, and as many as are told.
     told(unsafe { raw::pt_open(handles.as_mut_ptr(), count, config) })?;
-    Ok(desks_of(handles))
+    Ok(desks_of(handles, config.slots))
 }
 
 /// The desks that were not gathered, as they were, and why.
@@ -238,7 +239,7 @@ pub fn gather(mut desks: Vec<Desk>) -> Result<Gathered, DesksBack> {
     // SAFETY: these are all desks of one node, each once and in order, and the handle of the node is empty.
     let code = unsafe { raw::pt_gather(handles.as_mut_ptr(), handles.len(), &mut handle) };
     if code == OK {
-        return Ok(Gathered { handle: Held::new(handle) });
+        return Ok(Gathered { handle: Held::new(handle), slots: desks[0].slots });
     }
     for (desk, handle) in desks.iter_mut().zip(handles) {
         *desk.handle.own() = handle;
@@ -469,6 +470,67 @@ impl Desk {
         found(code, count).map(|count| Waiting::new(&self.handle, p, 0..count))
     }
 
+    /// The links of p, oldest first, or `None` if p is not alive here: Erlang's `process_info(P, links)`. This is p's own half
+    /// of each.
+    ///
+    /// ```
+    /// use pundewo::{Config, open};
+    ///
+    /// let mut desks = open(1, Config::default())?;
+    /// let desk = &mut desks[0];
+    /// let parent = desk.spawn()?;
+    /// let child = desk.spawn_child(parent, true)?;
+    /// let peers: Vec<_> = desk.links(parent).into_iter().flatten().map(|(peer, _)| peer).collect();
+    /// assert_eq!(peers, [child]);
+    /// # Ok::<(), pundewo::Fault>(())
+    /// ```
+    #[inline]
+    pub fn links(&self, p: Pid) -> Option<Links<'_>> {
+        let mut count = 0;
+        let code = unsafe { raw::pt_link_count(&mut self.handle.lent(), p, &mut count) };
+        found(code, count).map(|count| Links::new(&self.handle, p, 0..count))
+    }
+
+    /// The open monitors of p, oldest first, each with its target, or `None` if p is not alive here: Erlang's
+    /// `process_info(P, monitors)`.
+    #[inline]
+    pub fn monitors(&self, p: Pid) -> Option<Monitors<'_>> {
+        let mut count = 0;
+        let code = unsafe { raw::pt_monitor_count(&mut self.handle.lent(), p, &mut count) };
+        found(code, count).map(|count| Monitors::new(&self.handle, p, 0..count))
+    }
+
+    /// The monitors that others have of p, oldest first, each with its owner, or `None` if p is not alive here: Erlang's
+    /// `process_info(P, monitored_by)`.
+    #[inline]
+    pub fn watchers(&self, p: Pid) -> Option<Watchers<'_>> {
+        let mut count = 0;
+        let code = unsafe { raw::pt_watcher_count(&mut self.handle.lent(), p, &mut count) };
+        found(code, count).map(|count| Watchers::new(&self.handle, p, 0..count))
+    }
+
+    /// Whether p traps exits, or `None` if p is not alive here.
+    #[inline]
+    pub fn traps(&self, p: Pid) -> Option<bool> {
+        let mut out = false;
+        let code = unsafe { raw::pt_traps(&mut self.handle.lent(), p, &mut out) };
+        found(code, out)
+    }
+
+    /// The live process in this slot, or `None` if there is none.
+    #[inline]
+    pub fn lives_in(&self, slot: u32) -> Option<Pid> {
+        let mut out = Pid::default();
+        let code = unsafe { raw::pt_lives_in(&mut self.handle.lent(), slot, &mut out) };
+        found(code, out)
+    }
+
+    /// The live processes of the desk, by slot: Erlang's `processes/0`. It looks into each slot.
+    #[inline]
+    pub fn pids(&self) -> Living<'_> {
+        Living::new(self, 0..self.slots)
+    }
+
     /// The ids under which p is linked with another process, or `None` if there is no link, or p is not alive here. This is p's
     /// own half of the link: that of the other may differ while letters of the two are on their way.
     #[inline]
@@ -510,6 +572,7 @@ impl Desk {
 /// The desks of a node at rest, and the letters left over. Dropped, it is given up.
 pub struct Gathered {
     handle: Held,
+    slots: u32,
 }
 
 impl fmt::Debug for Gathered {
@@ -577,7 +640,7 @@ impl Gathered {
     pub fn settle(mut self) -> Result<Quiet, Unsettled> {
         let mut handle = NONE;
         match unsafe { raw::pt_settle(self.handle.own(), &mut handle) } {
-            OK => Ok(Quiet { handle: Held::new(handle) }),
+            OK => Ok(Quiet { handle: Held::new(handle), slots: self.slots }),
             code => Err(Unsettled { fault: fault_of(code), gathered: self }),
         }
     }
@@ -689,6 +752,7 @@ impl Settled {
 /// A node in which no letter is left over. Dropped, it is given up.
 pub struct Quiet {
     handle: Held,
+    slots: u32,
 }
 
 impl fmt::Debug for Quiet {
@@ -774,7 +838,7 @@ impl Quiet {
         let mut handles: Vec<Handle> = (0..count).map(|_| NONE).collect();
         // SAFETY: the handles are empty, and as many as are told.
         match unsafe { raw::pt_resume(self.handle.own(), handles.as_mut_ptr(), count) } {
-            OK => Ok(desks_of(handles)),
+            OK => Ok(desks_of(handles, self.slots)),
             code => Err(Resting { fault: fault_of(code), quiet: self }),
         }
     }

@@ -161,6 +161,14 @@ unsafe extern "C" {
     pub fn pt_waiting(h: &mut Handle, p: Pid, out: &mut usize) -> u32;
     pub fn pt_peek(h: &mut Handle, p: Pid, place: usize, out: &mut RawItem) -> u32;
     pub fn pt_linked(h: &mut Handle, p: Pid, peer: Pid, out: &mut RawIds) -> u32;
+    pub fn pt_link_count(h: &mut Handle, p: Pid, out: &mut usize) -> u32;
+    pub fn pt_link_at(h: &mut Handle, p: Pid, place: usize, peer: &mut Pid, ids: &mut RawIds) -> u32;
+    pub fn pt_monitor_count(h: &mut Handle, p: Pid, out: &mut usize) -> u32;
+    pub fn pt_monitor_at(h: &mut Handle, p: Pid, place: usize, monitor: &mut RawRef, target: &mut Pid) -> u32;
+    pub fn pt_watcher_count(h: &mut Handle, p: Pid, out: &mut usize) -> u32;
+    pub fn pt_watcher_at(h: &mut Handle, p: Pid, place: usize, monitor: &mut RawRef, watcher: &mut Pid) -> u32;
+    pub fn pt_traps(h: &mut Handle, p: Pid, out: &mut bool) -> u32;
+    pub fn pt_lives_in(h: &mut Handle, slot: u32, out: &mut Pid) -> u32;
     pub fn pt_event_count(h: &mut Handle, out: &mut usize) -> u32;
     pub fn pt_event_at(h: &mut Handle, place: usize, out: &mut RawEvent) -> u32;
     pub fn pt_next_woken(h: &mut Handle, at: &mut usize, out: &mut Pid) -> u32;

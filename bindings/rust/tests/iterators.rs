@@ -1,6 +1,6 @@
 //! What the iterators promise: their length, both ends, and no more after the last.
 
-use pundewo::{Body, Config, Desk, Event, Item, Pid, gather, open};
+use pundewo::{Body, Config, Desk, Event, Item, Pid, Reason, Ref, gather, open};
 use std::fmt::Debug;
 
 /// Compares an iterator with the list of what it returns.
@@ -65,6 +65,52 @@ fn the_items_of_a_mailbox() {
         _ => panic!("{item}"),
     });
     assert_eq!(nums.collect::<Vec<_>>(), [0, 1, 2]);
+}
+
+#[test]
+fn the_links_and_monitors_of_a_process() {
+    let mut desks = open(2, Config { slots: 8, ..Config::default() }).unwrap();
+    let far = desks[1].spawn().unwrap();
+    let desk = &mut desks[0];
+    let parent = desk.spawn().unwrap();
+    let children: Vec<Pid> = (0..4).map(|_| desk.spawn_child(parent, true).unwrap()).collect();
+    let mut monitors: Vec<(Ref, Pid)> =
+        children.iter().map(|&child| (desk.monitor(parent, child).unwrap(), child)).collect();
+    monitors.push((desk.monitor(parent, far).unwrap(), far));
+    desk.trap(parent, true).unwrap();
+    desk.turn(99);
+    desk.exit(children[1], Reason::Normal).unwrap();
+    desk.turn(99);
+    let (gone, _) = monitors.remove(1);
+    let living = [children[0], children[2], children[3]];
+    desks[1].turn(9);
+    let desk = &desks[0];
+    is_whole(|| desk.links(parent).unwrap(), 3);
+    is_whole(|| desk.monitors(parent).unwrap(), 4);
+    is_whole(|| desk.watchers(children[0]).unwrap(), 1);
+    assert!(desk.links(parent).unwrap().map(|(peer, _)| peer).eq(living));
+    for (peer, ids) in desk.links(parent).unwrap() {
+        assert_eq!((desk.linked(parent, peer), desk.linked(peer, parent)), (Some(ids), Some(ids)));
+        assert!(desk.links(peer).unwrap().eq([(parent, ids)]));
+    }
+    assert!(desk.monitors(parent).unwrap().eq(monitors.clone()));
+    assert!(desk.watchers(children[0]).unwrap().eq([(monitors[0].0, parent)]));
+    assert!(desks[1].watchers(far).unwrap().eq([(monitors[3].0, parent)]));
+    assert_eq!(desk.watchers(parent).unwrap().len(), 0);
+    assert!(desk.pids().eq([parent].into_iter().chain(living)));
+    assert!(desk.pids().rev().eq([parent].into_iter().chain(living).rev()));
+    assert_eq!((desk.lives_in(parent.slot), desk.lives_in(children[1].slot)), (Some(parent), None));
+    assert_eq!((desk.lives_in(7), desk.lives_in(8), desk.lives_in(u32::MAX)), (None, None, None));
+    assert_eq!((desk.traps(parent), desk.traps(children[0])), (Some(true), Some(false)));
+    for other in [children[1], far] {
+        assert!(desk.links(other).is_none() && desk.monitors(other).is_none());
+        assert!(desk.watchers(other).is_none() && desk.traps(other).is_none());
+    }
+    // they continue over a resumption, and a DOWN that waits counts no more
+    let desks = gather(desks).unwrap().settle().unwrap().resume().unwrap();
+    assert!(desks[0].monitors(parent).unwrap().eq(monitors.clone()));
+    assert!(monitors.iter().all(|(monitor, _)| *monitor != gone));
+    assert!(desks[0].pids().eq([parent].into_iter().chain(living)));
 }
 
 #[test]

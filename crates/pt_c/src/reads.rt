@@ -5,11 +5,14 @@
 ghost use Rattle.std.specs.Prelude.{◌≡◌, length, reverse, slice_get};
 ghost use Rattle.pt_shard.specs.ShardState.{lives};
 ghost use Rattle.pt_shard.specs.Known.{knows};
+ghost use Rattle.pt_shard.specs.Living.{living_in};
 ghost use Rattle.pt_table.specs.Answers.{ReadsThrough, ShowsCode};
 ghost use Rattle.pt_table.specs.Reading.{event_numbered, item_numbered, linked_on_desk, waits_in, pending_in, event_count_in};
+ghost use Rattle.pt_table.specs.Reading.{nth_link, links_on_desk, nth_monitor, monitors_on_desk};
+ghost use Rattle.pt_table.specs.Reading.{traps_on_desk, watchers_on_desk};
 ghost use Rattle.pt_table.specs.Waking.{Woken, NobodyIsMissed};
 ghost use Rattle.pt_table.specs.Reading.{TellsCount, TellsPid, TellsAccount, TellsLinked, TellsKept, TellsWatching};
-ghost use Rattle.pt_table.specs.Crossing.{pid_crossed, pid_out, ref_in, ids_out, item_out, event_out, left_out};
+ghost use Rattle.pt_table.specs.Crossing.{pid_crossed, pid_out, ref_in, ref_out, ids_out, item_out, event_out, left_out};
 
 use pt_table::codes::{DONE, EMPTY};
 use pt_table::crossing::{pid_in, ref_in};
@@ -17,8 +20,9 @@ use pt_table::desk_handle::{DeskHandle, claim as claim_desk, hold as hold_desk};
 use pt_table::gathered_handle::{GatheredHandle, claim as claim_gathered, hold as hold_gathered};
 use pt_table::history_handle::{HistoryHandle, claim as claim_history, hold as hold_history};
 use pt_table::looking::{
-    account, event_at, history_event, history_left, kept, linked, next_woken, peek, pid_at,
-    pid_count, quiet_linked, vacant, waiting, watching,
+    account, event_at, history_event, history_left, kept, link_at, link_count, linked, lives_in,
+    monitor_at, monitor_count, next_woken, peek, pid_at, pid_count, quiet_linked, traps, vacant,
+    waiting, watcher_at, watcher_count, watching,
 };
 use pt_table::quiet_handle::{QuietHandle, claim as claim_quiet, hold as hold_quiet};
 use pt_table::types::{PtAccount, PtEvent, PtIds, PtItem, PtLeftOver, PtPid, PtRef};
@@ -195,6 +199,176 @@ pub extern "C" fn pt_linked(
     };
     let code = match &held.desk {
         Some(desk) => linked(desk, pid_in(p), pid_in(peer), out),
+        None => EMPTY,
+    };
+    *h = hold_desk(held);
+    code
+}
+
+/// The number of processes that p is linked with; 8 if p is not alive on the desk.
+#[unsafe(no_mangle)]
+pub extern "C" fn pt_link_count(alloc: Global, h: &mut DeskHandle, p: PtPid, out: &mut usize) -> u32
+    ensures { ReadsThrough h.old.state h.new.state result (out.new ≡ out.old)
+        (λ d. ShowsCode result out.old out.new length (links_on_desk d (pid_crossed p))) }
+{
+    let Some(held) = claim_desk(alloc, h) else {
+        return EMPTY;
+    };
+    let code = match &held.desk {
+        Some(desk) => link_count(desk, pid_in(p), out),
+        None => EMPTY,
+    };
+    *h = hold_desk(held);
+    code
+}
+
+/// The process that p is linked with at this place, 0 the oldest link, and the ids of the link; 8 if there is none.
+#[unsafe(no_mangle)]
+pub extern "C" fn pt_link_at(
+    alloc: Global,
+    h: &mut DeskHandle,
+    p: PtPid,
+    place: usize,
+    peer: &mut PtPid,
+    ids: &mut PtIds,
+) -> u32
+    ensures { ReadsThrough h.old.state h.new.state result ((peer.new ≡ peer.old) × (ids.new ≡ ids.old))
+        (λ d. ShowsCode result peer.old peer.new (λ l. pid_out l.0) (nth_link (links_on_desk d (pid_crossed p)) place)
+            × ShowsCode result ids.old ids.new (λ l. ids_out l.1) (nth_link (links_on_desk d (pid_crossed p)) place)) }
+{
+    let Some(held) = claim_desk(alloc, h) else {
+        return EMPTY;
+    };
+    let code = match &held.desk {
+        Some(desk) => link_at(desk, pid_in(p), place, peer, ids),
+        None => EMPTY,
+    };
+    *h = hold_desk(held);
+    code
+}
+
+/// The number of open monitors of p; 8 if p is not alive on the desk.
+#[unsafe(no_mangle)]
+pub extern "C" fn pt_monitor_count(
+    alloc: Global,
+    h: &mut DeskHandle,
+    p: PtPid,
+    out: &mut usize,
+) -> u32
+    ensures { ReadsThrough h.old.state h.new.state result (out.new ≡ out.old)
+        (λ d. ShowsCode result out.old out.new length (monitors_on_desk d (pid_crossed p))) }
+{
+    let Some(held) = claim_desk(alloc, h) else {
+        return EMPTY;
+    };
+    let code = match &held.desk {
+        Some(desk) => monitor_count(desk, pid_in(p), out),
+        None => EMPTY,
+    };
+    *h = hold_desk(held);
+    code
+}
+
+/// The open monitor of p at this place, 0 the oldest, and its target; 8 if there is none.
+#[unsafe(no_mangle)]
+pub extern "C" fn pt_monitor_at(
+    alloc: Global,
+    h: &mut DeskHandle,
+    p: PtPid,
+    place: usize,
+    monitor: &mut PtRef,
+    target: &mut PtPid,
+) -> u32
+    ensures { ReadsThrough h.old.state h.new.state result ((monitor.new ≡ monitor.old) × (target.new ≡ target.old))
+        (λ d. ShowsCode result monitor.old monitor.new (λ m. ref_out m.0) (nth_monitor (monitors_on_desk d (pid_crossed p)) place)
+            × ShowsCode result target.old target.new (λ m. pid_out m.1) (nth_monitor (monitors_on_desk d (pid_crossed p)) place)) }
+{
+    let Some(held) = claim_desk(alloc, h) else {
+        return EMPTY;
+    };
+    let code = match &held.desk {
+        Some(desk) => monitor_at(desk, pid_in(p), place, monitor, target),
+        None => EMPTY,
+    };
+    *h = hold_desk(held);
+    code
+}
+
+/// The number of monitors that others have of p; 8 if p is not alive on the desk.
+#[unsafe(no_mangle)]
+pub extern "C" fn pt_watcher_count(
+    alloc: Global,
+    h: &mut DeskHandle,
+    p: PtPid,
+    out: &mut usize,
+) -> u32
+    ensures { ReadsThrough h.old.state h.new.state result (out.new ≡ out.old)
+        (λ d. ShowsCode result out.old out.new length (watchers_on_desk d (pid_crossed p))) }
+{
+    let Some(held) = claim_desk(alloc, h) else {
+        return EMPTY;
+    };
+    let code = match &held.desk {
+        Some(desk) => watcher_count(desk, pid_in(p), out),
+        None => EMPTY,
+    };
+    *h = hold_desk(held);
+    code
+}
+
+/// The monitor that another process has of p at this place, 0 the oldest, and its owner; 8 if there is none.
+#[unsafe(no_mangle)]
+pub extern "C" fn pt_watcher_at(
+    alloc: Global,
+    h: &mut DeskHandle,
+    p: PtPid,
+    place: usize,
+    monitor: &mut PtRef,
+    watcher: &mut PtPid,
+) -> u32
+    ensures { ReadsThrough h.old.state h.new.state result ((monitor.new ≡ monitor.old) × (watcher.new ≡ watcher.old))
+        (λ d. ShowsCode result monitor.old monitor.new (λ m. ref_out m.0) (nth_monitor (watchers_on_desk d (pid_crossed p)) place)
+            × ShowsCode result watcher.old watcher.new (λ m. pid_out m.1) (nth_monitor (watchers_on_desk d (pid_crossed p)) place)) }
+{
+    let Some(held) = claim_desk(alloc, h) else {
+        return EMPTY;
+    };
+    let code = match &held.desk {
+        Some(desk) => watcher_at(desk, pid_in(p), place, monitor, watcher),
+        None => EMPTY,
+    };
+    *h = hold_desk(held);
+    code
+}
+
+/// Whether p traps exits; 8 if p is not alive on the desk.
+#[unsafe(no_mangle)]
+pub extern "C" fn pt_traps(alloc: Global, h: &mut DeskHandle, p: PtPid, out: &mut bool) -> u32
+    ensures { ReadsThrough h.old.state h.new.state result (out.new ≡ out.old)
+        (λ d. ShowsCode result out.old out.new (λ on. on) (traps_on_desk d (pid_crossed p))) }
+{
+    let Some(held) = claim_desk(alloc, h) else {
+        return EMPTY;
+    };
+    let code = match &held.desk {
+        Some(desk) => traps(desk, pid_in(p), out),
+        None => EMPTY,
+    };
+    *h = hold_desk(held);
+    code
+}
+
+/// The live process in this slot of the desk; 8 if there is none.
+#[unsafe(no_mangle)]
+pub extern "C" fn pt_lives_in(alloc: Global, h: &mut DeskHandle, slot: u32, out: &mut PtPid) -> u32
+    ensures { ReadsThrough h.old.state h.new.state result (out.new ≡ out.old)
+        (λ d. ShowsCode result out.old out.new pid_out (living_in d.shard slot)) }
+{
+    let Some(held) = claim_desk(alloc, h) else {
+        return EMPTY;
+    };
+    let code = match &held.desk {
+        Some(desk) => lives_in(desk, slot, out),
         None => EMPTY,
     };
     *h = hold_desk(held);

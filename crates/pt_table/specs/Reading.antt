@@ -41,6 +41,29 @@ item_numbered None place = None
 abbrev pub linked_on_desk : DeskState → Pid → Pid → Option Ids
 linked_on_desk d p q = cond (lives d.shard p) (held_by d.shard p q) None
 
+-- what a process that lives here is linked with, in order of entry
+abbrev pub links_on_desk : DeskState → Pid → Option (List (Pid × Ids))
+links_on_desk d p = cond (lives d.shard p) (Some (state_in d.shard p).links) None
+
+-- its open monitors, each with its target
+abbrev pub monitors_on_desk : DeskState → Pid → Option (List (Ref × Pid))
+monitors_on_desk d p = cond (lives d.shard p) (Some (state_in d.shard p).watching) None
+
+-- the monitors that others have of it, each with its owner
+abbrev pub watchers_on_desk : DeskState → Pid → Option (List (Ref × Pid))
+watchers_on_desk d p = cond (lives d.shard p) (Some (state_in d.shard p).kept) None
+
+abbrev pub traps_on_desk : DeskState → Pid → Option Bool
+traps_on_desk d p = cond (lives d.shard p) (Some (state_in d.shard p).traps) None
+
+abbrev pub nth_link : Option (List (Pid × Ids)) → ℕ → Option (Pid × Ids)
+nth_link (Some links) place = slice_get links place
+nth_link None place = None
+
+abbrev pub nth_monitor : Option (List (Ref × Pid)) → ℕ → Option (Ref × Pid)
+nth_monitor (Some monitors) place = slice_get monitors place
+nth_monitor None place = None
+
 abbrev pub event_count_in : DeskState → ℕ
 event_count_in d = length d.shard.journal
 

@@ -2,15 +2,18 @@
 
 ghost use Rattle.std.specs.Prelude.{◌≡◌, length, reverse, slice_get};
 ghost use Rattle.pt_table.specs.Answers.{ShowsCode};
+ghost use Rattle.pt_shard.specs.Living.{living_in};
 ghost use Rattle.pt_table.specs.Reading.{event_numbered, item_numbered, linked_on_desk, waits_in};
+ghost use Rattle.pt_table.specs.Reading.{nth_link, links_on_desk, nth_monitor, monitors_on_desk};
+ghost use Rattle.pt_table.specs.Reading.{traps_on_desk, watchers_on_desk};
 ghost use Rattle.pt_table.specs.Waking.{Woken};
 ghost use Rattle.pt_table.specs.Reading.{TellsCount, TellsPid, TellsAccount, TellsLinked, TellsKept, TellsWatching};
-ghost use Rattle.pt_table.specs.Crossing.{pid_out, ids_out, item_out, event_out, left_out};
+ghost use Rattle.pt_table.specs.Crossing.{pid_out, ref_out, ids_out, item_out, event_out, left_out};
 
 use crate::codes::{DONE, NOTHING};
-use crate::crossing::{account_out, event_out, ids_out, item_out, left_out, pid_out};
+use crate::crossing::{account_out, event_out, ids_out, item_out, left_out, pid_out, ref_out};
 use crate::held::History;
-use crate::types::{PtAccount, PtEvent, PtIds, PtItem, PtLeftOver, PtPid};
+use crate::types::{PtAccount, PtEvent, PtIds, PtItem, PtLeftOver, PtPid, PtRef};
 use pt_node::{Desk, Ids, Item, Pid, Quiet, Ref, Stamped};
 
 fn show_pid(pid: Option<Pid>, out: &mut PtPid) -> u32
@@ -92,6 +95,122 @@ pub fn linked(desk: &Desk, p: Pid, peer: Pid, out: &mut PtIds) -> u32
     ensures { ShowsCode result out.old out.new ids_out (linked_on_desk desk.now p peer) }
 {
     show_ids(desk.linked(p, peer), out)
+}
+
+pub fn link_count(desk: &Desk, p: Pid, out: &mut usize) -> u32
+    ensures { ShowsCode result out.old out.new length (links_on_desk desk.now p) }
+{
+    match desk.process(p) {
+        Some(process) => {
+            *out = process.links_len();
+            DONE
+        }
+        None => NOTHING,
+    }
+}
+
+pub fn link_at(desk: &Desk, p: Pid, place: usize, peer: &mut PtPid, ids: &mut PtIds) -> u32
+    ensures peer { ShowsCode result peer.old peer.new (λ l. pid_out l.0) (nth_link (links_on_desk desk.now p) place) }
+    ensures ids { ShowsCode result ids.old ids.new (λ l. ids_out l.1) (nth_link (links_on_desk desk.now p) place) }
+{
+    match desk.process(p) {
+        Some(process) => show_link(process.link_at(place), peer, ids),
+        None => NOTHING,
+    }
+}
+
+fn show_link(link: Option<(Pid, Ids)>, peer: &mut PtPid, ids: &mut PtIds) -> u32
+    ensures peer { ShowsCode result peer.old peer.new (λ l. pid_out l.0) link }
+    ensures ids { ShowsCode result ids.old ids.new (λ l. ids_out l.1) link }
+{
+    match link {
+        Some((pid, both)) => {
+            *peer = pid_out(pid);
+            *ids = ids_out(both);
+            DONE
+        }
+        None => NOTHING,
+    }
+}
+
+pub fn monitor_count(desk: &Desk, p: Pid, out: &mut usize) -> u32
+    ensures { ShowsCode result out.old out.new length (monitors_on_desk desk.now p) }
+{
+    match desk.process(p) {
+        Some(process) => {
+            *out = process.monitors_len();
+            DONE
+        }
+        None => NOTHING,
+    }
+}
+
+pub fn monitor_at(desk: &Desk, p: Pid, place: usize, monitor: &mut PtRef, target: &mut PtPid) -> u32
+    ensures monitor { ShowsCode result monitor.old monitor.new (λ m. ref_out m.0)
+        (nth_monitor (monitors_on_desk desk.now p) place) }
+    ensures target { ShowsCode result target.old target.new (λ m. pid_out m.1)
+        (nth_monitor (monitors_on_desk desk.now p) place) }
+{
+    match desk.process(p) {
+        Some(process) => show_monitor(process.monitor_at(place), monitor, target),
+        None => NOTHING,
+    }
+}
+
+pub fn watcher_count(desk: &Desk, p: Pid, out: &mut usize) -> u32
+    ensures { ShowsCode result out.old out.new length (watchers_on_desk desk.now p) }
+{
+    match desk.process(p) {
+        Some(process) => {
+            *out = process.watchers_len();
+            DONE
+        }
+        None => NOTHING,
+    }
+}
+
+pub fn watcher_at(desk: &Desk, p: Pid, place: usize, monitor: &mut PtRef, watcher: &mut PtPid) -> u32
+    ensures monitor { ShowsCode result monitor.old monitor.new (λ m. ref_out m.0)
+        (nth_monitor (watchers_on_desk desk.now p) place) }
+    ensures watcher { ShowsCode result watcher.old watcher.new (λ m. pid_out m.1)
+        (nth_monitor (watchers_on_desk desk.now p) place) }
+{
+    match desk.process(p) {
+        Some(process) => show_monitor(process.watcher_at(place), monitor, watcher),
+        None => NOTHING,
+    }
+}
+
+fn show_monitor(found: Option<(Ref, Pid)>, monitor: &mut PtRef, pid: &mut PtPid) -> u32
+    ensures monitor { ShowsCode result monitor.old monitor.new (λ m. ref_out m.0) found }
+    ensures pid { ShowsCode result pid.old pid.new (λ m. pid_out m.1) found }
+{
+    match found {
+        Some((reference, other)) => {
+            *monitor = ref_out(reference);
+            *pid = pid_out(other);
+            DONE
+        }
+        None => NOTHING,
+    }
+}
+
+pub fn traps(desk: &Desk, p: Pid, out: &mut bool) -> u32
+    ensures { ShowsCode result out.old out.new (λ on. on) (traps_on_desk desk.now p) }
+{
+    match desk.process(p) {
+        Some(process) => {
+            *out = process.traps();
+            DONE
+        }
+        None => NOTHING,
+    }
+}
+
+pub fn lives_in(desk: &Desk, slot: u32, out: &mut PtPid) -> u32
+    ensures { ShowsCode result out.old out.new pid_out (living_in desk.now.shard slot) }
+{
+    show_pid(desk.lives_in(slot), out)
 }
 
 pub fn event_at(desk: &Desk, place: usize, out: &mut PtEvent) -> u32
