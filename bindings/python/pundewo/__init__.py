@@ -34,12 +34,9 @@ from .values import (
 __version__ = "0.1.0"
 
 __all__ = [
-    "ANY", "BUILD", "KILL", "KILLED", "NOPROC", "NORMAL", "SHUTDOWN", "Account", "Body", "Busy", "Code", "Config", "Desk",
-    "Event", "Fault", "Gathered", "History", "Ids", "Item", "LeftOver", "LinkId", "Pick", "Pid", "Quiet", "Reason", "Ref",
-    "Settled", "Signal", "Turned", "Unsettled", "gather", "open_node",
     "ANY", "BUILD", "EVENTS", "ITEMS", "KILL", "KILLED", "NOPROC", "NORMAL", "PICKS", "REASONS", "SHUTDOWN", "SIGNALS",
     "Account", "Body", "Busy", "Code", "Config", "Desk", "Event", "Fault", "Gathered", "History", "Ids", "Item", "LeftOver",
-    "LinkId", "Pick", "Pid", "Quiet", "Reason", "Ref", "Signal", "Turned", "Unsettled", "gather", "open_node",
+    "LinkId", "Pick", "Pid", "Quiet", "Reason", "Ref", "Settled", "Signal", "Turned", "Unsettled", "gather", "open_node",
 ]
 
 T = TypeVar("T")
