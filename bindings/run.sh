@@ -115,7 +115,7 @@ by_the_page() { # SED-SCRIPT
 mkdir -p "$work/page"
 ln -s "$here" "$work/page/bindings"
 by_the_page '' >"$work/printed"
-for example in about no_memory resumed ring rows supervisor; do
+for example in about bad_codes no_memory resumed ring rows supervisor; do
     by_the_page "/^\.\//d; s/ping_pong/$example/g" >"$work/printed"
     [ -x "$work/page/$example" ] || { echo "bindings: the lines of docs/EMBEDDING.md do not build $example"; exit 1; }
 done
@@ -125,12 +125,14 @@ echo "c: the lines of docs/EMBEDDING.md build the examples"
 
 # C, and C++ for the header
 build about
+build bad_codes
 build rows
 build supervisor
 build ring
 build resumed
 build no_memory
 "$work/about"
+"$work/bad_codes"
 "$work/rows" "$work/table"
 "$work/no_memory"
 "$work/supervisor" | diff "$here/c/supervisor.out" -
@@ -144,7 +146,7 @@ done
 if command -v valgrind >/dev/null; then
     # (fair: four threads that spin would else wait for each other for minutes)
     memory="valgrind -q --fair-sched=try --error-exitcode=9 --leak-check=full --show-leak-kinds=all --errors-for-leak-kinds=all"
-    for program in about "rows $work/table" supervisor resumed "ring 20"; do
+    for program in about bad_codes "rows $work/table" supervisor resumed "ring 20"; do
         $memory "$work/"$program >"$work/printed" 2>&1 \
             || { cat "$work/printed"; echo "valgrind: $program is not clean"; exit 1; }
     done

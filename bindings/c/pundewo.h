@@ -13,7 +13,7 @@
  *  - one call at a time on one handle. It may go to another thread (the library proves that its type is `Send`): order
  *    that by a lock, a thread's start or join, a channel, or a sequentially consistent atomic;
  *  - every pointer is valid and aligned, what it points to is initialized, and no two pointers of one call overlap;
- *  - a bool is 0 or 1;
+ *  - a bool is 0 or 1. A code in a pick or in a reason may have any value: PT_BAD_CODE answers one that means nothing;
  *  - pt_gather gets all desks of one pt_open or of one pt_resume, each once and in order;
  *  - malloc, realloc and free come from one allocator, with malloc's usual alignment; no call is made from a signal
  *    handler, nor in the forked child of a process with threads.
@@ -70,7 +70,8 @@ enum pt_code {
     PT_BAD_SLOTS = 12,      /* 1 to 65,536 */
     PT_BAD_TOP_VERSION = 13, /* at least 1 */
     PT_BAD_LANE = 14,       /* 1 to 65,536 */
-    PT_BAD_START = 15       /* at most 2^62 */
+    PT_BAD_START = 15,      /* at most 2^62 */
+    PT_BAD_CODE = 16        /* the code of a pick or of a reason that was passed in means nothing */
 };
 
 /* The name of a process: its desk, its slot there, and how often the slot was given out. No two have the same. */
@@ -83,7 +84,7 @@ typedef struct { uint8_t desk; uint64_t number; } pt_ref;
 /* The ids under which two processes are linked: two, where both sides made the link at the same time. */
 typedef struct { pt_ref one; bool has_two; pt_ref two; } pt_ids;
 
-/* An exit reason; `number` counts for PT_OTHER alone. Any code that is not below counts as PT_OTHER. */
+/* An exit reason; `number` counts for PT_OTHER alone. A call that gets any other code answers PT_BAD_CODE. */
 enum { PT_NORMAL = 0, PT_KILL = 1, PT_KILLED = 2, PT_NO_PROCESS = 3, PT_SHUTDOWN = 4, PT_OTHER = 5 };
 typedef struct { uint32_t code; uint32_t number; } pt_reason;
 
@@ -97,7 +98,8 @@ enum { PT_ITEM_USER = 0, PT_ITEM_EXIT = 1, PT_ITEM_DOWN = 2, PT_ITEM_ALIVE = 3 }
 typedef struct { uint32_t code; bool alive; pt_pid pid; pt_ref reference; pt_reason reason; pt_body body; } pt_item;
 
 /* Which items a receive takes: messages of `kind`, messages from `pid`, trapped exits of `pid`, the DOWN of
- * `reference`, the answer to the question `reference`, or, by PT_PICK_ANY and each other code, all. */
+ * `reference`, the answer to the question `reference`, or, by PT_PICK_ANY, all. A call that gets any other code answers
+ * PT_BAD_CODE. */
 enum {
     PT_PICK_KIND = 0, PT_PICK_FROM = 1, PT_PICK_EXIT_OF = 2, PT_PICK_DOWN_OF = 3, PT_PICK_ALIVE_OF = 4, PT_PICK_ANY = 5
 };
@@ -187,20 +189,23 @@ uint32_t pt_quiet_give_up(pt_quiet *node);
 uint32_t pt_settled_give_up(pt_settled *node);
 uint32_t pt_history_give_up(pt_history *history);
 
-/* ---- calls of a process on its desk. Each may answer PT_GONE, PT_WORN, PT_MEMORY and PT_EMPTY */
+/* ---- calls of a process on its desk. Each may answer PT_GONE, PT_WORN, PT_MEMORY and PT_EMPTY
+ *
+ * If several answers fit, PT_EMPTY comes first, then PT_BAD_CODE, then PT_UNKNOWN, and then those of the desk. After
+ * PT_BAD_CODE nothing has changed, and nothing is noted. */
 
 uint32_t pt_spawn(pt_desk *desk, pt_pid *out);                                            /* no PT_GONE; PT_FULL */
 uint32_t pt_spawn_child(pt_desk *desk, pt_pid parent, bool linked, pt_pid *out);          /* PT_FULL */
 uint32_t pt_send(pt_desk *desk, pt_pid from, pt_pid to, pt_body body);                    /* PT_NOPROC, PT_UNKNOWN */
-uint32_t pt_exit_signal(pt_desk *desk, pt_pid from, pt_pid to, pt_reason reason);         /* PT_UNKNOWN */
+uint32_t pt_exit_signal(pt_desk *desk, pt_pid from, pt_pid to, pt_reason reason);         /* PT_BAD_CODE, PT_UNKNOWN */
 uint32_t pt_link(pt_desk *desk, pt_pid p, pt_pid to);                                     /* PT_NOPROC, PT_UNKNOWN */
 uint32_t pt_unlink(pt_desk *desk, pt_pid p, pt_pid to);                                   /* PT_UNKNOWN */
 uint32_t pt_monitor(pt_desk *desk, pt_pid watcher, pt_pid target, pt_ref *out); /* PT_MYSELF, PT_NOPROC, PT_UNKNOWN */
 uint32_t pt_demonitor(pt_desk *desk, pt_pid watcher, pt_ref monitor, bool flush, bool *wrote);
 uint32_t pt_ask_alive(pt_desk *desk, pt_pid p, pt_pid target, pt_ref *out);               /* PT_UNKNOWN */
 uint32_t pt_trap(pt_desk *desk, pt_pid p, bool on, bool *was);
-uint32_t pt_receive(pt_desk *desk, pt_pid p, pt_pick pick, pt_item *out);                 /* PT_NOTHING: none fits */
-uint32_t pt_exit(pt_desk *desk, pt_pid p, pt_reason reason);
+uint32_t pt_receive(pt_desk *desk, pt_pid p, pt_pick pick, pt_item *out);       /* PT_BAD_CODE; PT_NOTHING: none fits */
+uint32_t pt_exit(pt_desk *desk, pt_pid p, pt_reason reason);                              /* PT_BAD_CODE */
 
 /* Posts the letters that wait, and handles at most `budget`. PT_EMPTY; what stopped it stands in `out`. */
 uint32_t pt_turn(pt_desk *desk, uint32_t budget, pt_turned *out);
@@ -276,7 +281,7 @@ uint32_t pt_history_left_at(pt_history *history, size_t place, pt_left_over *out
 typedef struct {
     uint32_t
         done, full, memory, worn, gone, myself, noproc, unknown, nothing, empty, filled, bad_desks, bad_slots,
-        bad_top_version, bad_lane, bad_start, reason_normal, reason_kill, reason_killed, reason_noproc,
+        bad_top_version, bad_lane, bad_start, bad_code, reason_normal, reason_kill, reason_killed, reason_noproc,
         reason_shutdown, reason_other, item_user, item_exit, item_down, item_alive, pick_kind, pick_from,
         pick_exit_of, pick_down_of, pick_alive_of, pick_any, signal_message, signal_link, signal_unlink,
         signal_exit, signal_link_exit, signal_monitor, signal_demonitor, signal_down, signal_alive_ask,

@@ -9,7 +9,8 @@
 
 static inline const char *pt_code_name(uint32_t code) {
     static const char *const names[] = {"ok", "Full", "Memory", "Worn", "Gone", "Myself", "NoProc", "unknown",
-        "nothing", "empty", "filled", "bad desks", "bad slots", "bad top version", "bad lane", "bad start"};
+        "nothing", "empty", "filled", "bad desks", "bad slots", "bad top version", "bad lane", "bad start",
+        "bad code"};
     return code < sizeof names / sizeof *names ? names[code] : "?";
 }
 

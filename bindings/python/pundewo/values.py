@@ -103,6 +103,7 @@ class Code(IntEnum):
     BAD_TOP_VERSION = 13
     BAD_LANE = 14
     BAD_START = 15
+    BAD_CODE = 16
 
 
 # A named tuple of checked fields without the checks, for fields that the library wrote.

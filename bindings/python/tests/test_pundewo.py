@@ -251,6 +251,47 @@ class About(unittest.TestCase):
         self.assertEqual(list(codes), wanted)
 
 
+class BadCodes(unittest.TestCase):
+    """Codes that mean nothing, which no value of the module has: the library refuses them, and nothing has changed."""
+
+    CODES = (6, 7, 255, 256, 65536, 2**31, 2**32 - 1)
+
+    def setUp(self):
+        (self.desk,) = p.open_node()
+        self.p, self.other = self.desk.spawn(), self.desk.spawn()
+        self.desk.send(self.other, self.p, p.Body(1, 7))
+        self.desk.turn()
+
+    def state(self):
+        return self.desk.clock(), self.desk.pending(), joined(self.desk.events()), waiting(self.desk, self.p)
+
+    def calls(self, code, one, target):
+        """Each call with a code, of the process `one`."""
+        reason, pick = p.CReason(code, 1), p.CPick(code=code, kind=1)
+        one, target = p.CPid(*one), p.CPid(*target)
+        return [(p.lib.pt_receive, one, pick, c.byref(p.CItem())), (p.lib.pt_exit_signal, one, target, reason),
+                (p.lib.pt_exit, one, reason)]
+
+    def test_each_call_refuses_a_bad_code(self):
+        before = self.state()
+        for code in self.CODES:
+            for call, *words in self.calls(code, self.p, self.other):
+                with self.assertRaises(Fault) as caught:
+                    self.desk._must(call, *words)
+                self.assertEqual(caught.exception.code, Code.BAD_CODE)
+                self.assertRegex(str(caught.exception), r"^(receive|exit_signal|exit)\(.*\): bad_code$")
+                self.assertEqual(self.state(), before)
+
+    def test_it_comes_before_what_the_desk_refuses_and_behind_an_empty_handle(self):
+        strange = Pid(9, 0, 1)
+        for code in self.CODES:
+            for call, *words in self.calls(code, strange, strange):
+                self.assertEqual(self.desk._call(call, *words), Code.BAD_CODE)
+        self.desk.close()
+        for call, *words in self.calls(6, self.p, self.other):
+            self.assertEqual(self.desk._call(call, *words), Code.EMPTY)
+
+
 class Handles(unittest.TestCase):
     def test_a_closed_desk_is_empty(self):
         (desk,) = p.open_node()

@@ -130,6 +130,7 @@ fn fault_of(code: u32) -> Fault {
         13 => Fault::BadTopVersion,
         14 => Fault::BadLane,
         15 => Fault::BadStart,
+        16 => Fault::BadCode,
         _ => unreachable!("the library answered {code}"),
     }
 }

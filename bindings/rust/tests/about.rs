@@ -97,7 +97,7 @@ fn each_code_is_the_librarys() {
     let mut sizes = [0; 14];
     unsafe { pt_about_sizes(sizes.as_mut_ptr()) };
     // the answers, and then the codes of reasons, items, picks, signals and events, as `values.rs` reads them
-    let wanted: Vec<u32> = (0..16).chain(0..6).chain(0..4).chain(0..6).chain(0..10).chain(0..7).collect();
+    let wanted: Vec<u32> = (0..17).chain(0..6).chain(0..4).chain(0..6).chain(0..10).chain(0..7).collect();
     assert_eq!(sizes[13], wanted.len() * size_of::<u32>());
     let mut told = vec![0; wanted.len()];
     unsafe { pt_about_codes(told.as_mut_ptr()) };

@@ -35,6 +35,7 @@ all_codes = record {
   bad_top_version = 13;
   bad_lane = 14;
   bad_start = 15;
+  bad_code = 16;
   reason_normal = 0;
   reason_kill = 1;
   reason_killed = 2;
@@ -89,6 +90,7 @@ with_answers c = record c {
   bad_top_version = 13;
   bad_lane = 14;
   bad_start = 15;
+  bad_code = 16;
 }
 
 -- of which these are of reasons, of items and of picks
@@ -154,7 +156,7 @@ all_sizes = record {
   turned = 24;
   account = 40;
   config = 24;
-  codes = 196;
+  codes = 200;
 }
 
 -- a value whose fields have the numbers from this one on

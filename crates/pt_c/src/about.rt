@@ -10,7 +10,7 @@ use pt_node::{
     Body, Event, Fault, Ids, Item, LinkId, OpenError, Pick, Pid, Reason, Ref, Setting, Signal,
     Stamped,
 };
-use pt_table::codes::{DONE, EMPTY, FILLED, NOTHING, UNKNOWN, code_of, open_code};
+use pt_table::codes::{BAD_CODE, DONE, EMPTY, FILLED, NOTHING, UNKNOWN, code_of, open_code};
 use pt_table::crossing::{event_out, item_out, pick_out, reason_out, signal_out};
 use pt_table::types::{
     PtAccount, PtBody, PtConfig, PtEvent, PtIds, PtItem, PtLeftOver, PtPick, PtPid, PtReason,
@@ -38,6 +38,7 @@ pub struct PtCodes {
     pub bad_top_version: u32,
     pub bad_lane: u32,
     pub bad_start: u32,
+    pub bad_code: u32,
     pub reason_normal: u32,
     pub reason_kill: u32,
     pub reason_killed: u32,
@@ -139,6 +140,7 @@ fn with_answers(codes: PtCodes) -> PtCodes
         bad_top_version: open_code(OpenError::Bounds(Setting::TopVersion)),
         bad_lane: open_code(OpenError::Bounds(Setting::Lane)),
         bad_start: open_code(OpenError::Bounds(Setting::Start)),
+        bad_code: BAD_CODE,
         ..codes
     }
 }

@@ -1,15 +1,16 @@
 //! The calls of a desk.
 //!
 //! Each makes the desk's call of that name on the desk of the handle, and returns its code. It returns 9 if the handle
-//! has none.
+//! has none. A call that gets a pick or a reason returns 16 if the code in it is none of its enumeration. So 9 comes before
+//! 16, and 16 before each other refusal.
 
 ghost use Rattle.std.specs.Prelude.{◌≡◌};
 ghost use Rattle.pt_table.specs.Answers.{CallsThrough, SpawnsOnDesk, SpawnsChild, SendsOnDesk, SendsExit, Links, Unlinks, WatchesOnDesk, UnwatchesOnDesk};
 ghost use Rattle.pt_table.specs.Answers.{AsksOnDesk, Traps, TakesOnDesk, Exits, TurnsOnce};
-ghost use Rattle.pt_table.specs.Crossing.{pid_crossed, ref_in, reason_in, body_in, pick_in};
+ghost use Rattle.pt_table.specs.Crossing.{pid_crossed, ref_in, body_in};
 
 use pt_table::codes::{DONE, EMPTY};
-use pt_table::crossing::{body_in, pick_in, pid_in, reason_in, ref_in};
+use pt_table::crossing::{body_in, pid_in, ref_in};
 use pt_table::desk_handle::{DeskHandle, claim, hold};
 use pt_table::doing::{
     ask_alive, demonitor, exit, exit_signal, link, monitor, receive, send, spawn, spawn_child,
@@ -80,7 +81,8 @@ pub extern "C" fn pt_send(
     code
 }
 
-/// Sends an exit signal that no link carries, as `Desk::exit_signal` does.
+/// Sends an exit signal that no link carries, as `Desk::exit_signal` does. It returns 16 if the code in `reason` is that
+/// of no reason, and then nothing has changed.
 #[unsafe(no_mangle)]
 pub extern "C" fn pt_exit_signal(
     alloc: Global,
@@ -90,13 +92,13 @@ pub extern "C" fn pt_exit_signal(
     reason: PtReason,
 ) -> u32
     ensures { CallsThrough h.old.state h.new.state result (Unit {0})
-        (SendsExit (pid_crossed from) (pid_crossed to) (reason_in reason) result) }
+        (SendsExit (pid_crossed from) (pid_crossed to) reason result) }
 {
     let Some(mut place) = claim(alloc, h) else {
         return EMPTY;
     };
     let code = match &mut place.desk {
-        Some(desk) => exit_signal(desk, pid_in(from), pid_in(to), reason_in(reason)),
+        Some(desk) => exit_signal(desk, pid_in(from), pid_in(to), reason),
         None => EMPTY,
     };
     *h = hold(place);
@@ -228,7 +230,7 @@ pub extern "C" fn pt_trap(
 }
 
 /// Takes the first matching item, as `Desk::receive` does. It writes the item to `out` if it returns 0, and returns 8
-/// if no item matches.
+/// if no item matches. It returns 16 if the code in `pick` is that of no pick, and then nothing has changed.
 #[unsafe(no_mangle)]
 pub extern "C" fn pt_receive(
     alloc: Global,
@@ -238,29 +240,30 @@ pub extern "C" fn pt_receive(
     out: &mut PtItem,
 ) -> u32
     ensures { CallsThrough h.old.state h.new.state result (out.new ≡ out.old)
-        (TakesOnDesk (pid_crossed p) (pick_in pick) result out.old out.new) }
+        (TakesOnDesk (pid_crossed p) pick result out.old out.new) }
 {
     let Some(mut place) = claim(alloc, h) else {
         return EMPTY;
     };
     let code = match &mut place.desk {
-        Some(desk) => receive(desk, pid_in(p), pick_in(pick), out),
+        Some(desk) => receive(desk, pid_in(p), pick, out),
         None => EMPTY,
     };
     *h = hold(place);
     code
 }
 
-/// Makes p exit, as `Desk::exit` does.
+/// Makes p exit, as `Desk::exit` does. It returns 16 if the code in `reason` is that of no reason, and then nothing has
+/// changed.
 #[unsafe(no_mangle)]
 pub extern "C" fn pt_exit(alloc: Global, h: &mut DeskHandle, p: PtPid, reason: PtReason) -> u32
-    ensures { CallsThrough h.old.state h.new.state result (Unit {0}) (Exits (pid_crossed p) (reason_in reason) result) }
+    ensures { CallsThrough h.old.state h.new.state result (Unit {0}) (Exits (pid_crossed p) reason result) }
 {
     let Some(mut place) = claim(alloc, h) else {
         return EMPTY;
     };
     let code = match &mut place.desk {
-        Some(desk) => exit(desk, pid_in(p), reason_in(reason)),
+        Some(desk) => exit(desk, pid_in(p), reason),
         None => EMPTY,
     };
     *h = hold(place);

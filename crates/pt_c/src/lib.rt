@@ -17,6 +17,7 @@
 //!   call's answer. (`CallsThrough`, `ReadsThrough`)
 //! - **Failures.** If a function fails, each handle and each struct passed in is as it was, also if there is no memory.
 //! - **Handles.** An empty handle, a full one that must be empty, and a wrong number of desks are codes.
+//! - **Bad codes.** So is a pick or a reason whose own code means nothing.
 //! - **Nodes.** Opening, gathering, settling and resuming leave in the handles what `open`, `gather`, `settle` and
 //!   `resume` promise, or `settle_unlisted` and `resume_settled`.
 //! - **Threads.** Each handle may go to another thread.

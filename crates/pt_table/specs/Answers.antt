@@ -5,8 +5,6 @@ use Rattle.pt_signal.specs.declared.pid.Pid.{Pid}
 use Rattle.pt_signal.specs.declared.ids.Ref.{Ref}
 use Rattle.pt_signal.specs.declared.item.Body.{Body}
 use Rattle.pt_signal.specs.declared.item.Item.{Item}
-use Rattle.pt_signal.specs.declared.item.Pick.{Pick}
-use Rattle.pt_signal.specs.declared.reason.Reason.{Reason}
 use Rattle.pt_signal.specs.declared.signal.Signal.{Signal}
 use Rattle.pt_events.specs.declared.event.Event.{Event}
 use Rattle.pt_events.specs.declared.event.Stamped.{Stamped}
@@ -24,8 +22,10 @@ use Rattle.pt_table.specs.declared.types.PtPid.{PtPid}
 use Rattle.pt_table.specs.declared.types.PtRef.{PtRef}
 use Rattle.pt_table.specs.declared.types.PtItem.{PtItem}
 use Rattle.pt_table.specs.declared.types.PtTurned.{PtTurned}
-use Rattle.pt_table.specs.Codes.{code_at, found_code, some_code, stop_code, unknown, empty}
-use Rattle.pt_table.specs.Crossing.{pid_out, ref_out, item_out}
+use Rattle.pt_table.specs.declared.types.PtPick.{PtPick}
+use Rattle.pt_table.specs.declared.types.PtReason.{PtReason}
+use Rattle.pt_table.specs.Codes.{code_at, found_code, some_code, stop_code, unknown, empty, bad_code}
+use Rattle.pt_table.specs.Crossing.{pid_out, ref_out, item_out, pick_in, reason_in}
 
 -- handles ------------------------------------------------------------------------------
 
@@ -108,6 +108,12 @@ abbrev pub IfKnownCode : Bool → ℕ → Type 0 → Type 0 → Type 0
 IfKnownCode true code kept P = P
 IfKnownCode false code kept P = (code ≡ unknown) × kept
 
+-- a call that gets a struct with a code. If the code is none of its enumeration, that comes before all else that the desk
+-- would refuse: the call's code says so, and nothing has changed
+abbrev pub IfCrosses : {A : Type 0} → Option A → ℕ → Type 0 → (A → Type 0) → Type 0
+IfCrosses (Some a) code kept P = P a
+IfCrosses None code kept P = (code ≡ bad_code) × kept
+
 unfoldable pub SpawnsOnDesk : ℕ → PtPid → PtPid → DeskState → DeskState → Type 0
 SpawnsOnDesk code before after old new =
     GivesCode code before after pid_out (λ r. Bears None None old.shard r new.shard) × StaysOnDesk old new
@@ -123,11 +129,11 @@ SendsOnDesk from to body code old new =
     (Calls from (Some (Event.Said from to (Signal.Message body))) tt old.shard r new.shard) old r new)
     × LooksOnDesk old new)
 
-unfoldable pub SendsExit : Pid → Pid → Reason → ℕ → DeskState → DeskState → Type 0
+unfoldable pub SendsExit : Pid → Pid → PtReason → ℕ → DeskState → DeskState → Type 0
 SendsExit from to reason code old new =
-    IfKnownCode (knows old.shard to) code (new ≡ old)
-    (AnswersCode code (λ r. Calls from (Some (Event.Said from to (Signal.Exit reason))) tt old.shard r new.shard)
-    × StaysOnDesk old new)
+    IfCrosses (reason_in reason) code (new ≡ old) (λ why. IfKnownCode (knows old.shard to) code (new ≡ old)
+    (AnswersCode code (λ r. Calls from (Some (Event.Said from to (Signal.Exit why))) tt old.shard r new.shard)
+    × StaysOnDesk old new))
 
 unfoldable pub Links : Pid → Pid → ℕ → DeskState → DeskState → Type 0
 Links p to code old new =
@@ -167,15 +173,16 @@ Traps p on code before after old new =
     (λ r. Calls p (Some (Event.Flag p on)) (state_in old.shard p).traps old.shard r new.shard)
     × StaysOnDesk old new
 
-unfoldable pub TakesOnDesk : Pid → Pick → ℕ → PtItem → PtItem → DeskState → DeskState → Type 0
+unfoldable pub TakesOnDesk : Pid → PtPick → ℕ → PtItem → PtItem → DeskState → DeskState → Type 0
 TakesOnDesk p pick code before after old new =
-    FindsCode code before after item_out
-    (λ r. Calls p (take_event old.shard p pick) (first_match old.shard p pick) old.shard r new.shard)
-    × StaysOnDesk old new
+    IfCrosses (pick_in pick) code ((new ≡ old) × (after ≡ before)) (λ fits. FindsCode code before after item_out
+    (λ r. Calls p (take_event old.shard p fits) (first_match old.shard p fits) old.shard r new.shard)
+    × StaysOnDesk old new)
 
-unfoldable pub Exits : Pid → Reason → ℕ → DeskState → DeskState → Type 0
+unfoldable pub Exits : Pid → PtReason → ℕ → DeskState → DeskState → Type 0
 Exits p reason code old new =
-    AnswersCode code (λ r. Calls p (Some (Event.Left p reason)) tt old.shard r new.shard) × StaysOnDesk old new
+    IfCrosses (reason_in reason) code (new ≡ old)
+    (λ why. AnswersCode code (λ r. Calls p (Some (Event.Left p why)) tt old.shard r new.shard) × StaysOnDesk old new)
 
 abbrev pub turned_out : Turned → PtTurned
 turned_out t = record { posted = t.posted; handled = t.handled; stopped = stop_code t.stopped }

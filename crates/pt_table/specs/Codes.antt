@@ -32,6 +32,10 @@ empty = 9
 abbrev pub filled : ℕ
 filled = 10
 
+-- a code in a struct that was passed in is none of its enumeration
+abbrev pub bad_code : ℕ
+bad_code = 16
+
 -- a setting is out of its range
 abbrev pub open_code : OpenError → ℕ
 open_code NoMemory = 2

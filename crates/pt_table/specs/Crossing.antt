@@ -108,12 +108,13 @@ ids_in_c one None = record { one = link_out one; has_two = false; two = no_ref }
 abbrev pub ids_out : Ids → PtIds
 ids_out ids = ids_in_c ids.one ids.two
 
-abbrev pub reason_in_c : ℕ → ℕ → Reason
+abbrev pub reason_in_c : ℕ → ℕ → Option Reason
 reason_in_c code n =
-    cond (code == 0) Normal (cond (code == 1) Kill (cond (code == 2) Killed (cond (code == 3) Noproc
-    (cond (code == 4) Shutdown (Other n)))))
+    cond (code == 0) (Some Normal) (cond (code == 1) (Some Kill) (cond (code == 2) (Some Killed)
+    (cond (code == 3) (Some Noproc) (cond (code == 4) (Some Shutdown) (cond (code == 5) (Some (Other n)) None)))))
 
-abbrev pub reason_in : PtReason → Reason
+-- none, where the code is that of no reason
+abbrev pub reason_in : PtReason → Option Reason
 reason_in r = reason_in_c r.code r.number
 
 abbrev pub reason_out : Reason → PtReason
@@ -140,12 +141,14 @@ body_in_c kind num None = record { kind = kind; num = num; has_who = false; who 
 abbrev pub body_out : Body → PtBody
 body_out b = body_in_c b.kind b.num b.who
 
-abbrev pub pick_in_c : ℕ → PtPick → Pick
+abbrev pub pick_in_c : ℕ → PtPick → Option Pick
 pick_in_c code k =
-    cond (code == 0) (Kind k.kind) (cond (code == 1) (From (pid_crossed k.pid)) (cond (code == 2) (ExitOf (pid_crossed k.pid))
-    (cond (code == 3) (DownOf (ref_in k.reference)) (cond (code == 4) (AliveOf (ref_in k.reference)) Any))))
+    cond (code == 0) (Some (Kind k.kind)) (cond (code == 1) (Some (From (pid_crossed k.pid)))
+    (cond (code == 2) (Some (ExitOf (pid_crossed k.pid))) (cond (code == 3) (Some (DownOf (ref_in k.reference)))
+    (cond (code == 4) (Some (AliveOf (ref_in k.reference))) (cond (code == 5) (Some Any) None)))))
 
-abbrev pub pick_in : PtPick → Pick
+-- none, where the code is that of no pick
+abbrev pub pick_in : PtPick → Option Pick
 pick_in k = pick_in_c k.code k
 
 abbrev pub pick_out : Pick → PtPick

@@ -23,6 +23,9 @@ pub const EMPTY: u32 = 9;
 /// A handle that must be empty is not.
 pub const FILLED: u32 = 10;
 
+/// A code in a struct that was passed in is none of its enumeration.
+pub const BAD_CODE: u32 = 16;
+
 pub fn code_of(fault: Fault) -> u32
     ensures { result ≡ code_of fault }
 {

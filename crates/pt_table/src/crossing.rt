@@ -78,21 +78,24 @@ pub fn ids_out(ids: Ids) -> PtIds
     }
 }
 
-pub fn reason_in(r: PtReason) -> Reason
+/// The reason; none if its code is that of no reason.
+pub fn reason_in(r: PtReason) -> Option<Reason>
     ensures { result ≡ reason_in r }
 {
     if r.code == 0 {
-        Reason::Normal
+        Some(Reason::Normal)
     } else if r.code == 1 {
-        Reason::Kill
+        Some(Reason::Kill)
     } else if r.code == 2 {
-        Reason::Killed
+        Some(Reason::Killed)
     } else if r.code == 3 {
-        Reason::Noproc
+        Some(Reason::Noproc)
     } else if r.code == 4 {
-        Reason::Shutdown
+        Some(Reason::Shutdown)
+    } else if r.code == 5 {
+        Some(Reason::Other(r.number))
     } else {
-        Reason::Other(r.number)
+        None
     }
 }
 
@@ -138,21 +141,24 @@ pub fn body_out(b: Body) -> PtBody
     }
 }
 
-pub fn pick_in(k: PtPick) -> Pick
+/// The pick; none if its code is that of no pick.
+pub fn pick_in(k: PtPick) -> Option<Pick>
     ensures { result ≡ pick_in k }
 {
     if k.code == 0 {
-        Pick::Kind(k.kind)
+        Some(Pick::Kind(k.kind))
     } else if k.code == 1 {
-        Pick::From(pid_in(k.pid))
+        Some(Pick::From(pid_in(k.pid)))
     } else if k.code == 2 {
-        Pick::ExitOf(pid_in(k.pid))
+        Some(Pick::ExitOf(pid_in(k.pid)))
     } else if k.code == 3 {
-        Pick::DownOf(ref_in(k.reference))
+        Some(Pick::DownOf(ref_in(k.reference)))
     } else if k.code == 4 {
-        Pick::AliveOf(ref_in(k.reference))
+        Some(Pick::AliveOf(ref_in(k.reference)))
+    } else if k.code == 5 {
+        Some(Pick::Any)
     } else {
-        Pick::Any
+        None
     }
 }
 

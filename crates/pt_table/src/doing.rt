@@ -1,13 +1,16 @@
 //! The calls of a desk, with the structs that cross in place of the table's values.
+//!
+//! A struct with a code is looked at before the desk is asked for anything. If the code is none of its enumeration, the
+//! call returns `BAD_CODE`, and nothing has changed.
 
 ghost use Rattle.std.specs.Prelude.{◌≡◌};
 ghost use Rattle.pt_table.specs.Answers.{SpawnsOnDesk, SpawnsChild, SendsOnDesk, SendsExit, Links, Unlinks, WatchesOnDesk, UnwatchesOnDesk, AsksOnDesk};
 ghost use Rattle.pt_table.specs.Answers.{Traps, TakesOnDesk, Exits, TurnsOnce};
 
-use crate::codes::{DONE, NOTHING, UNKNOWN, code_at, code_of, stop_code};
-use crate::crossing::{item_out, pid_out, ref_out};
-use crate::types::{PtItem, PtPid, PtRef, PtTurned};
-use pt_node::{Body, Desk, Pick, Pid, Reason, Ref};
+use crate::codes::{BAD_CODE, DONE, NOTHING, UNKNOWN, code_at, code_of, stop_code};
+use crate::crossing::{item_out, pick_in, pid_out, reason_in, ref_out};
+use crate::types::{PtItem, PtPick, PtPid, PtReason, PtRef, PtTurned};
+use pt_node::{Body, Desk, Pid, Ref};
 
 #[tactic(auto, unfolding(crate::specs::Answers::SpawnsOnDesk))]
 pub fn spawn(desk: &mut Desk, out: &mut PtPid) -> u32
@@ -46,9 +49,12 @@ pub fn send(desk: &mut Desk, from: Pid, to: Pid, body: Body) -> u32
 }
 
 #[tactic(auto, unfolding(crate::specs::Answers::SendsExit))]
-pub fn exit_signal(desk: &mut Desk, from: Pid, to: Pid, reason: Reason) -> u32
+pub fn exit_signal(desk: &mut Desk, from: Pid, to: Pid, reason: PtReason) -> u32
     ensures { SendsExit from to reason result desk.old desk.new }
 {
+    let Some(reason) = reason_in(reason) else {
+        return BAD_CODE;
+    };
     if !desk.knows(to) {
         return UNKNOWN;
     }
@@ -134,9 +140,12 @@ pub fn trap(desk: &mut Desk, p: Pid, on: bool, was: &mut bool) -> u32
 }
 
 #[tactic(auto, unfolding(crate::specs::Answers::TakesOnDesk))]
-pub fn receive(desk: &mut Desk, p: Pid, pick: Pick, out: &mut PtItem) -> u32
+pub fn receive(desk: &mut Desk, p: Pid, pick: PtPick, out: &mut PtItem) -> u32
     ensures { TakesOnDesk p pick result out.old out.new desk.old desk.new }
 {
+    let Some(pick) = pick_in(pick) else {
+        return BAD_CODE;
+    };
     match desk.receive(p, pick) {
         Ok(Some(item)) => {
             *out = item_out(item);
@@ -148,9 +157,12 @@ pub fn receive(desk: &mut Desk, p: Pid, pick: Pick, out: &mut PtItem) -> u32
 }
 
 #[tactic(auto, unfolding(crate::specs::Answers::Exits))]
-pub fn exit(desk: &mut Desk, p: Pid, reason: Reason) -> u32
+pub fn exit(desk: &mut Desk, p: Pid, reason: PtReason) -> u32
     ensures { Exits p reason result desk.old desk.new }
 {
+    let Some(reason) = reason_in(reason) else {
+        return BAD_CODE;
+    };
     code_at(desk.exit(p, reason))
 }
 

@@ -10,6 +10,8 @@
 //!
 //! - **Structs and codes.** Each value crosses to its struct and back, and each failure to its code. (`Crossing`,
 //!   `Codes`)
+//! - **Bad codes.** A pick or a reason with a code that means nothing is refused, before all that the desk would refuse,
+//!   and nothing has changed. (`IfCrosses`)
 //! - **Wake-ups.** `Woken` says which process is returned next. No event gives an item to any other process, or makes
 //!   it exit. (`NobodyIsMissed`)
 #![tactic(auto)]

@@ -32,7 +32,8 @@ pub struct PtIds {
     pub two: PtRef,
 }
 
-/// An exit reason. Code 0 is normal, 1 kill, 2 killed, 3 noproc, 4 shutdown, and any other is `number`.
+/// An exit reason. Code 0 is normal, 1 kill, 2 killed, 3 noproc, 4 shutdown, and 5 is `number`. A call that gets any
+/// other code refuses it as 16.
 #[repr(C)]
 #[derive(Clone, Copy)]
 pub struct PtReason {
@@ -75,7 +76,9 @@ pub struct PtItem {
 /// - 2: a trapped exit of `pid`;
 /// - 3: the DOWN of `reference`;
 /// - 4: the answer to the question `reference`;
-/// - any other: every item.
+/// - 5: every item.
+///
+/// A call that gets any other code refuses it as 16.
 #[repr(C)]
 #[derive(Clone, Copy)]
 pub struct PtPick {
