@@ -21,10 +21,11 @@ from pathlib import Path
 
 ROOT = Path(__file__).resolve().parent.parent
 BOUNDS = {"words": 0, "functions": 0, "prose": 0, "sentences": 0, "crates": 37}
-# the shell, the timers and names with their example, the explorer, and what was taken out of a crate so that its check holds less
+# the shell, the timers and names with their example, the explorer, and what was taken out of a crate so that its check holds less,
+# and the node that goes on by itself
 NEW = {
     "pt_lines", "pt_answers", "pt_session", "pt_shell", "pt_timers", "pt_names", "pt_schedules", "pt_explore", "pt_explorer",
-    "pt_workers", "pt_table", "test_recipes", "pt_registry", "example_exchange",
+    "pt_workers", "pt_table", "test_recipes", "pt_registry", "example_exchange", "pt_epochs",
 }
 MOST_LINES = 30
 MOST_LETTERS = 300

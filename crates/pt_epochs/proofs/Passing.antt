@@ -1,0 +1,106 @@
+-- Epochs, one behind the other.
+use Rattle.std.proofs.Common.{◌≡◌, ℕ, zero, suc, ◌<◌, Bool, List, [], max, Some, Ok, refl, sym, ap, ◌∙◌, subst}
+use Rattle.pt_events.specs.declared.event.Stamped.{Stamped}
+use Rattle.pt_events.specs.History.{Past}
+use Rattle.pt_gathered.specs.Gathered.{GatheredState}
+use Rattle.pt_gathered.specs.Settling.{NothingLeft}
+use Rattle.pt_shard.specs.ShardState.{ShardState}
+use Rattle.pt_desk.specs.DeskState.{DeskState}
+use Rattle.pt_workers.specs.Desks.{all_shards}
+use Rattle.pt_workers.specs.Stillness.{AreStill}
+use Rattle.pt_workers.specs.declared.stillness.Rested.{Rested}
+use Rattle.pt_workers.specs.declared.stillness.Stopped as stop
+use Rattle.pt_node.specs.Pasts.{GoOnFrom}
+use Rattle.pt_node.proofs.Leftless.{still_gathered}
+use Rattle.pt_crew.specs.declared.crew.Crew.{Crew}
+use Rattle.pt_crew.specs.Visiting.{Answers}
+use Rattle.pt_epochs.specs.declared.epochs.Plan.{Plan}
+use Rattle.pt_epochs.specs.declared.epochs.Pause.{Pause}
+use Rattle.pt_epochs.specs.declared.epochs.Pause.TheVariants.{Idle, Stopped, Full, Told, Asked, Spent}
+use Rattle.pt_epochs.specs.declared.epochs.Outcome.{Outcome}
+use Rattle.pt_epochs.specs.declared.epochs.Outcome.TheVariants as outcome
+use Rattle.pt_epochs.specs.Idle.{EndsBy, InTurns, Worked}
+use Rattle.pt_epochs.specs.Epochs.{AllAttend, AreOneHistory}
+use Rattle.pt_epochs.specs.Running.{EndsPaused, EndsRun, EndsWithOne, GoesFurther, Manned, PassEach, PassesOne, RunsToPause, outcome_of, worked}
+use Rattle.pt_epochs.proofs.Attending.{leg_attends, legs_attend, resumed_attends}
+use Rattle.pt_epochs.proofs.Whole.{ends_past, legs_past, nothing_yet, one_after}
+
+module _ {B : Type 0} (Runs : ℕ → List (DeskState × Crew B) → List (DeskState × Crew B) → Type 0) (plan : Plan) where
+  runs_past : (old : Worked (Crew B)) (pause : Pause) (new : Worked (Crew B)) → RunsToPause Runs plan old (Ok pause) new → (past : Past) → GoOnFrom past old.desks → GoOnFrom past new.desks
+  runs_past old Spent new r = legs_past Runs plan.budget (GoesFurther plan.events) r.0 old new r.1
+  runs_past old Idle new r = ends_past Runs plan.budget (GoesFurther plan.events) (max plan.turns 1) old (EndsPaused plan.events Idle) new r
+  runs_past old (Stopped s) new r = ends_past Runs plan.budget (GoesFurther plan.events) (max plan.turns 1) old (EndsPaused plan.events (Stopped s)) new r
+  runs_past old Full new r = ends_past Runs plan.budget (GoesFurther plan.events) (max plan.turns 1) old (EndsPaused plan.events Full) new r
+  runs_past old Told new r = ends_past Runs plan.budget (GoesFurther plan.events) (max plan.turns 1) old (EndsPaused plan.events Told) new r
+  runs_past old Asked new r = ends_past Runs plan.budget (GoesFurther plan.events) (max plan.turns 1) old (EndsPaused plan.events Asked) new r
+
+  -- unless a turn was stopped the node is still
+  pub runs_still : (old : Worked (Crew B)) (pause : Pause) (new : Worked (Crew B)) → ((s : stop.Stopped) → pause ≡ Stopped s → ⊥) → RunsToPause Runs plan old (Ok pause) new → AreStill new.desks
+  runs_still old Spent new on r = r.3.still
+  runs_still old Idle new on r = r.ends.1.still
+  runs_still old (Stopped s) new on r = absurd (on s refl)
+  runs_still old Full new on r = r.ends.1
+  runs_still old Told new on r = r.ends.1.still
+  runs_still old Asked new on r = r.ends.1.still
+
+  module _ {S : Type 0} (Takes Refuses : S → List Stamped → S → Type 0) where
+    pub passes_whole : (pause : Pause) (history : List Stamped) (old new : Manned B S) → PassesOne Runs plan Takes Refuses pause history old new → AreOneHistory history old.desks new.desks
+    passes_whole pause history old new p past from = p.ends.whole past (runs_past (worked old) pause p.ran p.runs past from)
+
+    pub each_whole : (n : ℕ) (all : List Stamped) (old new : Manned B S) → PassEach Runs plan Takes Refuses n all old new → AreOneHistory all old.desks new.desks
+    each_whole zero all old new h =
+        subst (λ (xs : List Stamped). AreOneHistory xs old.desks new.desks) (sym h.0) (subst (λ (m : Manned B S). AreOneHistory [] old.desks m.desks) (sym h.1) (nothing_yet old.desks))
+    each_whole (suc n) all old new (before, history, mid, pause, is, passed, one, goes) =
+        subst (λ (xs : List Stamped). AreOneHistory xs old.desks new.desks) (sym is)
+        (one_after before history old.desks mid.desks new.desks (each_whole n before old mid passed) (passes_whole pause history mid new one))
+
+    not_counted : (pause : Pause) → outcome_of pause ≡ Some outcome.Counted → ⊥
+    not_counted Idle is = absurd (cc)
+    not_counted (Stopped s) is = absurd (cc)
+    not_counted Full is = absurd (cc)
+    not_counted Told is = absurd (cc)
+    not_counted Asked is = absurd (cc)
+    not_counted Spent is = absurd (cc)
+
+    -- the run ends behind one more
+    pub ends_run : (most n : ℕ) (why : Outcome) (all : List Stamped) (old new : Manned B S) → n < most → EndsWithOne Runs plan Takes Refuses n why all old new → EndsRun Runs plan Takes Refuses most why all old new
+    ends_run most n outcome.Counted all old new within e = absurd (not_counted e.pause e.why_is)
+    ends_run most n outcome.Idle all old new within e = (n, within, e)
+    ends_run most n outcome.Told all old new within e = (n, within, e)
+
+module _ {B : Type 0} (answers : Answers B) (lets : ℕ → ℕ → Bool → Type 0) (plan : Plan) where
+  abbrev Runs : ℕ → List (DeskState × Crew B) → List (DeskState × Crew B) → Type 0
+  Runs = InTurns answers lets plan.budget
+
+  ends_attend : (Ends : Rested → Worked (Crew B) → Type 0) (old new : Worked (Crew B)) → EndsBy Runs plan.budget (GoesFurther plan.events) (max plan.turns 1) old Ends new → AllAttend old.works (all_shards old.desks) → AllAttend new.works (all_shards new.desks)
+  ends_attend Ends old new e a =
+      leg_attends answers lets plan.budget e.turns e.last e.did new e.leg (legs_attend answers lets plan.budget (GoesFurther plan.events) e.before old e.last e.legs a)
+
+  runs_attend : (old : Worked (Crew B)) (pause : Pause) (new : Worked (Crew B)) → RunsToPause Runs plan old (Ok pause) new → AllAttend old.works (all_shards old.desks) → AllAttend new.works (all_shards new.desks)
+  runs_attend old Spent new r a = legs_attend answers lets plan.budget (GoesFurther plan.events) r.0 old new r.1 a
+  runs_attend old Idle new r a = ends_attend (EndsPaused plan.events Idle) old new r a
+  runs_attend old (Stopped s) new r a = ends_attend (EndsPaused plan.events (Stopped s)) old new r a
+  runs_attend old Full new r a = ends_attend (EndsPaused plan.events Full) old new r a
+  runs_attend old Told new r a = ends_attend (EndsPaused plan.events Told) old new r a
+  runs_attend old Asked new r a = ends_attend (EndsPaused plan.events Asked) old new r a
+
+  module _ {S : Type 0} (Takes Refuses : S → List Stamped → S → Type 0) where
+    -- nobody's wake-up is lost over the end of an epoch
+    pub passes_attend : (pause : Pause) (history : List Stamped) (old new : Manned B S) → PassesOne Runs plan Takes Refuses pause history old new → AllAttend old.crews (all_shards old.desks) → AllAttend new.crews (all_shards new.desks)
+    passes_attend pause history old new p a =
+        let e = p.ends in
+        let over = e.over in
+        let ran : AllAttend p.ran.works (all_shards p.ran.desks) = runs_attend (worked old) pause p.ran p.runs a in
+        let nothing : NothingLeft e.gathered = still_gathered p.ran.desks e.gathered e.gathers p.still in
+        let shards : over.settled.shards ≡ all_shards p.ran.desks = ap (λ (g : GatheredState). g.shards) (over.same nothing) ∙ e.gathers.shards in
+        resumed_attends over.settled p.ran.works new.desks new.crews over.over.resumed (subst (λ (ss : List ShardState). AllAttend p.ran.works ss) (sym shards) ran)
+
+    pub each_attend : (n : ℕ) (all : List Stamped) (old new : Manned B S) → PassEach Runs plan Takes Refuses n all old new → AllAttend old.crews (all_shards old.desks) → AllAttend new.crews (all_shards new.desks)
+    each_attend zero all old new h a = subst (λ (m : Manned B S). AllAttend m.crews (all_shards m.desks)) (sym h.1) a
+    each_attend (suc n) all old new (before, history, mid, pause, is, passed, one, goes) a =
+        passes_attend pause history mid new one (each_attend n before old mid passed a)
+
+    pub run_attends : (most : ℕ) (why : Outcome) (all : List Stamped) (old new : Manned B S) → EndsRun Runs plan Takes Refuses most why all old new → AllAttend old.crews (all_shards old.desks) → AllAttend new.crews (all_shards new.desks)
+    run_attends most outcome.Counted all old new h a = each_attend most all old new h a
+    run_attends most outcome.Idle all old new (n, within, e) a = passes_attend e.pause e.history e.mid new e.last (each_attend n e.before old e.mid e.passed a)
+    run_attends most outcome.Told all old new (n, within, e) a = passes_attend e.pause e.history e.mid new e.last (each_attend n e.before old e.mid e.passed a)

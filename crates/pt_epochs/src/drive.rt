@@ -1,0 +1,58 @@
+//! How the crews of a node are run for some turns.
+
+ghost use Rattle.std.specs.Prelude.{ℕ, Bool};
+ghost use Rattle.pt_workers.specs.NodeRunning.{RunsNode};
+ghost use Rattle.pt_workers.specs.Running.{AllWork, begins_by};
+ghost use Rattle.pt_workers.specs.declared.work.Standing.TheVariants.{Going};
+ghost use Rattle.pt_crew.specs.Running.{CrewsDo};
+
+use pt_crew::{Behaviour, Crew};
+use pt_node::{FreeGate, Node, RunFault};
+
+/// How the crews of a node are run for some turns: by [`Rounds`] on the calling thread.
+///
+/// The ghost member `lets` says which turns may begin, as that of a [`Gate`](pt_node::Gate).
+pub trait Drive<B: Behaviour + Drop> {
+    ghost lets: { Self → ℕ → ℕ → Bool → Type 0 };
+
+    /// Runs each crew for up to so many turns, each over the desk at its place.
+    ///
+    /// Fails with `Works` exactly if there are not as many crews as desks, else with `Memory` if there is none.
+    fn drive(
+        &self,
+        node: &mut Node,
+        crews: &mut Vec<Crew<B>>,
+        turns: u64,
+        budget: u32,
+    ) -> Result<(), RunFault>
+        ensures { RunsNode
+            (AllWork (begins_by (λ _. Going) (lets self.now)) (CrewsDo B.answers) turns budget)
+            node.old crews.old.items result node.new crews.new.items };
+
+    /// The most turns that it is worth while to take before it is looked whether the crews are idle.
+    fn longest(&self) -> u64;
+}
+
+/// Runs the crews on the calling thread, in rounds, as [`Node::run_single`] does. Each takes all its turns.
+#[derive(Clone, Copy, Debug)]
+pub struct Rounds;
+
+impl<B: Behaviour + Drop> Drive<B> for Rounds {
+    ghost use Rattle.pt_workers.specs.Running.{always};
+
+    ghost lets = { λ _ desk turn begins. always desk turn begins };
+
+    fn drive(
+        &self,
+        node: &mut Node,
+        crews: &mut Vec<Crew<B>>,
+        turns: u64,
+        budget: u32,
+    ) -> Result<(), RunFault> {
+        node.run_single(crews, turns, budget, &FreeGate)
+    }
+
+    fn longest(&self) -> u64 {
+        64
+    }
+}
