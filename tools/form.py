@@ -24,7 +24,7 @@ BOUNDS = {"words": 0, "functions": 0, "prose": 0, "sentences": 0, "crates": 37}
 # the shell, the timers and names with their example, the explorer, and what was taken out of a crate so that its check holds less
 NEW = {
     "pt_lines", "pt_answers", "pt_session", "pt_shell", "pt_timers", "pt_names", "pt_schedules", "pt_explore", "pt_explorer",
-    "pt_workers", "pt_table", "test_recipes", "pt_registry", "example_exchange",
+    "pt_workers", "pt_table", "test_recipes", "pt_registry", "pt_hands", "example_exchange",
 }
 MOST_LINES = 30
 MOST_LETTERS = 300
