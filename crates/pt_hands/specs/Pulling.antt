@@ -58,7 +58,7 @@ abbrev pub exit_in : Pid → List Stamped → Option Reason
 exit_in p [] = None
 exit_in p (s ∷ journal) = exit_by p s.event (exit_in p journal)
 
--- of one that left without an event of the journal, as in settling, it is Noproc
+-- of one that left without such an event, as one that a signal ended, it is Noproc
 abbrev pub exit_reason : Pid → List Stamped → Reason
 exit_reason p journal = unwrap_or (exit_in p journal) Noproc
 

@@ -21,8 +21,8 @@ pub enum What {
     /// It has exited with this reason, and this was what it was to do: `Stop` if it was to exit, and `Running` if it had
     /// been told something that nobody answered. It is told nothing after this.
     ///
-    /// The reason is that of the journal of its desk. It is `Noproc` if the process exited while its node was settled,
-    /// which no journal tells.
+    /// The reason is that of its own exit in the desk's journal: the one that it stopped with, or that a call of `exit`
+    /// gave. It is `Noproc` if an exit signal ended the process, or if it exited while its node was settled.
     Exit(Reason, Next),
 }
 
