@@ -1,0 +1,5 @@
+-- The lemmas of the crate.
+pub mod Noting
+pub mod Coming
+pub mod Pulls
+pub mod Filling

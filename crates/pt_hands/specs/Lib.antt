@@ -1,0 +1,2 @@
+pub mod Pulling
+pub mod Taking

@@ -1,0 +1,164 @@
+-- What is handed out of a crew whose handlers are outside, and what is told of those that left it.
+use Rattle.std.specs.Prelude.{◌≡◌, ◌⊎◌, ℕ, cond, Bool, true, false, List, [], ◌∷◌, ◌++◌, length, drop, Option, Some, None, unwrap_or}
+use Rattle.std.specs.List.{IsDistinct}
+use Rattle.std.specs.Option.{option_map}
+use Rattle.pt_signal.specs.declared.pid.Pid.{Pid}
+use Rattle.pt_signal.specs.declared.item.Item.{Item}
+use Rattle.pt_signal.specs.declared.reason.Reason.{Reason}
+use Rattle.pt_signal.specs.declared.reason.Reason.TheVariants.{Noproc}
+use Rattle.pt_signal.specs.Values.{same_pid}
+use Rattle.pt_events.specs.declared.event.Event.{Event}
+use Rattle.pt_events.specs.declared.event.Event.TheVariants.{Left}
+use Rattle.pt_events.specs.declared.event.Stamped.{Stamped}
+use Rattle.pt_shard.specs.ShardState.{ShardState}
+use Rattle.pt_crew.specs.declared.behaviour.Next.{Next}
+use Rattle.pt_crew.specs.declared.behaviour.Next.TheVariants.{Proceed, Running, Stop}
+use Rattle.pt_crew.specs.declared.births.Role.{Role}
+use Rattle.pt_crew.specs.declared.crew.Crew.{Crew}
+use Rattle.pt_crew.specs.Visiting.{Answers, takes}
+use Rattle.pt_crew.specs.Handing.{MayBeHanded, item_handed}
+use Rattle.pt_crew.specs.Crews.{Attends, left, queue, roles, time_of, waiting, was_refused}
+use Rattle.pt_hands.specs.declared.hand.Hand.{Hand}
+use Rattle.pt_hands.specs.declared.hand.Job.{Job}
+use Rattle.pt_hands.specs.declared.hand.What.{What}
+use Rattle.pt_hands.specs.declared.hand.What.TheVariants.{Start, Proceed as Proceeds, Item as Gets, Timeout, Exit}
+use Rattle.pt_hands.specs.declared.hands.Hands.{Hands}
+
+-- what a hand answers: it has what its process was handed, which is running
+abbrev pub hand_answers : Answers Hand
+hand_answers old d me item next new e bore =
+    (next ≡ Running) × (new ≡ record old { handed = Some item }) × (e ≡ d) × (bore ≡ [])
+
+-- the hand of a process that begins
+abbrev pub new_hand : ℕ → Hand
+new_hand tag = record { tag = tag; begun = false; handed = None; ended = None }
+
+-- what a process is told that was handed this, by whether it has begun and what it was to do
+abbrev pub what_of : Bool → Option Next → Option Item → What
+what_of begun before (Some item) = Gets item
+what_of begun (Some Proceed) None = cond begun Proceeds Start
+what_of begun before None = Timeout
+
+-- of a process that left, and was alive or not as it was come to
+abbrev pub reason_told : Bool → Next → Option Reason → Reason
+reason_told true (Stop r) ended = r
+reason_told alive next (Some r) = r
+reason_told alive next None = Noproc
+
+abbrev pub job_of_exit : Bool → Role Hand → Job
+job_of_exit alive l =
+    record { pid = l.pid; tag = l.behaviour.tag; what = Exit (reason_told alive l.next l.behaviour.ended) l.next }
+
+-- the reason with which a process left by the journal, whose newest event is in front
+abbrev pub exit_by : Pid → Event → Option Reason → Option Reason
+exit_by p (Left q r) before = cond (same_pid q p) (Some r) before
+exit_by p e before = before
+
+abbrev pub exit_in : Pid → List Stamped → Option Reason
+exit_in p [] = None
+exit_in p (s ∷ journal) = exit_by p s.event (exit_in p journal)
+
+-- of one that left without such an event, as one that a signal ended, it is Noproc
+abbrev pub exit_reason : Pid → List Stamped → Reason
+exit_reason p journal = unwrap_or (exit_in p journal) Noproc
+
+-- the crew of the hands
+abbrev pub crew_of : Hands → Crew Hand
+crew_of h = h.crew
+
+-- what is known of a process: its tag, whether it was told anything, and what it does next
+pub record HandView : Type 0 where
+  pub tag : ℕ
+  pub begun : Bool
+  pub next : Next
+
+abbrev pub hand_view : Hand × Next → HandView
+hand_view r = record { tag = r.0.tag; begun = r.0.begun; next = r.1 }
+
+abbrev pub hand_views : Hands → Pid → Option HandView
+hand_views h p = option_map hand_view (roles h.crew p)
+
+abbrev pub SameViews : Hands → Hands → Type 0
+SameViews old new = (q : Pid) → hand_views new q ≡ hand_views old q
+
+-- p is so, or gone, and all others stay
+abbrev pub AreViewed : Pid → Option HandView → Hands → Hands → Type 0
+AreViewed p view old new = (q : Pid) → hand_views new q ≡ cond (same_pid p q) view (hand_views old q)
+
+-- Of the journal, `seen` was read. Each hand has the reason with which its process left in it.
+pub record Noted (h : Hands) (d : ShardState) : Type 0 where
+  pub more : List Stamped
+  pub seen : List Stamped
+  pub journal : d.journal ≡ more ++ seen
+  pub counted : length seen ≡ h.read
+  pub ends : (p : Pid) (b : Hand) (n : Next) → roles h.crew p ≡ Some (b, n) → b.ended ≡ exit_in p seen
+
+-- The hands are those of this desk. They are so as they are made, and each call leaves them so. No hand holds anything.
+pub record AttendsHands (h : Hands) (d : ShardState) : Type 0 where
+  pub crew : Attends h.crew d
+  pub empty : (p : Pid) (b : Hand) (n : Next) → roles h.crew p ≡ Some (b, n) → b.handed ≡ None
+  pub left : left h.crew ≡ []
+  pub born : waiting h.crew ≡ []
+  pub noted : Noted h d
+
+-- p is told what it was handed, and is running then: an item that was taken out of its mailbox, or none
+pub record HandsOut (p : Pid) (old : Hands) (d : ShardState) (job : Job) (new : Hands) (e : ShardState) : Type 0 where
+  pub view : HandView
+  pub was : hand_views old p ≡ Some view
+  pub item : Option Item
+  pub may : MayBeHanded (time_of old.crew) view.next item
+  pub says : job ≡ record { pid = p; tag = view.tag; what = what_of view.begun (Some view.next) item }
+  pub now : AreViewed p (Some (record { tag = view.tag; begun = true; next = Running })) old new
+  pub takes : takes e.journal ≡ item_handed p item ++ takes d.journal
+
+-- p has exited, and is none of the crew then
+pub record TellsExit (p : Pid) (old : Hands) (d : ShardState) (job : Job) (new : Hands) (e : ShardState) : Type 0 where
+  pub view : HandView
+  pub was : hand_views old p ≡ Some view
+  pub says : job ≡ record { pid = p; tag = view.tag; what = Exit (exit_reason p e.journal) view.next }
+  pub now : AreViewed p None old new
+  pub takes : takes e.journal ≡ takes d.journal
+
+-- p gets nothing: it leaves the queue; or it goes behind it, where memory or stamps were refused
+pub record StaysPut (p : Pid) (rest : List Pid) (old : Hands) (d : ShardState) (new : Hands) (e : ShardState) : Type 0 where
+  pub views : SameViews old new
+  pub desk : e ≡ d
+  pub queue : (queue new.crew ≡ rest) ⊎ ((queue new.crew ≡ rest ++ p ∷ []) × (was_refused new.crew ≡ true))
+
+-- the first of the queue is come to, if there is one
+abbrev pub PullsFirst : List Pid → Hands → ShardState → Option Job → Hands → ShardState → Type 0
+PullsFirst [] old d job new e = (job ≡ None) × SameViews old new × (queue new.crew ≡ []) × (e ≡ d)
+PullsFirst (p ∷ rest) old d (Some job) new e =
+    (HandsOut p old d job new e ⊎ TellsExit p old d job new e) × (back : List Pid) × (queue new.crew ≡ rest ++ back)
+PullsFirst (p ∷ rest) old d None new e = StaysPut p rest old d new e
+
+abbrev pub Pulls : Hands → ShardState → Option Job → Hands → ShardState → Type 0
+Pulls old d job new e = PullsFirst (queue old.crew) old d job new e
+
+-- so one after the other
+abbrev pub PullsAll : List (Option Job) → Hands → ShardState → Hands → ShardState → Type 0
+PullsAll [] old d new e = (new ≡ old) × (e ≡ d)
+PullsAll (job ∷ pulled) old d new e =
+    (mid : Hands) × (f : ShardState) × Pulls old d job mid f × PullsAll pulled mid f new e
+
+-- the jobs among them
+abbrev pub jobs_of : List (Option Job) → List Job
+jobs_of [] = []
+jobs_of (None ∷ pulled) = jobs_of pulled
+jobs_of (Some job ∷ pulled) = job ∷ jobs_of pulled
+
+abbrev pub pids_told : List Job → List Pid
+pids_told [] = []
+pids_told (job ∷ jobs) = job.pid ∷ pids_told jobs
+
+-- Pulls, until each process that stood in the queue was come to once, or the slice is full. The jobs stand in front of
+-- it, and what stood behind them stays.
+pub record Fills (jobs : List Job) (old : Hands) (d : ShardState) (count : ℕ) (later : List Job) (new : Hands)
+    (e : ShardState) : Type 0 where
+  pub pulled : List (Option Job)
+  pub pulls : PullsAll pulled old d new e
+  pub counted : count ≡ length (jobs_of pulled)
+  pub wrote : later ≡ jobs_of pulled ++ drop count jobs
+  pub stops : (length pulled ≡ length (queue old.crew)) ⊎ (count ≡ length jobs)
+  -- no process is in it twice
+  pub once : IsDistinct same_pid (pids_told (jobs_of pulled))

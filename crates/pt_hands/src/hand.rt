@@ -1,0 +1,174 @@
+//! A process whose handler is outside, and what it is told.
+
+ghost use Rattle.std.specs.Prelude.{◌≡◌, [], Some, None, false, true, unwrap_or};
+ghost use Rattle.pt_crew.specs.declared.behaviour.Next.TheVariants.{Running};
+ghost use Rattle.pt_hands.specs.Pulling.{hand_answers, job_of_exit, reason_told, what_of};
+
+use pt_crew::{Behaviour, Births, Next, Role};
+use pt_workers::{Desk, Item, Pid, Reason};
+
+/// What a process is told.
+#[derive(Clone, Copy, Debug, PartialEq, Eq)]
+pub enum What {
+    /// It begins: it proceeds, and has been told nothing before.
+    Start,
+    /// It proceeds, as it was answered.
+    Proceed,
+    /// It gets this item, which matches what it waited for.
+    Item(Item),
+    /// The time until which it waited has come, and no item matches.
+    Timeout,
+    /// It has exited with this reason, and this was what it was to do: `Stop` if it was to exit, and `Running` if it had
+    /// been told something that nobody answered. It is told nothing after this.
+    ///
+    /// The reason is that of its own exit in the desk's journal: the one that it stopped with, or that a call of `exit`
+    /// gave. It is `Noproc` if an exit signal ended the process, or if it exited while its node was settled.
+    Exit(Reason, Next),
+}
+
+/// What a process is told, and which process it is.
+#[derive(Clone, Copy, Debug, PartialEq, Eq)]
+pub struct Job {
+    pub pid: Pid,
+    pub tag: u64,
+    pub what: What,
+}
+
+/// What a crew has of a process whose handler is outside. It is public since the definitions name it; no call returns
+/// one.
+#[derive(Drop)]
+pub struct Hand {
+    tag: u64,
+    /// Whether it has been told anything.
+    begun: bool,
+    /// What it was handed, until it is told: an item, or `None` if it proceeds or its time has come.
+    handed: Option<Option<Item>>,
+    /// The reason with which it exited, once that was read in the journal.
+    ended: Option<Reason>,
+}
+
+impl Hand {
+    /// One that begins.
+    #[inline(always)]
+    pub(crate) fn new(tag: u64) -> Hand
+        ensures { result ≡ record { tag = tag; begun = false; handed = None; ended = None } }
+    {
+        Hand {
+            tag,
+            begun: false,
+            handed: None,
+            ended: None,
+        }
+    }
+
+    /// Its tag.
+    #[inline(always)]
+    pub(crate) fn tag(&self) -> u64
+        ensures { result ≡ self.now.tag }
+    {
+        self.tag
+    }
+
+    /// The same hand, whose process has exited with this reason.
+    #[inline(always)]
+    pub(crate) fn with_end(&self, reason: Reason) -> Hand
+        ensures { result ≡ record self.now { ended = Some reason } }
+    {
+        Hand {
+            tag: self.tag,
+            begun: self.begun,
+            handed: self.handed,
+            ended: Some(reason),
+        }
+    }
+
+    /// The same hand, which holds nothing any more.
+    #[inline(always)]
+    pub(crate) fn emptied(&self) -> Hand
+        ensures { result ≡ record self.now { begun = true; handed = None } }
+    {
+        let handed = None;
+        Hand {
+            tag: self.tag,
+            begun: true,
+            handed,
+            ended: self.ended,
+        }
+    }
+
+    /// What it holds.
+    #[inline(always)]
+    pub(crate) fn handed(&self) -> Option<Option<Item>>
+        ensures { result ≡ self.now.handed }
+    {
+        self.handed
+    }
+
+    /// What its process is told, which was to do this, and was handed this item or none.
+    #[inline(always)]
+    pub(crate) fn what(&self, before: Option<Next>, item: Option<Item>) -> What
+        ensures { result ≡ what_of self.now.begun before item }
+    {
+        match (item, before) {
+            (Some(item), _) => What::Item(item),
+            (None, Some(Next::Proceed)) => {
+                if self.begun {
+                    What::Proceed
+                } else {
+                    What::Start
+                }
+            }
+            (None, _) => What::Timeout,
+        }
+    }
+}
+
+/// The reason of a process that left, and was alive or not as it was come to: that with which it stopped, or the one that
+/// was noted.
+fn reason_of(next: Next, alive: bool, ended: Option<Reason>) -> Reason
+    ensures { result ≡ reason_told alive next ended }
+{
+    match next {
+        Next::Stop(reason) => { if alive { reason } else { noted_reason(ended) } }
+        Next::Wait(_) | Next::WaitUntil(_, _) | Next::Proceed | Next::Running => noted_reason(
+            ended,
+        ),
+    }
+}
+
+/// The reason that was noted, or `Noproc` if none was.
+fn noted_reason(ended: Option<Reason>) -> Reason
+    ensures { result ≡ unwrap_or ended Reason.Noproc }
+{
+    match ended {
+        Some(reason) => reason,
+        None => Reason::Noproc,
+    }
+}
+
+/// What is told of a process that left, and was alive or not as it was come to.
+pub(crate) fn job_of_exit(left: Role<Hand>, alive: bool) -> Job
+    ensures { result ≡ job_of_exit alive left }
+{
+    let reason = reason_of(left.next, alive, left.behaviour.ended);
+    Job {
+        pid: left.pid,
+        tag: left.behaviour.tag,
+        what: What::Exit(reason, left.next),
+    }
+}
+
+impl Behaviour for Hand {
+    ghost answers = { hand_answers };
+
+    fn handle(
+        &mut self,
+        _desk: &mut Desk,
+        _births: &mut Births<Hand>,
+        _me: Pid,
+        item: Option<Item>,
+    ) -> Next {
+        self.handed = Some(item);
+        Next::Running
+    }
+}

@@ -1,0 +1,297 @@
+//! The processes of one desk whose handlers are outside.
+
+ghost use Rattle.std.specs.Prelude.{◌≡◌, ◌<◌, ◌≤◌, ◌+◌, IfOk, IsOk, MatchBool, None, OnErr, OnOk, Some, [], length};
+ghost use Rattle.std.specs.Option.{option_map};
+ghost use Rattle.pt_signal.specs.declared.pid.Pid.{Pid};
+ghost use Rattle.pt_shard.specs.ShardState.{ShardState};
+ghost use Rattle.pt_shard.specs.Extends.{Extends};
+ghost use Rattle.pt_desk.specs.DeskState.{GoesOn};
+ghost use Rattle.pt_crew.specs.Visiting.{AreSame};
+ghost use Rattle.pt_crew.specs.Crews.{Enters, IsNextTime, IsSame, KeepsRest, crew_size, queue, roles, time_of};
+ghost use Rattle.pt_crew.specs.Crews.{left, waiting, was_refused};
+ghost use Rattle.pt_crew.specs.Running.{is_idle};
+ghost use Rattle.pt_crew.specs.Stepping.{BeginsStep, EndsStep, EntersChild, IsAnswered, first_of, is_running};
+ghost use Rattle.pt_hands.specs.Pulling.{AttendsHands, Fills, HandView, Pulls, SameViews, crew_of, hand_views};
+ghost use Rattle.pt_events.specs.declared.event.Event.TheVariants.{Left};
+ghost use Rattle.pt_hands.specs.Pulling.{new_hand};
+ghost use Rattle.pt_hands.specs.Taking.{IsAllNoted, NotesExit, PullsInto, TakesJob};
+
+use crate::hand::{Hand, Job, job_of_exit};
+use pt_crew::{Crew, Next};
+use pt_workers::{Desk, Event, Fault, Pid, Reason};
+use std::alloc::{AllocError, Global};
+
+/// The processes of one desk whose handlers are outside.
+///
+/// Its contracts speak of the crew that it is ([`crew_of`]), and of what is known of each process: its tag, whether it
+/// has been told anything, and what it does next.
+#[derive(Drop)]
+pub struct Hands {
+    crew: Crew<Hand>,
+    /// The number of events of the journal whose exits were noted.
+    read: usize,
+}
+
+impl Hands {
+    /// No processes yet. It has read nothing of the journal of its desk.
+    pub fn new(alloc: Global) -> Hands
+        ensures attends { (d : ShardState) → AttendsHands result d }
+        ensures nobody { (p : Pid) → roles (crew_of result) p ≡ None }
+        ensures queue { queue (crew_of result) ≡ [] }
+        ensures time { time_of (crew_of result) ≡ 0 }
+    {
+        Hands {
+            crew: Crew::new(alloc, 1),
+            read: 0,
+        }
+    }
+
+    /// The number of its processes.
+    pub fn len(&self) -> usize
+        ensures { result ≡ crew_size (crew_of self.now) }
+    {
+        self.crew.len()
+    }
+
+    /// The number of processes that may have something to do.
+    pub fn queued(&self) -> usize
+        ensures { result ≡ length (queue (crew_of self.now)) }
+    {
+        self.crew.queued()
+    }
+
+    /// The tag of a process, or `None` if it is none of these.
+    pub fn tag(&self, p: Pid) -> Option<u64>
+        ensures { result ≡ option_map (λ v. v.tag) (hand_views self.now p) }
+    {
+        match self.crew.behaviour(p) {
+            Some(hand) => Some(hand.tag()),
+            None => None,
+        }
+    }
+
+    /// What a process does next, or `None` if it is none of these. It is `Running` if it was told something and has not
+    /// been answered.
+    pub fn next(&self, p: Pid) -> Option<Next>
+        ensures { result ≡ option_map (λ v. v.next) (hand_views self.now p) }
+    {
+        self.crew.next(p)
+    }
+
+    /// Whether the queue is empty, and all that happened on its desk was read.
+    pub fn is_idle(&self, desk: &Desk) -> bool
+        ensures { result ≡ is_idle (crew_of self.now) desk.now.shard }
+    {
+        self.crew.is_idle(desk)
+    }
+
+    /// The earliest time until which a process waits that is not in the queue, or `None` if there is no such process.
+    pub fn next_time(&self) -> Option<u64>
+        ensures { (d : ShardState) → AttendsHands self.now d → IsNextTime (crew_of self.now) result }
+    {
+        self.crew.next_time()
+    }
+
+    /// Whether a process has been refused memory or a stamp since the step began. It is in the queue still.
+    pub fn refused(&self) -> bool
+        ensures { result ≡ was_refused (crew_of self.now) }
+    {
+        self.crew.refused()
+    }
+
+    /// Says what time it is in the calls that follow, in the program's own unit. It is 0 before the first call.
+    pub fn set_time(&mut self, now: u64)
+        ensures time { time_of (crew_of self.new) ≡ now }
+        ensures attends { (d : ShardState) → AttendsHands self.old d → AttendsHands self.new d }
+        ensures roles { AreSame (roles (crew_of self.old)) (roles (crew_of self.new)) }
+        ensures queue { queue (crew_of self.new) ≡ queue (crew_of self.old) }
+        ensures refused { was_refused (crew_of self.new) ≡ was_refused (crew_of self.old) }
+    {
+        self.crew.set_time(now);
+    }
+
+    /// Spawns a process on the desk with this tag, which does this first. If that is `Proceed`, its first job is
+    /// [`What::Start`](crate::What::Start).
+    ///
+    /// It fails as [`Desk::spawn`] does, and with `Memory` if there is none here; then nothing has changed.
+    pub fn spawn(&mut self, desk: &mut Desk, tag: u64, first: Next) -> Result<Pid, Fault>
+        ensures does { Enters (new_hand tag) first (crew_of self.old) desk.old.shard result (crew_of self.new)
+            desk.new.shard }
+        ensures attends { AttendsHands self.old desk.old.shard → AttendsHands self.new desk.new.shard }
+        ensures goes_on { GoesOn desk.old desk.new }
+    {
+        let pid = self.crew.enter(desk, Hand::new(tag), first)?;
+        let _lawful = desk.journal();
+        Ok(pid)
+    }
+
+    /// Spawns a child of the parent with this tag on the desk, linked with it if `linked` is true. The child does this
+    /// first.
+    ///
+    /// It fails as [`Desk::spawn_child`] does, and with `Memory` if there is none here; then nothing has changed.
+    pub fn spawn_child(
+        &mut self,
+        desk: &mut Desk,
+        parent: Pid,
+        linked: bool,
+        tag: u64,
+        first: Next,
+    ) -> Result<Pid, Fault>
+        ensures does { EntersChild parent linked (new_hand tag) first (crew_of self.old) desk.old.shard result
+            (crew_of self.new) desk.new.shard }
+        ensures attends { AttendsHands self.old desk.old.shard → AttendsHands self.new desk.new.shard }
+        ensures goes_on { GoesOn desk.old desk.new }
+    {
+        let pid = self
+            .crew
+            .enter_child(desk, parent, linked, Hand::new(tag), first)?;
+        let _lawful = desk.journal();
+        Ok(pid)
+    }
+
+    /// Begins a step: it reads what is new in the desk's journal, and wakes each process whose time has come. What the
+    /// desk did since the last call, such as a turn, is read now.
+    pub fn begin_step(&mut self, desk: &Desk)
+        ensures begins { BeginsStep (crew_of self.old) desk.now.shard (crew_of self.new) }
+        ensures attends { (d : ShardState) → Extends d desk.now.shard → AttendsHands self.old d
+            → AttendsHands self.new desk.now.shard }
+    {
+        self.crew.begin_step(desk);
+    }
+
+    /// Ends a step: it reads what is new in the desk's journal, so that each process that has something to do is in the
+    /// queue.
+    pub fn end_step(&mut self, desk: &Desk)
+        ensures ends { EndsStep (crew_of self.old) desk.now.shard (crew_of self.new) }
+        ensures attends { AttendsHands self.old desk.now.shard → AttendsHands self.new desk.now.shard }
+    {
+        self.crew.end_step(desk);
+    }
+
+    /// Says what a running process does next. It joins the queue's end.
+    ///
+    /// It returns `false`, and nothing has changed, if the process is not running or is none of these. It fails for
+    /// want of memory only if this attends no desk.
+    pub fn answer(&mut self, p: Pid, next: Next) -> Result<bool, AllocError>
+        ensures is { IfOk result (λ yes. yes ≡ is_running (roles (crew_of self.old) p)) }
+        ensures answered { IfOk result (λ yes. MatchBool yes (IsAnswered p next (crew_of self.old) (crew_of self.new))
+            (IsSame (crew_of self.old) (crew_of self.new))) }
+        ensures refused { OnErr result (IsSame (crew_of self.old) (crew_of self.new)) }
+        ensures ok { (d : ShardState) → AttendsHands self.old d → IsOk result }
+        ensures attends { (d : ShardState) → AttendsHands self.old d → AttendsHands self.new d }
+    {
+        self.crew.answer(p, next)
+    }
+
+    /// Runs the process in front of the queue, and returns what it is told. A process that has exited is told of once.
+    ///
+    /// It returns `None` if the queue is empty, or the process gets nothing: no item matches, or there was no memory or
+    /// no stamp. In the latter case it is in the queue still, and `refused` is true.
+    pub fn pull(&mut self, desk: &mut Desk) -> Option<Job>
+        ensures does { AttendsHands self.old desk.old.shard
+            → Pulls self.old desk.old.shard result self.new desk.new.shard }
+        ensures attends { AttendsHands self.old desk.old.shard → AttendsHands self.new desk.new.shard }
+        ensures time { time_of (crew_of self.new) ≡ time_of (crew_of self.old) }
+        ensures goes_on { GoesOn desk.old desk.new }
+    {
+        let p = self.crew.first()?;
+        self.note(desk);
+        let before = self.crew.next(p);
+        let alive = desk.alive_here(p);
+        self.crew.run_first(desk);
+        match self.crew.take_left() {
+            Some(left) => Some(job_of_exit(left, alive)),
+            None => self.take_job(p, before),
+        }
+    }
+
+    /// Runs the processes that are in the queue now, in order, until the slice is full. It writes what they are told to
+    /// the front of the slice, and returns how many jobs these are. What is behind them in the slice stays.
+    ///
+    /// A process is in a slice once at most.
+    pub fn fill(&mut self, desk: &mut Desk, jobs: &mut [Job]) -> usize
+        ensures does { AttendsHands self.old desk.old.shard
+            → Fills jobs.old self.old desk.old.shard result jobs.new self.new desk.new.shard }
+        ensures attends { AttendsHands self.old desk.old.shard → AttendsHands self.new desk.new.shard }
+        ensures time { time_of (crew_of self.new) ≡ time_of (crew_of self.old) }
+        ensures goes_on { GoesOn desk.old desk.new }
+    {
+        let mut filled = 0;
+        for _place in 0..self.crew.queued() {
+            if filled >= jobs.len() {
+                return filled;
+            }
+            filled = self.pull_into(desk, jobs, filled);
+        }
+        filled
+    }
+
+    /// Pulls, and writes the job to that place of the slice, if there is one. It returns the place of the next.
+    fn pull_into(&mut self, desk: &mut Desk, jobs: &mut [Job], place: usize) -> usize
+        requires { place < length jobs.old }
+        ensures does { AttendsHands self.old desk.old.shard
+            → PullsInto place jobs.old self.old desk.old.shard result jobs.new self.new desk.new.shard }
+        ensures attends { AttendsHands self.old desk.old.shard → AttendsHands self.new desk.new.shard }
+        ensures time { time_of (crew_of self.new) ≡ time_of (crew_of self.old) }
+        ensures len { length jobs.new ≡ length jobs.old }
+        ensures within { result ≤ place + 1 }
+        ensures goes_on { GoesOn desk.old desk.new }
+    {
+        match self.pull(desk) {
+            Some(job) => {
+                jobs[place] = job;
+                place + 1
+            }
+            None => place,
+        }
+    }
+
+    /// Notes the exits that are new in the desk's journal.
+    fn note(&mut self, desk: &Desk)
+        ensures noted { AttendsHands self.old desk.now.shard → IsAllNoted self.old desk.now.shard self.new }
+        ensures time { time_of (crew_of self.new) ≡ time_of (crew_of self.old) }
+    {
+        let events = desk.journal().events();
+        while self.read < events.len() {
+            self.note_exit(&events[self.read].event);
+            self.read += 1;
+        }
+    }
+
+    /// Notes the exit, if one of the processes exited by the event.
+    fn note_exit(&mut self, event: &Event)
+        ensures { NotesExit event.now self.old self.new }
+    {
+        match event {
+            Event::Left(p, reason) => self.set_end(*p, *reason),
+            _ => {}
+        }
+    }
+
+    /// Notes that p exited with this reason, if it is one of these processes.
+    fn set_end(&mut self, p: Pid, reason: Reason)
+        ensures { NotesExit (Left p reason) self.old self.new }
+    {
+        let Some(hand) = self.crew.behaviour(p) else {
+            return;
+        };
+        let ended = hand.with_end(reason);
+        let _ = self.crew.replace(p, ended);
+    }
+
+    /// What p is told, if its hand holds something, which was to do this before. The hand is empty then.
+    fn take_job(&mut self, p: Pid, before: Option<Next>) -> Option<Job>
+        ensures { TakesJob p before self.old result self.new }
+    {
+        let hand = self.crew.behaviour(p)?;
+        let item = hand.handed()?;
+        let job = Job {
+            pid: p,
+            tag: hand.tag(),
+            what: hand.what(before, item),
+        };
+        let empty = hand.emptied();
+        let _ = self.crew.replace(p, empty);
+        Some(job)
+    }
+}
