@@ -115,7 +115,7 @@ by_the_page() { # SED-SCRIPT
 mkdir -p "$work/page"
 ln -s "$here" "$work/page/bindings"
 by_the_page '' >"$work/printed"
-for example in about bad_codes no_memory resumed ring rows supervisor; do
+for example in about bad_codes no_memory resumed ring supervisor; do
     by_the_page "/^\.\//d; s/ping_pong/$example/g" >"$work/printed"
     [ -x "$work/page/$example" ] || { echo "bindings: the lines of docs/EMBEDDING.md do not build $example"; exit 1; }
 done
