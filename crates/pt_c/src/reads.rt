@@ -234,7 +234,7 @@ pub extern "C" fn pt_link_at(
 ) -> u32
     ensures { ReadsThrough h.old.state h.new.state result ((peer.new ≡ peer.old) × (ids.new ≡ ids.old))
         (λ d. ShowsCode result peer.old peer.new (λ l. pid_out l.0) (nth_link (links_on_desk d (pid_crossed p)) place)
-            × ShowsCode result ids.old ids.new (λ l. ids_out l.1) (nth_link (links_on_desk d (pid_crossed p)) place)) }
+        × ShowsCode result ids.old ids.new (λ l. ids_out l.1) (nth_link (links_on_desk d (pid_crossed p)) place)) }
 {
     let Some(held) = claim_desk(alloc, h) else {
         return EMPTY;
@@ -281,7 +281,7 @@ pub extern "C" fn pt_monitor_at(
 ) -> u32
     ensures { ReadsThrough h.old.state h.new.state result ((monitor.new ≡ monitor.old) × (target.new ≡ target.old))
         (λ d. ShowsCode result monitor.old monitor.new (λ m. ref_out m.0) (nth_monitor (monitors_on_desk d (pid_crossed p)) place)
-            × ShowsCode result target.old target.new (λ m. pid_out m.1) (nth_monitor (monitors_on_desk d (pid_crossed p)) place)) }
+        × ShowsCode result target.old target.new (λ m. pid_out m.1) (nth_monitor (monitors_on_desk d (pid_crossed p)) place)) }
 {
     let Some(held) = claim_desk(alloc, h) else {
         return EMPTY;
@@ -328,7 +328,7 @@ pub extern "C" fn pt_watcher_at(
 ) -> u32
     ensures { ReadsThrough h.old.state h.new.state result ((monitor.new ≡ monitor.old) × (watcher.new ≡ watcher.old))
         (λ d. ShowsCode result monitor.old monitor.new (λ m. ref_out m.0) (nth_monitor (watchers_on_desk d (pid_crossed p)) place)
-            × ShowsCode result watcher.old watcher.new (λ m. pid_out m.1) (nth_monitor (watchers_on_desk d (pid_crossed p)) place)) }
+        × ShowsCode result watcher.old watcher.new (λ m. pid_out m.1) (nth_monitor (watchers_on_desk d (pid_crossed p)) place)) }
 {
     let Some(held) = claim_desk(alloc, h) else {
         return EMPTY;

@@ -169,7 +169,13 @@ pub fn watcher_count(desk: &Desk, p: Pid, out: &mut usize) -> u32
     }
 }
 
-pub fn watcher_at(desk: &Desk, p: Pid, place: usize, monitor: &mut PtRef, watcher: &mut PtPid) -> u32
+pub fn watcher_at(
+    desk: &Desk,
+    p: Pid,
+    place: usize,
+    monitor: &mut PtRef,
+    watcher: &mut PtPid,
+) -> u32
     ensures monitor { ShowsCode result monitor.old monitor.new (λ m. ref_out m.0)
         (nth_monitor (watchers_on_desk desk.now p) place) }
     ensures watcher { ShowsCode result watcher.old watcher.new (λ m. pid_out m.1)
