@@ -6,7 +6,7 @@ use Rattle.pt_shard.specs.declared.stop.Stop.{Stop}
 use Rattle.pt_shard.specs.declared.stop.Stop.TheVariants.{Memory, Worn}
 use Rattle.pt_shard.specs.ShardState.{ShardState, came_event, stamped}
 use Rattle.pt_gathered.specs.Settling.{Follows}
-use Rattle.pt_gathered.proofs.Settled.{follows_along, follows_same}
+use Rattle.pt_gathered.proofs.StepByStep.{follows_along, follows_same}
 use Rattle.pt_desk.specs.DeskState.{DeskState}
 use Rattle.pt_desk.specs.declared.turned.Turned.{Turned}
 use Rattle.pt_desk.specs.Turns.{Fetches, HandlesNext, HandlesAll, EndsWith, Stays, Turns}

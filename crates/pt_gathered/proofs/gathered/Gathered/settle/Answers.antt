@@ -1,5 +1,5 @@
 -- `Gathered::settle`: its contract, from that of `settle_unlisted`.
-use Rattle.std.proofs.Common.{◌≡◌, ℕ, length, inr, refl, sym, ap, ◌∙◌, subst}
+use Rattle.std.proofs.Common.{ℕ, length, inr, refl, sym, ap, ◌∙◌, subst}
 use Rattle.pt_gathered.specs.Gathered.{GatheredState}
 use Rattle.pt_gathered.specs.Settling.{NothingLeft, Runs, Settles}
 use Rattle.pt_gathered.specs.Order.{Passes}

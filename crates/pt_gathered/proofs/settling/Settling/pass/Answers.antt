@@ -3,7 +3,7 @@ use Rattle.std.proofs.Common.{◌≡◌, Err, ℕ, length, refl, subst, arith, r
 use Rattle.pt_gathered.specs.Gathered.{GatheredState}
 use Rattle.pt_gathered.specs.Settling.{NothingTo}
 use Rattle.pt_gathered.specs.Order.{DeskComes, DeskStops}
-use Rattle.pt_gathered.proofs.Settled.{runs_same, runs_along, after_either}
+use Rattle.pt_gathered.proofs.StepByStep.{runs_same, runs_along, after_either}
 use Rattle.pt_gathered.proofs.Ordering.{more_in_turn}
 use Rattle.pt_gathered.proofs.settling.Settling.pass.Goals as goal
 

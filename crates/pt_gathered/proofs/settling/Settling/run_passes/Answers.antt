@@ -4,7 +4,7 @@ use Rattle.std.specs.Prelude.{⊤}
 use Rattle.std.specs.Bool.{MatchBool}
 use Rattle.pt_gathered.specs.Settling.{NothingLeft}
 use Rattle.pt_gathered.specs.Order.{Pass, PassStops}
-use Rattle.pt_gathered.proofs.Settled.{runs_same, runs_along, done_after}
+use Rattle.pt_gathered.proofs.StepByStep.{runs_same, runs_along, done_after}
 use Rattle.pt_gathered.proofs.Ordering.{more_in_turn}
 use Rattle.pt_gathered.proofs.settling.Settling.run_passes.Goals as goal
 

@@ -4,7 +4,7 @@ use Rattle.pt_gathered.specs.Settling.{Steps, Runs}
 use Rattle.pt_gathered.specs.Order.{ComesOnce}
 use Rattle.pt_gathered.specs.Waits.{StepsPosted, posted_in}
 use Rattle.pt_gathered.proofs.Posted.{keeps_same, keeps_along, posted_dropped}
-use Rattle.pt_gathered.proofs.Settled.{runs_same, runs_along, step_runs, step_moves, same_after}
+use Rattle.pt_gathered.proofs.StepByStep.{runs_same, runs_along, step_runs, step_moves, same_after}
 use Rattle.pt_gathered.proofs.Ordering.{more_in_turn, one_left, lane_stops, drop_more}
 use Rattle.pt_gathered.proofs.settling.Settling.settle_lane.Goals as goal
 use Rattle.pt_gathered.proofs.settling.Settling.settle_lane.Goals.{Then-not-more}

@@ -3,7 +3,7 @@ use Rattle.std.proofs.Common.{◌≡◌, Err, ℕ, ◌<◌, ◌∙◌, [], lengt
 use Rattle.pt_gathered.specs.Gathered.{GatheredState, over_in}
 use Rattle.pt_gathered.specs.Order.{LaneComes}
 use Rattle.pt_gathered.specs.Waits.{posted_in}
-use Rattle.pt_gathered.proofs.Settled.{runs_same, runs_along, after_either}
+use Rattle.pt_gathered.proofs.StepByStep.{runs_same, runs_along, after_either}
 use Rattle.pt_gathered.proofs.Ordering.{more_in_turn}
 use Rattle.pt_gathered.proofs.Posted.{keeps_same, keeps_along}
 use Rattle.pt_gathered.proofs.settling.Settling.settle_to.Goals as goal
