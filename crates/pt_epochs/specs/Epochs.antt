@@ -19,7 +19,7 @@ use Rattle.pt_crew.specs.declared.crew.Crew.{Crew}
 use Rattle.pt_crew.specs.declared.crew.Member.{Member}
 use Rattle.pt_crew.specs.Visiting.{AreSame}
 use Rattle.pt_crew.specs.Crews.{Attends, AreBorn, HasRoom, KeepsRest, members, queue, roles}
-use Rattle.pt_crew.specs.Parts.{QueueIsLonger}
+use Rattle.pt_crew.specs.Stepping.{QueueIsLonger}
 use Rattle.pt_crew.specs.Waking.{is_queued}
 use Rattle.pt_epochs.specs.declared.ending.Unhanded.{Unhanded}
 use Rattle.pt_epochs.specs.declared.ending.Unhanded.TheVariants.{Unread, Refused}
