@@ -648,10 +648,14 @@ impl Gathered {
 
     /// The same without the list of all pids that ever were, for a program that pauses often: it costs what happened
     /// since the last pause.
+    ///
+    /// # Errors
+    ///
+    /// As [`settle`](Gathered::settle).
     pub fn settle_unlisted(mut self) -> Result<Settled, Unsettled> {
         let mut handle = NONE;
         match unsafe { raw::pt_settle_unlisted(self.handle.own(), &mut handle) } {
-            OK => Ok(Settled { handle: Held::new(handle) }),
+            OK => Ok(Settled { handle: Held::new(handle), slots: self.slots }),
             code => Err(Unsettled { fault: fault_of(code), gathered: self }),
         }
     }
@@ -660,6 +664,7 @@ impl Gathered {
 /// A settled node without the list of its pids. Dropped, it is given up.
 pub struct Settled {
     handle: Held,
+    slots: u32,
 }
 
 impl fmt::Debug for Settled {
@@ -691,8 +696,19 @@ impl fmt::Display for SettledBack {
 
 impl std::error::Error for SettledBack {}
 
+/// So that `?` passes it on where a [`Fault`] is returned: the node is given up then.
+impl From<SettledBack> for Fault {
+    fn from(back: SettledBack) -> Fault {
+        back.fault
+    }
+}
+
 impl Settled {
     /// The events of all desks in one legal order.
+    ///
+    /// # Errors
+    ///
+    /// [`Fault::Memory`], if there is none.
     pub fn history(&self) -> Result<History, Fault> {
         let mut handle = NONE;
         told(unsafe { raw::pt_settled_history(&mut self.handle.lent(), &mut handle) })?;
@@ -730,21 +746,29 @@ impl Settled {
     /// assert_eq!(desks[0].spawn()?.version, 2);
     /// # Ok::<(), pundewo::Fault>(())
     /// ```
+    ///
+    /// # Errors
+    ///
+    /// The settled node comes back as it was: with [`Fault::Worn`] if no stamp is left, or with [`Fault::Memory`].
     pub fn resume(mut self) -> Result<Vec<Desk>, SettledBack> {
         let count = usize::from(self.desks());
         let mut handles: Vec<Handle> = (0..count).map(|_| NONE).collect();
         // SAFETY: the handles are empty, and as many as are told.
         match unsafe { raw::pt_resume_settled(self.handle.own(), handles.as_mut_ptr(), count) } {
-            OK => Ok(desks_of(handles)),
+            OK => Ok(desks_of(handles, self.slots)),
             code => Err(SettledBack { fault: fault_of(code), settled: self }),
         }
     }
 
     /// The settled node with the list of all pids that ever were.
+    ///
+    /// # Errors
+    ///
+    /// The settled node comes back as it was, with [`Fault::Memory`].
     pub fn into_quiet(mut self) -> Result<Quiet, SettledBack> {
         let mut handle = NONE;
         match unsafe { raw::pt_settled_into_quiet(self.handle.own(), &mut handle) } {
-            OK => Ok(Quiet { handle: Held::new(handle) }),
+            OK => Ok(Quiet { handle: Held::new(handle), slots: self.slots }),
             code => Err(SettledBack { fault: fault_of(code), settled: self }),
         }
     }
