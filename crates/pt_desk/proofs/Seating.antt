@@ -16,6 +16,7 @@ use Rattle.pt_directory.specs.Views.{new_read}
 use Rattle.pt_directory.specs.Seats.{DirectoryState, SeatState, add_death, death_of}
 use Rattle.pt_carrier.specs.Ends.{OutEnds, InEnds}
 use Rattle.pt_carrier.specs.Meeting.{out_kept, in_kept}
+use Rattle.pt_shard.specs.declared.loss.Loss.{Loss}
 use Rattle.pt_shard.specs.ShardState.{ShardState, past, written, ended_in}
 use Rattle.pt_desk.specs.Sight.{Sight, death_by, deaths_in, seat_of, deaths_before, WasInTurn, IsSeen, AllSeen, IsSeated, HasWordsAt, AllHaveWords}
 use Rattle.pt_signal.specs.declared.config.Config.{Config}
@@ -95,6 +96,30 @@ posted_whole s s' o o' i v seat e count after fit accounts whole =
       journal = ap (λ (z : ShardState). z.journal) after;
     })
     fit accounts whole
+
+-- a desk that keeps what it loses or does not, or of which another loss was told
+pub lost_whole : (s s' : ShardState) (o : OutEnds) (i : InEnds) (v : Sight) (seat : SeatState) (keeps : Bool) (lost : List Loss)
+    → s' ≡ record s { keeps = keeps; lost = lost } → IsFit s' → IsWhole s o i v seat → IsWhole s' o i v seat
+lost_whole s s' o i v seat keeps lost after fit whole =
+    same_whole s s' o o i i v seat
+    (record {
+      start = ap (λ (z : ShardState). z.start) after;
+      number = ap (λ (z : ShardState). z.number) after;
+      config = ap (λ (z : ShardState). z.config) after;
+      journal = ap (λ (z : ShardState). z.journal) after;
+    })
+    fit
+    (subst (λ z. IsAccounted z o i) (sym after) (record {
+      out_number = whole.0.accounts.out_number;
+      in_number = whole.0.accounts.in_number;
+      out_desks = whole.0.accounts.out_desks;
+      in_desks = whole.0.accounts.in_desks;
+      posted_desks = whole.0.accounts.posted_desks;
+      collected_desks = whole.0.accounts.collected_desks;
+      posted = whole.0.accounts.posted;
+      collected = whole.0.accounts.collected;
+    }))
+    whole
 
 -- a desk whose ends looked at each other
 pub met_whole : (s : ShardState) (o o' : OutEnds) (i i' : InEnds) (v : Sight) (seat : SeatState) → out_kept o' ≡ out_kept o → in_kept i' ≡ in_kept i → IsWhole s o i v seat → IsWhole s o' i' v seat

@@ -1,7 +1,7 @@
 //! A desk of a node.
 
 ghost use Rattle.std.specs.Prelude.{◌≡◌, ◌<◌, ◌+◌, ◌-◌, ◌^◌, ◌∷◌, ◌++◌, ℕ, [], length, min, true, Some, None, IfSome};
-ghost use Rattle.std.specs.Prelude.{IfOk, IsOk, cond, is_some, slice_index_or, ◌==◌};
+ghost use Rattle.std.specs.Prelude.{IfOk, IsOk, cond, drop, is_some, slice_get, slice_index_or, ◌==◌};
 ghost use Rattle.std.specs.Option.{option_copied};
 ghost use Rattle.pt_signal.specs.declared.signal.Signal.{Signal};
 ghost use Rattle.pt_events.specs.declared.event.Event.{Event};
@@ -33,7 +33,7 @@ use pt_carrier::{Ins, Outs};
 use pt_directory::{Directory, Seat};
 use pt_events::Journal;
 use pt_process::Process;
-use pt_shard::{Config, Fault, Shard, Stop};
+use pt_shard::{Config, Fault, Loss, Shard, Stop};
 use pt_signal::{Body, Ids, Item, Pick, Pid, Reason, Ref};
 use std::alloc::{AllocError, Global};
 use std::marker::Model;
@@ -496,6 +496,29 @@ impl Desk {
         self.shard.exit(p, reason)?;
         tell_end(&self.shard, &self.directory, &mut self.seat, p);
         Ok(())
+    }
+
+    /// Sets whether what this desk loses from now on is kept until [`Desk::next_loss`] tells of it. It is not kept at
+    /// first, nor does it cost anything then.
+    ///
+    /// If it is kept, a process that exits leaves its mailbox, and so does a message that comes to a process that is not
+    /// alive. They take memory until they are told. A resumed desk goes on as it was set, with all that was not told.
+    pub fn keep_losses(&mut self, on: bool)
+        ensures keeps { self.new ≡ record self.old { shard = record self.old.shard { keeps = on } } }
+        ensures goes_on { GoesOn self.old self.new }
+    {
+        self.shard.keep_losses(on);
+    }
+
+    /// Takes out the oldest loss that was kept and not told, or returns `None` if there is none. So each is told once,
+    /// in the order in which they happened.
+    pub fn next_loss(&mut self) -> Option<Loss>
+        ensures first { result ≡ slice_get self.old.shard.lost 0 }
+        ensures rest { self.new
+            ≡ record self.old { shard = record self.old.shard { lost = drop 1 self.old.shard.lost } } }
+        ensures goes_on { GoesOn self.old self.new }
+    {
+        self.shard.next_loss()
     }
 
     /// Looks whether t is seen to have exited, for a call of p, which fails then.

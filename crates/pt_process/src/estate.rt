@@ -3,12 +3,14 @@
 ghost use Rattle.std.specs.Prelude.{◌≡◌, ◌<◌, length, slice_get, Some};
 ghost use Rattle.pt_signal.specs.Process.{sent};
 
-use crate::Rows;
+use crate::{Mailbox, Rows};
 use pt_signal::{Ids, Pid, Reason, Ref, Signal};
 use std::marker::Model;
 
-/// The signals that a process owes at its exit, each kind in order of entry. They are an exit signal to each linked
-/// process, then a DOWN to each watcher, then a demonitor for each of its own monitors.
+/// What a process leaves at its exit: the signals that it owes, and the items that waited in its mailbox.
+///
+/// It owes an exit signal to each linked process, then a DOWN to each watcher, then a demonitor for each of its own
+/// monitors, each kind in order of entry.
 #[derive(Drop)]
 pub struct Estate {
     pub(crate) me: Pid,
@@ -16,6 +18,7 @@ pub struct Estate {
     pub(crate) links: Rows<Pid, Ids>,
     pub(crate) kept: Rows<(Ref, Pid), ()>,
     pub(crate) watching: Rows<Ref, Pid>,
+    pub(crate) waiting: Mailbox,
 }
 
 impl Model for Estate {
@@ -31,6 +34,7 @@ impl Model for Estate {
       owed = estate e.me
           (record { waiting = []; links = e.links; watching = e.watching; kept = keys_of e.kept; traps = false })
           e.reason;
+      waiting = e.waiting;
     } };
 }
 
@@ -59,5 +63,12 @@ impl Estate {
         }
         let (monitor, watched) = self.watching.at(i - links - kept);
         (watched, Signal::Demonitor(monitor))
+    }
+
+    /// The items that waited in the mailbox.
+    pub fn into_mailbox(self) -> Mailbox
+        ensures { result ≡ self.waiting }
+    {
+        self.waiting
     }
 }

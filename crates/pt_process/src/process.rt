@@ -11,6 +11,7 @@ ghost use Rattle.pt_process.specs.Outcome.{Accepts, IsAnew, has_two, ruled};
 ghost use Rattle.pt_process.specs.Exits.{IsExit, exit_of};
 ghost use Rattle.pt_process.specs.Places.{IsFirst, IsFirstPlace};
 ghost use Rattle.pt_process.specs.Peers.{peers_held};
+ghost use Rattle.pt_process.specs.ProcessView.{owing_of};
 
 use crate::{Entries, Estate, ExitSignal, Mailbox, Outcome, Verdict};
 use pt_signal::{Ids, Item, LinkId, Pick, Pid, Reason, Ref, Signal};
@@ -379,13 +380,13 @@ impl Process {
         before
     }
 
-    /// What it owes when it exits with this reason. Its items are dropped.
+    /// What it leaves when it exits with this reason: what it owes, and the items that wait.
     pub fn estate(self, reason: Reason) -> Estate
-        ensures { result ≡ record { from = self.me; owed = estate self.me self.state reason } }
+        ensures { result ≡ owing_of self.me self.state reason }
     {
         let Process {
             me,
-            waiting: _,
+            waiting,
             links,
             watching,
             kept,
@@ -397,6 +398,7 @@ impl Process {
             links: links.into_rows(),
             kept: kept.into_rows(),
             watching: watching.into_rows(),
+            waiting,
         }
     }
 

@@ -39,12 +39,13 @@ use Rattle.pt_shard.specs.Calls.{Calls, BearsChild, new_link, new_ref, link_even
 use Rattle.pt_shard.specs.Extends.{Extends}
 use Rattle.pt_shard.specs.Fit.{IsFit}
 use Rattle.pt_shard.specs.Faults.{fault_of}
-use Rattle.pt_shard.specs.LedgerState.{Book, LedgerState, HasRoomToAll, Prepares, wrote}
+use Rattle.pt_shard.specs.declared.loss.Loss.TheVariants.{Exited}
+use Rattle.pt_shard.specs.LedgerState.{Book, LedgerState, HasRoomToAll, Prepares, wrote, losing}
 use Rattle.pt_shard.specs.Processes.{ProcessesState, living_at, with_process, in_place, pid_of_key, vacant_at, Changes, Ends, IsSameTable, HasRoomFor}
 use Rattle.pt_shard.specs.Whole.{Parts, parts_of, shard_of, IsWhole}
 use Rattle.pt_shard.specs.Plain.{IsPlainSignal}
 use Rattle.pt_shard.specs.Acts.{Acts, Tells, HasOnlyMoreRoom, PreparesBirth, IsStopped, TakesIn, done, posted, link_after, ref_after, taking, unlinking, giving_up, giving_up_at}
-use Rattle.pt_shard.proofs.Acting.{Outcome, Found, own_book, alive, lives_here, is_there, said_to, said_known, plain_may, plain_new, plain_changes, left_alone, set_flag, took_item, link_now, link_new, ref_now, ref_new, not_open_yet, open_target, peers_near, left_by, left_from, left_near, left_peers}
+use Rattle.pt_shard.proofs.Acting.{Outcome, Found, own_book, own_loss, alive, lives_here, is_there, said_to, said_known, plain_may, plain_new, plain_changes, left_alone, set_flag, took_item, link_now, link_new, ref_now, ref_new, not_open_yet, open_target, peers_near, left_by, left_from, left_near, left_peers}
 use Rattle.pt_shard.proofs.Outcomes.{not_prepared, same_book}
 use Rattle.pt_shard.proofs.Bearing.{Unchanged, unchanged, same_table, BirthOutcome, links_parent, child_outcome, room_stays, parent_is_there}
 use Rattle.pt_shard.proofs.Receiving.{receipt_stamp, receipt_book, taken_in, living_back_is}
@@ -326,11 +327,11 @@ module _ (a : Parts) (whole : IsWhole a) (p : Pid) (was : ProcessView) (found : 
         )
 
     pub exited : (r : Reason) (owing : Owing) (last : ProcessesState) → last.desk ≡ a.processes.desk → Ends p r owing (with_process a.processes p now).table last.table
-        → a.book.clock < 2 ^ 62 → (prepared book : Book) → prepared ≡ a.book → book ≡ wrote (max prepared.clock 0 + 1) (Left p r) (map (letter (max prepared.clock 0 + 1)) owing.owed) prepared
+        → a.book.clock < 2 ^ 62 → (prepared book : Book) → prepared ≡ a.book → book ≡ losing (Some (Exited p r owing.waiting)) (wrote (max prepared.clock 0 + 1) (Left p r) (map (letter (max prepared.clock 0 + 1)) owing.owed) prepared)
         → Acted (Unit {0}) a (parts_of a.config book last) p (Some (Left p r)) (tt {0}) (Ok (tt {0}))
     exited r owing last desk ends can prepared book same is =
         let f = acting a whole p was found in
-        let o = left_by a whole p f can book last desk r owing (ends_too r owing last ends) (own_book (Left p r) (λ n. map (letter n) owing.owed) prepared a.book book same is) in
+        let o = left_by a whole p f can book last desk r owing (ends_too r owing last ends) (own_loss (Left p r) (Some (Exited p r owing.waiting)) (λ n. map (letter n) owing.owed) prepared a.book book same is) in
         record { whole = o.whole; fit = o.fit; extends = o.extends; does = (alive a whole p f, can, refl, o.is) }
 
     -- or there was no room for it

@@ -23,15 +23,18 @@ use Rattle.pt_slots.specs.declared.Key.{Key}
 use Rattle.pt_slots.specs.State.{at, next_key}
 use Rattle.pt_slots.specs.Offers.{OffersTheFree}
 use Rattle.pt_signal.specs.declared.reason.Reason.TheVariants.{Normal}
-use Rattle.pt_process.specs.ProcessView.{Owing}
+use Rattle.pt_process.specs.ProcessView.{Owing, owing_of}
 use Rattle.pt_process.specs.Peers.{peers_held}
 use Rattle.pt_shard.proofs.Endings.{estate_peers, every_to}
-use Rattle.pt_shard.specs.ShardState.{past, lives, written, vacated, ended_by, sends}
+use Rattle.pt_shard.specs.ShardState.{past, lives, written, vacated, ended_by, lost_by, sends}
 use Rattle.pt_shard.specs.Extends.{Extends}
 use Rattle.pt_shard.specs.Fit.{IsFit}
 use Rattle.pt_shard.specs.Plain.{IsPlainSignal}
 use Rattle.pt_shard.specs.Known.{knows}
-use Rattle.pt_shard.specs.LedgerState.{Book, wrote}
+use Rattle.pt_shard.specs.declared.loss.Loss.{Loss}
+use Rattle.pt_shard.specs.declared.loss.Loss.TheVariants.{Exited}
+use Rattle.pt_shard.specs.Losses.{lost_by_exit}
+use Rattle.pt_shard.specs.LedgerState.{Book, wrote, losing}
 use Rattle.pt_shard.specs.Sound.{IsNear, of_phase, live_process, Every}
 use Rattle.pt_shard.specs.Processes.{Table, ProcessesState, seen_process, process_at, in_place, changed, is_place_of, pid_of_key, vacant_at, Puts, Changes, Ends, SameSettings}
 use Rattle.pt_shard.specs.Whole.{Parts, parts_of, shard_of, IsWhole}
@@ -110,8 +113,8 @@ vacant_next desk top p old new here is next = go (p.version == top) refl
 abbrev pub option_pid : ℕ → Option Key → Option Pid
 option_pid desk key = option_map (pid_of_key desk) key
 
-pub owes_is : (p : Pid) (r : Reason) (owing : Owing) (old new : Table) (s : ProcessState) → in_place old p ≡ Some (p, s) → Ends p r owing old new → owing ≡ record { from = p; owed = estate p s r }
-owes_is p r owing old new s stands ends = subst (λ o. IfSome o (λ x. owing ≡ record { from = x.0; owed = estate x.0 x.1 r })) stands ends.owes
+pub owes_is : (p : Pid) (r : Reason) (owing : Owing) (old new : Table) (s : ProcessState) → in_place old p ≡ Some (p, s) → Ends p r owing old new → owing ≡ owing_of p s r
+owes_is p r owing old new s stands ends = subst (λ o. IfSome o (λ x. owing ≡ owing_of x.0 x.1 r)) stands ends.owes
 
 -- signals that may be said at any time -----------------------------------------------------
 
@@ -140,21 +143,25 @@ pub record Outcome (a b : Parts) (n : ℕ) (e : Event) : Type 0 where
   pub is : shard_of b ≡ written n e (shard_of a)
 
 pub outcome : (a : Parts) (whole : IsWhole a) (n : ℕ) (e : Event) (book : Book) (processes : ProcessesState) → processes.desk ≡ a.processes.desk
-    → IsLawful a whole n e processes.table → book ≡ wrote n e (sends n e (shard_of a)) a.book
+    → IsLawful a whole n e processes.table → book ≡ losing (lost_by (shard_of a) e) (wrote n e (sends n e (shard_of a)) a.book)
     → vacant_at a.processes.desk processes.table ≡ vacated a.config.top_version (ended_by (shard_of a) e) (vacant_at a.processes.desk a.processes.table)
     → Outcome a (parts_of a.config book processes) n e
 outcome a whole n e book processes desk law is vacant =
     subst (λ b. Outcome a (parts_of a.config b processes) n e) (sym is)
-    (subst (λ h. Outcome a (parts_of a.config (wrote n e (sends n e (shard_of a)) a.book) h) n e) (sym (same_desk a.processes processes desk))
+    (subst (λ h. Outcome a (parts_of a.config (losing (lost_by (shard_of a) e) (wrote n e (sends n e (shard_of a)) a.book)) h) n e) (sym (same_desk a.processes processes desk))
     (record { whole = whole_next a whole n e processes.table law; fit = fit_next a whole n e processes.table law; extends = extends_next a whole n e processes.table law; is = next_is a whole n e processes.table vacant }))
 
 -- the clock is above no floor, and the ledger was prepared
+pub own_loss : (e : Event) (o : Option Loss) (ls : ℕ → List Letter) (prepared book book' : Book) → prepared ≡ book
+    → book' ≡ losing o (wrote (max prepared.clock 0 + 1) e (ls (max prepared.clock 0 + 1)) prepared) → book' ≡ losing o (wrote (book.clock + 1) e (ls (book.clock + 1)) book)
+own_loss e o ls prepared book book' same is =
+    let now : book' ≡ losing o (wrote (max book.clock 0 + 1) e (ls (max book.clock 0 + 1)) book) = subst (λ b. book' ≡ losing o (wrote (max b.clock 0 + 1) e (ls (max b.clock 0 + 1)) b)) same is in
+    let k : max book.clock 0 + 1 ≡ book.clock + 1 = omega arith in
+    now ∙ ap (λ m. losing o (wrote m e (ls m) book)) k
+
 pub own_book : (e : Event) (ls : ℕ → List Letter) (prepared book book' : Book) → prepared ≡ book
     → book' ≡ wrote (max prepared.clock 0 + 1) e (ls (max prepared.clock 0 + 1)) prepared → book' ≡ wrote (book.clock + 1) e (ls (book.clock + 1)) book
-own_book e ls prepared book book' same is =
-    let now : book' ≡ wrote (max book.clock 0 + 1) e (ls (max book.clock 0 + 1)) book = subst (λ b. book' ≡ wrote (max b.clock 0 + 1) e (ls (max b.clock 0 + 1)) b) same is in
-    let k : max book.clock 0 + 1 ≡ book.clock + 1 = omega arith in
-    now ∙ ap (λ m. wrote m e (ls m) book) k
+own_book e ls prepared book book' same is = own_loss e None ls prepared book book' same is
 
 -- a process that was found
 pub record Found (a : Parts) (p : Pid) : Type 0 where
@@ -256,14 +263,16 @@ module _ (a : Parts) (whole : IsWhole a) (p : Pid) (f : Found a p) where
         outcome a whole (a.book.clock + 1) (Took p k i) book processes desk (own_lawful (Took p k i) own _ changes.puts after (offers_changed p _ a.processes.table processes.table whole.offers changes)) is (ap (option_pid a.processes.desk) changes.next)
 
     pub left_by : (r : Reason) (owing : Owing) → Ends p r owing a.processes.table processes.table
-        → book ≡ wrote (a.book.clock + 1) (Left p r) (map (letter (a.book.clock + 1)) owing.owed) a.book
+        → book ≡ losing (Some (Exited p r owing.waiting)) (wrote (a.book.clock + 1) (Left p r) (map (letter (a.book.clock + 1)) owing.owed) a.book)
         → Outcome a (parts_of a.config book processes) (a.book.clock + 1) (Left p r)
     left_by r owing ends wrote_is =
         let own : IsOwn (Left p r) = record { alone = λ q. refl; no_birth = refl; home = stands.0; may = rw lives_here refl; new_at = tt; known = tt; near = tt } in
-        let owes : owing.owed ≡ left_sends (life a.book.start (past (shard_of a)) p) p r = ap (λ o. o.owed) (owes_is p r owing a.processes.table processes.table f.s stands.1 ends) ∙ sym (ap (λ x. left_sends x p r) lives_here) in
+        let n = a.book.clock + 1 in
         outcome a whole (a.book.clock + 1) (Left p r) book processes desk
         (own_lawful (Left p r) own None ends.puts (ap (of_phase p) (left a.book.start (past (shard_of a)) p f.s lives_here r)) ends.offers)
-        (wrote_is ∙ ap (λ o. wrote (a.book.clock + 1) (Left p r) (map (letter (a.book.clock + 1)) o) a.book) owes)
+        (wrote_is
+        ∙ ap (λ o. losing (Some (Exited p r o.waiting)) (wrote n (Left p r) (map (letter n) o.owed) a.book)) (owes_is p r owing a.processes.table processes.table f.s stands.1 ends)
+        ∙ sym (ap (λ x. losing (lost_by_exit x p r) (wrote n (Left p r) (map (letter n) (left_sends x p r)) a.book)) lives_here))
         (vacant_next a.processes.desk a.config.top_version p a.processes.table processes.table stands.0 whole.top_version ends.next)
 
 -- the id and the reference of the next event

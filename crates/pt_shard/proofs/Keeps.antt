@@ -16,12 +16,12 @@ use Rattle.pt_events.proofs.Homes.{AllFrom, from_home}
 use Rattle.pt_slots.specs.State.{issued}
 use Rattle.pt_slots.specs.Offers.{OffersTheFree}
 use Rattle.pt_shard.proofs.Boxes.{put_at, put_count}
-use Rattle.pt_shard.specs.ShardState.{ShardState, past, sends, written, vacated, ended_by, put_out}
+use Rattle.pt_shard.specs.ShardState.{ShardState, past, sends, written, vacated, ended_by, lost_by, put_out}
 use Rattle.pt_shard.specs.Known.{issued_in}
 use Rattle.pt_shard.specs.Extends.{Extends}
 use Rattle.pt_shard.specs.Fit.{IsFit, AreBetween}
 use Rattle.pt_shard.specs.Sound.{Every, IsSound, BornAreIssued, IsNear, live_process}
-use Rattle.pt_shard.specs.LedgerState.{wrote}
+use Rattle.pt_shard.specs.LedgerState.{wrote, losing}
 use Rattle.pt_shard.specs.Processes.{Table, ProcessesState, process_at, vacant_at}
 use Rattle.pt_shard.specs.Whole.{Parts, parts_of, shard_of, IsWhole}
 use Rattle.pt_shard.proofs.Births.{stays_known}
@@ -69,7 +69,7 @@ module _ (a : Parts) (whole : IsWhole a) where
 
   -- the parts after the event e, stamped n
   abbrev pub next_parts : ℕ → Event → Table → Parts
-  next_parts n e table = parts_of a.config (wrote n e (sends n e before) a.book) (with_table a.processes table)
+  next_parts n e table = parts_of a.config (losing (lost_by before e) (wrote n e (sends n e before) a.book)) (with_table a.processes table)
 
   -- what must hold of an event that the desk writes, and of its slots afterwards
   pub record IsLawful (n : ℕ) (e : Event) (table : Table) : Type 0 where
@@ -142,8 +142,8 @@ module _ (a : Parts) (whole : IsWhole a) where
       near = (law.near, whole.sound.near);
     }
 
-    same_book : wrote n e (sends n e before) a.book ≡ record (wrote n e (sends n e before) a.book) { journal = stamped_now ∷ a.book.journal }
-    same_book = ap (λ d. record (wrote n e (sends n e before) a.book) { journal = record { stamp = n; desk = d; event = e } ∷ a.book.journal }) whole.home
+    same_book : losing (lost_by before e) (wrote n e (sends n e before) a.book) ≡ record (losing (lost_by before e) (wrote n e (sends n e before) a.book)) { journal = stamped_now ∷ a.book.journal }
+    same_book = ap (λ d. record (losing (lost_by before e) (wrote n e (sends n e before) a.book)) { journal = record { stamp = n; desk = d; event = e } ∷ a.book.journal }) whole.home
 
     -- the desk is whole after the event
     pub whole_next : IsWhole (next_parts n e table)

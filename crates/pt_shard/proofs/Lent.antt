@@ -5,11 +5,11 @@ use Rattle.pt_signal.specs.declared.pid.Pid.{Pid}
 use Rattle.std.specs.Prelude.{IfSome, IsSome}
 use Rattle.pt_signal.specs.declared.ids.LinkId.{LinkId}
 use Rattle.pt_signal.specs.declared.reason.Reason.{Reason}
-use Rattle.pt_signal.specs.Process.{ProcessState, estate}
+use Rattle.pt_signal.specs.Process.{ProcessState}
 use Rattle.pt_slots.specs.State.{at, next_key, with_value}
 use Rattle.pt_slots.specs.Calls.{Written}
 use Rattle.pt_slots.proofs.Steps.{written}
-use Rattle.pt_process.specs.ProcessView.{ProcessView, Owing}
+use Rattle.pt_process.specs.ProcessView.{ProcessView, Owing, owing_of}
 use Rattle.pt_shard.specs.Acts.{HasRoomIf}
 use Rattle.pt_shard.specs.Processes.{Table, seen_process, in_place, process_at, living_at, key_at, changed, is_place_of, Changes, Ends, IsSameTable, HasRoomFor}
 use Rattle.pt_shard.proofs.Acting.{own_place}
@@ -76,7 +76,7 @@ module _ (desk : ℕ) (table : Table) (p : Pid) (was : ProcessView) (found : Som
 -- a process that is taken out where only room was made
 pub ends_after : (p : Pid) (r : Reason) (owing : Owing) (old mid new : Table) → IsSameTable old mid → Ends p r owing mid new → Ends p r owing old new
 ends_after p r owing old mid new same ends = record {
-  owes = subst (λ o. IfSome o (λ x. owing ≡ record { from = x.0; owed = estate x.0 x.1 r })) (same.live p.slot p.version) ends.owes;
+  owes = subst (λ o. IfSome o (λ x. owing ≡ owing_of x.0 x.1 r)) (same.live p.slot p.version) ends.owes;
   lived = subst IsSome (same.live p.slot p.version) ends.lived;
   puts = record {
     live = λ slot version. ends.puts.live slot version ∙ ap (λ o. cond (is_place_of p slot version) None o) (same.live slot version);

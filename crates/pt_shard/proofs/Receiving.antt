@@ -14,11 +14,13 @@ use Rattle.pt_events.specs.History.{Phase, unborn, living, ended, life, gets, li
 use Rattle.pt_events.specs.Journal.{letter}
 use Rattle.pt_process.specs.ProcessView.{Owing}
 use Rattle.pt_shard.specs.ShardState as shards
-use Rattle.pt_shard.specs.ShardState.{past, came_event, vacated, ended_by}
-use Rattle.pt_shard.specs.LedgerState.{Book, wrote}
+use Rattle.pt_shard.specs.declared.loss.Loss.TheVariants.{Exited}
+use Rattle.pt_shard.specs.Losses.{lost_at, stray}
+use Rattle.pt_shard.specs.ShardState.{past, came_event, vacated, ended_by, lost_by}
+use Rattle.pt_shard.specs.LedgerState.{Book, wrote, losing}
 use Rattle.pt_shard.specs.Sound.{of_phase, live_process, Every}
 use Rattle.pt_shard.specs.Processes.{Table, ProcessesState, process_at, in_place, changed, vacant_at, Changes, Ends, SameSettings}
-use Rattle.pt_shard.specs.Deliveries.{Receiver, unless_ended, remains, is_ended_by, letter_replies}
+use Rattle.pt_shard.specs.Deliveries.{Receiver, unless_ended, remains, is_ended_by, letter_replies, letter_loss}
 use Rattle.pt_shard.specs.Whole.{Parts, parts_of, shard_of, IsWhole}
 use Rattle.pt_shard.specs.Backs.{living_back}
 use Rattle.pt_shard.proofs.Births.{issued_kept, issued_same}
@@ -49,6 +51,10 @@ got_is l f = refl
 ends_is : (l : Letter) (f : Phase) → shards.is_ended_by f l.to l.from l.signal ≡ is_ended_by l (of_phase l.to f)
 ends_is l (living s) = refl
 ends_is l f = refl
+
+lost_is : (l : Letter) (f : Phase) → lost_at f l.to l.from l.signal ≡ letter_loss l (of_phase l.to f)
+lost_is l (living s) = refl
+lost_is l f = refl
 
 -- the receipt --------------------------------------------------------------------------------
 
@@ -93,16 +99,20 @@ module _ (a : Parts) (whole : IsWhole a) (l : Letter) (here : l.to.shard ≡ a.p
     ended_here : ended_by (shard_of a) (came_event l) ≡ cond (is_ended_by l (standing a l)) (Some l.to) None
     ended_here = ap (λ b. cond b (Some l.to) None) (ends_is l (life a.book.start (past (shard_of a)) l.to) ∙ sym (ap (is_ended_by l) there))
 
-    delivered : Delivers a l processes.table → book ≡ wrote (receipt_stamp a l) (came_event l) (map (letter (receipt_stamp a l)) (letter_replies l (standing a l))) a.book
+    delivered : Delivers a l processes.table → book ≡ losing (letter_loss l (standing a l)) (wrote (receipt_stamp a l) (came_event l) (map (letter (receipt_stamp a l)) (letter_replies l (standing a l))) a.book)
         → Outcome a (parts_of a.config book processes) (receipt_stamp a l) (came_event l)
     delivered delivers is =
         let replied : letter_replies l (standing a l) ≡ sent_by a.book.start (past (shard_of a)) (came_event l) = ap (letter_replies l) there ∙ sym (got_is l (life a.book.start (past (shard_of a)) l.to)) in
+        let lost : letter_loss l (standing a l) ≡ lost_by (shard_of a) (came_event l) = ap (letter_loss l) there ∙ sym (lost_is l (life a.book.start (past (shard_of a)) l.to)) in
         outcome a whole (receipt_stamp a l) (came_event l) book processes desk (lawful delivers)
-        (is ∙ ap (λ o. wrote (receipt_stamp a l) (came_event l) (map (letter (receipt_stamp a l)) o) a.book) replied)
+        (is
+        ∙ ap (λ o. losing (letter_loss l (standing a l)) (wrote (receipt_stamp a l) (came_event l) (map (letter (receipt_stamp a l)) o) a.book)) replied
+        ∙ ap (λ o. losing o (wrote (receipt_stamp a l) (came_event l) (map (letter (receipt_stamp a l)) (sent_by a.book.start (past (shard_of a)) (came_event l))) a.book)) lost)
         (delivers.vacant ∙ ap (λ o. vacated a.config.top_version o (vacant_at a.processes.desk a.processes.table)) (sym ended_here))
 
     -- a receiver that is not alive
-    pub bounced : processes.table ≡ a.processes.table → standing a l ≡ None → book ≡ wrote (receipt_stamp a l) (came_event l) (map (letter (receipt_stamp a l)) (bounce l.to l.from l.signal)) a.book
+    pub bounced : processes.table ≡ a.processes.table → standing a l ≡ None
+        → book ≡ losing (stray l.to l.from l.signal) (wrote (receipt_stamp a l) (came_event l) (map (letter (receipt_stamp a l)) (bounce l.to l.from l.signal)) a.book)
         → Outcome a (parts_of a.config book processes) (receipt_stamp a l) (came_event l)
     bounced same none is =
         delivered
@@ -112,7 +122,7 @@ module _ (a : Parts) (whole : IsWhole a) (l : Letter) (here : l.to.shard ≡ a.p
           offers = whole.offers;
           vacant = rw none refl;
         }))
-        (is ∙ ap (λ o. wrote (receipt_stamp a l) (came_event l) (map (letter (receipt_stamp a l)) (letter_replies l o)) a.book) (sym none))
+        (is ∙ ap (λ o. losing (letter_loss l o) (wrote (receipt_stamp a l) (came_event l) (map (letter (receipt_stamp a l)) (letter_replies l o)) a.book)) (sym none))
       where
         still : (q : Pid) (b : Bool) → same_pid q l.to ≡ b → process_at a.processes.desk a.processes.table q ≡ cond (same_pid q l.to) (remains l (standing a l)) (process_at a.processes.desk a.processes.table q)
         still q true h = rw (h, none) (ap (process_at a.processes.desk a.processes.table) (same_pid_is q l.to h) ∙ none)
@@ -132,6 +142,7 @@ module _ (a : Parts) (whole : IsWhole a) (l : Letter) (here : l.to.shard ≡ a.p
       taken_in goes_on changes is =
           let none : (handle l.to f.s l.from l.signal).ending ≡ None = ap (λ m. (handle m f.s l.from l.signal).ending) (sym (both a whole l.to f).1) ∙ goes_on in
           let stays : remains l (standing a l) ≡ changed (λ me s. (handle me s l.from l.signal).state) (in_place a.processes.table l.to) = rw (stands_there, place, none) refl in
+          let nothing : letter_loss l (standing a l) ≡ None = rw (stands_there, none) refl in
           let back : letter_replies l (standing a l) ≡ living_answer l.to l.from l.signal = rw (stands_there, none, handle_answer l.to f.s l.from l.signal) (append-nil (living_answer l.to l.from l.signal)) in
           delivered
           (record {
@@ -140,7 +151,9 @@ module _ (a : Parts) (whole : IsWhole a) (l : Letter) (here : l.to.shard ≡ a.p
             offers = offers_changed l.to _ a.processes.table processes.table whole.offers changes;
             vacant = rw (stands_there, none) (ap (option_pid a.processes.desk) changes.next);
           })
-          (is ∙ ap (λ o. wrote (receipt_stamp a l) (came_event l) (map (letter (receipt_stamp a l)) o) a.book) (sym back))
+          (is
+          ∙ ap (λ o. wrote (receipt_stamp a l) (came_event l) (map (letter (receipt_stamp a l)) o) a.book) (sym back)
+          ∙ ap (λ o. losing o (wrote (receipt_stamp a l) (came_event l) (map (letter (receipt_stamp a l)) (letter_replies l (standing a l))) a.book)) (sym nothing))
 
 -- a signal that ends a process is not answered
 ending_unanswered : (me : Pid) (s : ProcessState) (from : Pid) (x : Signal) (r : Reason) → (handle me s from x).ending ≡ Some r → living_answer me from x ≡ []
@@ -186,7 +199,10 @@ module _ (a : Parts) (whole : IsWhole a) (l : Letter) (here : l.to.shard ≡ a.p
   pub owing_from : owing.from ≡ l.to
   owing_from = ap (λ o. o.from) (owes_is l.to r owing mid.table last.table after in_mid ends)
 
-  pub ended_outcome : (book : Book) → book ≡ wrote (receipt_stamp a l) (came_event l) (map (letter (receipt_stamp a l)) owing.owed) a.book
+  lost_here : Some (Exited l.to r owing.waiting) ≡ letter_loss l (standing a l)
+  lost_here = ap (λ o. Some (Exited l.to r o.waiting)) (owes_is l.to r owing mid.table last.table after in_mid ends) ∙ rw (stands_here, ending_is) refl
+
+  pub ended_outcome : (book : Book) → book ≡ losing (Some (Exited l.to r owing.waiting)) (wrote (receipt_stamp a l) (came_event l) (map (letter (receipt_stamp a l)) owing.owed) a.book)
       → Outcome a (parts_of a.config book last) (receipt_stamp a l) (came_event l)
   ended_outcome book is =
       let gone : remains l (standing a l) ≡ None = rw (stands_here, ending_is) refl in
@@ -204,7 +220,9 @@ module _ (a : Parts) (whole : IsWhole a) (l : Letter) (here : l.to.shard ≡ a.p
             ∙ ap (vacated a.config.top_version (Some l.to)) (ap (option_pid a.processes.desk) changes.next)
             ∙ ap (λ b. vacated a.config.top_version (cond b (Some l.to) None) (vacant_at a.processes.desk a.processes.table)) (sym ends_now);
       })
-      (is ∙ ap (λ o. wrote (receipt_stamp a l) (came_event l) (map (letter (receipt_stamp a l)) o) a.book) owed_is)
+      (is
+      ∙ ap (λ o. losing (Some (Exited l.to r owing.waiting)) (wrote (receipt_stamp a l) (came_event l) (map (letter (receipt_stamp a l)) o) a.book)) owed_is
+      ∙ ap (λ o. losing o (wrote (receipt_stamp a l) (came_event l) (map (letter (receipt_stamp a l)) (letter_replies l (standing a l))) a.book)) lost_here)
     where
       ends_now : is_ended_by l (standing a l) ≡ true
       ends_now = rw (stands_here, ending_is) refl

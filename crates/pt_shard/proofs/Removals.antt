@@ -3,11 +3,10 @@ use Rattle.std.proofs.Common.{◌≡◌, ℕ, Bool, true, false, cond, Some, Non
 use Rattle.std.specs.Prelude.{IfSome, IsSome}
 use Rattle.pt_signal.specs.declared.pid.Pid.{Pid}
 use Rattle.pt_signal.specs.declared.reason.Reason.{Reason}
-use Rattle.pt_signal.specs.Process.{estate}
 use Rattle.pt_slots.specs.declared.Key.{Key}
 use Rattle.pt_slots.specs.State.{at}
 use Rattle.pt_slots.specs.Calls.{Removed}
-use Rattle.pt_process.specs.ProcessView.{ProcessView, Owing}
+use Rattle.pt_process.specs.ProcessView.{ProcessView, Owing, owing_of}
 use Rattle.pt_shard.specs.Processes.{Table, Ends, seen_process, in_place, is_place_of}
 
 abbrev key_at : Pid → Key
@@ -16,12 +15,12 @@ key_at p = record { slot = p.slot; version = p.version }
 key_is : (k : Key) (p : Pid) → k.slot ≡ p.slot → k.version ≡ p.version → k ≡ key_at p
 key_is k p s v = λ i. record { slot = s i; version = v i }
 
-removed_at : (p : Pid) (reason : Reason) (r : ProcessView) (owing : Owing) (old new : Table) → owing ≡ record { from = r.me; owed = estate r.me r.state reason }
+removed_at : (p : Pid) (reason : Reason) (r : ProcessView) (owing : Owing) (old new : Table) → owing ≡ owing_of r.me r.state reason
     → Removed (key_at p) r old new → Ends p reason owing old new
 removed_at p reason r owing old new owes removed =
     let there : in_place old p ≡ Some (r.me, r.state) = ap seen_process removed.was_live in
     record {
-      owes = subst (λ o. IfSome o (λ x. owing ≡ record { from = x.0; owed = estate x.0 x.1 reason })) (sym there) owes;
+      owes = subst (λ o. IfSome o (λ x. owing ≡ owing_of x.0 x.1 reason)) (sym there) owes;
       lived = subst IsSome (sym there) refl;
       puts = record {
         live = λ slot version. go (is_place_of p slot version) slot version refl;
@@ -36,5 +35,5 @@ removed_at p reason r owing old new owes removed =
     go false slot version h = let e = removed.live slot version in rw h (ap seen_process e ∙ rw h refl)
 
 pub taken_out : (k : Key) (p : Pid) (reason : Reason) (r : ProcessView) (owing : Owing) (old new : Table) → k.slot ≡ p.slot → k.version ≡ p.version
-    → owing ≡ record { from = r.me; owed = estate r.me r.state reason } → Removed k r old new → Ends p reason owing old new
+    → owing ≡ owing_of r.me r.state reason → Removed k r old new → Ends p reason owing old new
 taken_out k p reason r owing old new s v owes removed = removed_at p reason r owing old new owes (subst (λ x. Removed x r old new) (key_is k p s v) removed)

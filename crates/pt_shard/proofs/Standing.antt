@@ -12,6 +12,7 @@ use Rattle.pt_signal.specs.Settings.{IsInRange}
 use Rattle.pt_shard.specs.Opening.{fresh_shard}
 use Rattle.pt_shard.proofs.Vacancy.{next_birth}
 use Rattle.pt_shard.specs.Fit.{AreBetween, IsNextBirth}
+use Rattle.pt_shard.specs.declared.loss.Loss.{Loss}
 use Rattle.pt_shard.specs.LedgerState.{Book}
 use Rattle.pt_shard.specs.Sound.{is_issued}
 use Rattle.pt_shard.specs.Processes.{ProcessesState, process_at}
@@ -38,6 +39,36 @@ module _ (a : Parts) (whole : IsWhole a) (outbox : List (List Letter)) (hold : O
         boxes = boxes;
         boxed = boxed;
         held = held;
+        posts_near = whole.sound.fit.posts_near;
+        gots_near = whole.sound.fit.gots_near;
+      };
+      processes = whole.sound.processes;
+      issues = whole.sound.issues;
+      born = whole.sound.born;
+      near = whole.sound.near;
+    };
+    offers = whole.offers;
+    home = whole.home;
+    capacity = whole.capacity;
+    top_version = whole.top_version;
+  }
+
+-- what was lost and not told is another, or another is kept
+module _ (a : Parts) (whole : IsWhole a) (keeps : Bool) (lost : List Loss) where
+  pub kept_whole : IsWhole (parts_of a.config (record a.book { keeps = keeps; lost = lost }) a.processes)
+  unfolding IsNextBirth
+  kept_whole = record {
+    sound = record {
+      fit = record {
+        settings = whole.sound.fit.settings;
+        here = whole.sound.fit.here;
+        begun = whole.sound.fit.begun;
+        clock_is = whole.sound.fit.clock_is;
+        local = whole.sound.fit.local;
+        vacant = whole.sound.fit.vacant;
+        boxes = whole.sound.fit.boxes;
+        boxed = whole.sound.fit.boxed;
+        held = whole.sound.fit.held;
         posts_near = whole.sound.fit.posts_near;
         gots_near = whole.sound.fit.gots_near;
       };
@@ -83,7 +114,7 @@ module _ (a : Parts) (whole : IsWhole a) (to count : ℕ) where
 -- nothing has happened ------------------------------------------------------------------------
 
 abbrev pub first_book : Config → ℕ → Book
-first_book config number = record { start = []; desk = number; clock = config.start; journal = []; outbox = replicate config.desks []; hold = None }
+first_book config number = record { start = []; desk = number; clock = config.start; journal = []; outbox = replicate config.desks []; hold = None; keeps = false; lost = [] }
 
 empty_boxed : (d n e : ℕ) → AreBetween d e (get_or (replicate n []) e [])
 empty_boxed d n e = go (cases_lt e n)

@@ -28,7 +28,9 @@ use Rattle.pt_shard.specs.declared.stop.Stop.TheVariants.{Memory, Worn}
 use Rattle.pt_shard.specs.ShardState.{came_event}
 use Rattle.pt_shard.specs.Backs.{living_back}
 use Rattle.pt_shard.specs.Calls.{if_asked}
-use Rattle.pt_shard.specs.LedgerState.{Book, LedgerState, wrote, HasRoomToAll}
+use Rattle.pt_shard.specs.declared.loss.Loss.TheVariants.{Exited}
+use Rattle.pt_shard.specs.Losses.{stray}
+use Rattle.pt_shard.specs.LedgerState.{Book, LedgerState, wrote, losing, HasRoomToAll, HasLossRoom}
 use Rattle.pt_shard.specs.Processes.{ProcessesState, Ends}
 use Rattle.pt_shard.specs.Sound.{Every}
 
@@ -145,12 +147,22 @@ GivesBack x back l (Ok _) l' =
 GivesBack x back l (Err Worn) l' = (MAX_STAMP ≤ max l.book.clock x.stamp) × (l'.book ≡ l.book)
 GivesBack x back l (Err Memory) l' = (max l.book.clock x.stamp < MAX_STAMP) × (l'.book ≡ l.book)
 
+-- the same where nobody is alive: a message is lost
+abbrev pub Bounces : Letter → Option Signal → LedgerState → Result (Unit {0}) Stop → LedgerState → Type 0
+Bounces x back l (Ok _) l' =
+    (max l.book.clock x.stamp < MAX_STAMP)
+    × (l'.book
+    ≡ losing (stray x.to x.from x.signal) (wrote (max l.book.clock x.stamp + 1) (came_event x)
+    (map (letter (max l.book.clock x.stamp + 1)) (map (sent x.to x.from) (option_to_list back))) l.book))
+Bounces x back l (Err Worn) l' = (MAX_STAMP ≤ max l.book.clock x.stamp) × (l'.book ≡ l.book)
+Bounces x back l (Err Memory) l' = (max l.book.clock x.stamp < MAX_STAMP) × (l'.book ≡ l.book)
+
 -- the letter did to it what its signal does, and what it owed before finds room
 abbrev pub PreparesEnding : Letter → ProcessView → LedgerState → Result (Unit {0}) Stop → ProcessView → LedgerState
     → Type 0
 PreparesEnding x r l (Ok _) r' l' =
     (max l.book.clock x.stamp < MAX_STAMP) × (r'.me ≡ r.me) × (r'.state ≡ (handle r.me r.state x.from x.signal).state)
-    × (l'.book ≡ l.book) × (0 < l'.room) × HasRoomToAll (peers_held r.state) l'
+    × (l'.book ≡ l.book) × (0 < l'.room) × HasRoomToAll (peers_held r.state) l' × HasLossRoom l'
 PreparesEnding x r l (Err s) r' l' = IsStopped x s r l r' l'
 
 -- whatever the process p is found to owe at its end with this reason comes from it, and finds room
@@ -166,4 +178,5 @@ abbrev pub EndsBy : Letter → Reason → ProcessesState → LedgerState → Pro
 EndsBy x reason processes l processes' l' =
     (owing : Owing) × (processes'.desk ≡ processes.desk) × Ends x.to reason owing processes.table processes'.table
     × (l'.book
-    ≡ wrote (max l.book.clock x.stamp + 1) (came_event x) (map (letter (max l.book.clock x.stamp + 1)) owing.owed) l.book)
+    ≡ losing (Some (Exited x.to reason owing.waiting)) (wrote (max l.book.clock x.stamp + 1) (came_event x)
+    (map (letter (max l.book.clock x.stamp + 1)) owing.owed) l.book))

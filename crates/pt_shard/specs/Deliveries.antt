@@ -1,10 +1,14 @@
 -- What a letter makes of the process that stands in the place of its receiver. No public clause cites this module.
 use Rattle.std.specs.Prelude.{Bool, false, List, ◌++◌, Option, Some, None, is_some}
+use Rattle.std.specs.Option.{option_map}
 use Rattle.pt_signal.specs.declared.pid.Pid.{Pid}
 use Rattle.pt_signal.specs.declared.reason.Reason.{Reason}
 use Rattle.pt_signal.specs.declared.letter.Letter.{Letter}
 use Rattle.pt_signal.specs.Process.{ProcessState, Handled, handle, Sent, bounce}
 use Rattle.pt_events.specs.History.{end_sends}
+use Rattle.pt_shard.specs.declared.loss.Loss.{Loss}
+use Rattle.pt_shard.specs.declared.loss.Loss.TheVariants.{Exited}
+use Rattle.pt_shard.specs.Losses.{stray}
 
 -- a live process by its pid and its state, if there is one
 abbrev pub Receiver : Type 0
@@ -31,3 +35,8 @@ is_ended_by l (Some r) = is_some (handle_letter l r).ending
 abbrev pub letter_replies : Letter → Receiver → List Sent
 letter_replies l None = bounce l.to l.from l.signal
 letter_replies l (Some r) = let h = handle_letter l r in h.answer ++ end_sends r.0 h.ending h.state
+
+-- what is lost by the letter
+abbrev pub letter_loss : Letter → Receiver → Option Loss
+letter_loss l None = stray l.to l.from l.signal
+letter_loss l (Some r) = let h = handle_letter l r in option_map (λ why. Exited r.0 why h.state.waiting) h.ending

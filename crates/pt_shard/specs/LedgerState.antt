@@ -1,5 +1,5 @@
 -- The clock, the journal and the letters of a desk. No public clause cites this module.
-use Rattle.std.specs.Prelude.{◌≡◌, ℕ, ◌<◌, ◌≤◌, ◌==◌, Bool, count_by, List, [], ◌∷◌, length, slice_index_or, Option}
+use Rattle.std.specs.Prelude.{◌≡◌, ℕ, ◌<◌, ◌≤◌, ◌==◌, Bool, true, count_by, List, [], ◌∷◌, length, slice_index_or, Option}
 use Rattle.std.specs.Prelude.{Some, None, Result, Ok, Err, max, ⊤}
 use Rattle.pt_signal.specs.declared.pid.Pid.{Pid}
 use Rattle.pt_signal.specs.declared.letter.Letter.{Letter}
@@ -13,6 +13,8 @@ use Rattle.pt_events.specs.Leaving.{start_after}
 use Rattle.pt_shard.specs.declared.stop.Stop.{Stop}
 use Rattle.pt_shard.specs.declared.stop.Stop.TheVariants.{Memory, Worn}
 use Rattle.pt_shard.specs.Boxes.{put_out}
+use Rattle.pt_shard.specs.declared.loss.Loss.{Loss}
+use Rattle.pt_shard.specs.Losses.{with_loss}
 
 -- what is written down
 pub record Book : Type 0 where
@@ -23,12 +25,17 @@ pub record Book : Type 0 where
   pub journal : List Stamped
   pub outbox : List (List Letter)
   pub hold : Option Letter
+  -- whether losses are kept, and those kept
+  pub keeps : Bool
+  pub lost : List Loss
 
 pub record LedgerState : Type 0 where
   pub book : Book
   -- how many more events are sure to find room, and how many more letters for each desk
   pub room : ℕ
   pub rooms : List ℕ
+  -- how many more losses
+  pub lost_room : ℕ
 
 -- no event is stamped above n
 abbrev pub IsUpTo : ℕ → List Stamped → Type 0
@@ -44,7 +51,13 @@ wrote n e ls b = record {
   journal = record { stamp = n; desk = b.desk; event = e } ∷ b.journal;
   outbox = put_out b.outbox ls;
   hold = b.hold;
+  keeps = b.keeps;
+  lost = b.lost;
 }
+
+-- one more loss, if there is one
+abbrev pub losing : Option Loss → Book → Book
+losing o b = record b { lost = with_loss b.keeps o b.lost }
 
 -- an empty journal over what the one so far leaves behind
 abbrev pub restarted_book : ℕ → Book → Book
@@ -55,6 +68,8 @@ restarted_book n b = record {
   journal = [];
   outbox = b.outbox;
   hold = b.hold;
+  keeps = b.keeps;
+  lost = b.lost;
 }
 
 abbrev pub HasRoomAt : ℕ → LedgerState → Type 0
@@ -64,6 +79,10 @@ abbrev pub HasRoomFor : Option Signal → ℕ → LedgerState → Type 0
 HasRoomFor None e s = ⊤
 HasRoomFor (Some x) e s = HasRoomAt e s
 
+-- for a loss, if losses are kept
+abbrev pub HasLossRoom : LedgerState → Type 0
+HasLossRoom s = s.book.keeps ≡ true → 0 < s.lost_room
+
 -- the process is of desk e
 abbrev pub is_of_desk : ℕ → Pid → Bool
 is_of_desk e q = q.shard == e
@@ -71,6 +90,10 @@ is_of_desk e q = q.shard == e
 -- for a letter to each of them
 abbrev pub HasRoomToAll : List Pid → LedgerState → Type 0
 HasRoomToAll qs s = (e : ℕ) → e < length s.book.outbox → count_by (is_of_desk e) qs ≤ slice_index_or s.rooms e 0
+
+-- for what a process owes to each of them, and for what it leaves
+abbrev pub HasRoomToEnd : List Pid → LedgerState → Type 0
+HasRoomToEnd qs s = HasRoomToAll qs s × HasLossRoom s
 
 -- an attempt to make room for an event that is stamped above floor, and for letters
 abbrev pub Prepares : ℕ → (LedgerState → Type 0) → LedgerState → Result (Unit {0}) Stop → LedgerState → Type 0

@@ -1,5 +1,7 @@
 pub mod Boxes
 pub mod Begun
+pub mod Losses
+pub mod LossesState
 pub mod ShardState
 pub mod Reading
 pub mod Opening

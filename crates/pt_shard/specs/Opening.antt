@@ -1,5 +1,5 @@
 -- A desk on which nothing has happened.
-use Rattle.std.specs.Prelude.{ℕ, [], replicate, Some, None}
+use Rattle.std.specs.Prelude.{ℕ, false, [], replicate, Some, None}
 use Rattle.pt_signal.specs.declared.config.Config.{Config}
 use Rattle.pt_shard.specs.ShardState.{ShardState}
 
@@ -14,4 +14,6 @@ fresh_shard c number = record {
   outbox = replicate c.desks [];
   hold = None;
   vacant = Some (record { shard = number; slot = 0; version = 1 });
+  keeps = false;
+  lost = [];
 }

@@ -4,11 +4,11 @@ use Rattle.std.specs.Option.{option_map}
 use Rattle.pt_signal.specs.declared.pid.Pid.{Pid}
 use Rattle.pt_signal.specs.declared.ids.LinkId.{LinkId}
 use Rattle.pt_signal.specs.declared.reason.Reason.{Reason}
-use Rattle.pt_signal.specs.Process.{ProcessState, estate}
+use Rattle.pt_signal.specs.Process.{ProcessState}
 use Rattle.pt_slots.specs.declared.Key.{Key}
 use Rattle.pt_slots.specs.State.{SlotsState, at, issued, next_key, with_value}
 use Rattle.pt_slots.specs.Offers.{OffersTheFree}
-use Rattle.pt_process.specs.ProcessView.{ProcessView, Owing}
+use Rattle.pt_process.specs.ProcessView.{ProcessView, Owing, owing_of}
 
 abbrev pub Table : Type 0
 Table = SlotsState ProcessView
@@ -91,7 +91,7 @@ HasRoomFor (Some i) p table = HasLinkRoom p table
 
 -- the process p was taken out, and owes that at its end
 pub record Ends (p : Pid) (reason : Reason) (owing : Owing) (old new : Table) : Type 0 where
-  pub owes : IfSome (in_place old p) (λ r. owing ≡ record { from = r.0; owed = estate r.0 r.1 reason })
+  pub owes : IfSome (in_place old p) (λ r. owing ≡ owing_of r.0 r.1 reason)
   pub lived : IsSome (in_place old p)
   pub puts : Puts p None old new
   pub next : next_key new ≡ cond (p.version == old.top_version) (next_key old) (Some (record {

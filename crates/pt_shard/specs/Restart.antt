@@ -3,7 +3,7 @@ use Rattle.std.specs.Prelude.{ℕ, []}
 use Rattle.pt_events.specs.Leaving.{start_after}
 use Rattle.pt_shard.specs.ShardState.{ShardState, past}
 
--- with its clock at n; the processes are as they were, and so is what waits
+-- with its clock at n; the processes are as they were, and so is what waits and what was lost
 abbrev pub restarted : ℕ → ShardState → ShardState
 restarted n d = record {
   start = start_after d.start (past d);
@@ -14,4 +14,6 @@ restarted n d = record {
   outbox = d.outbox;
   hold = d.hold;
   vacant = d.vacant;
+  keeps = d.keeps;
+  lost = d.lost;
 }

@@ -14,6 +14,8 @@ use Rattle.pt_signal.specs.declared.config.TheConstants.{MAX_STAMP}
 pub use Rattle.pt_signal.specs.Boxes.{one_more}
 pub use Rattle.pt_shard.specs.Boxes.{put_out}
 use Rattle.pt_signal.specs.declared.config.Config.{Config}
+use Rattle.pt_shard.specs.declared.loss.Loss.{Loss}
+use Rattle.pt_shard.specs.Losses.{lost_in, with_loss}
 use Rattle.pt_shard.specs.declared.stop.Stop.{Stop}
 use Rattle.pt_shard.specs.declared.stop.Stop.TheVariants.{Memory, Worn}
 
@@ -31,6 +33,9 @@ pub record ShardState : Type 0 where
   pub hold : Option Letter
   -- the pid that the next birth has, or nothing where no slot is free
   pub vacant : Option Pid
+  -- whether losses are kept, and those kept and not told yet, the oldest first
+  pub keeps : Bool
+  pub lost : List Loss
 
 abbrev pub past : ShardState → Past
 past d = events d.journal
@@ -77,6 +82,10 @@ vacated top (Some p) vacant = cond (p.version == top) vacant (Some (record p { v
 abbrev pub stamped : ℕ → Event → ShardState → Stamped
 stamped n e d = record { stamp = n; desk = d.number; event = e }
 
+-- what the event loses, after those before it
+abbrev pub lost_by : ShardState → Event → Option Loss
+lost_by d e = lost_in d.start (past d) e
+
 -- the desk after the event e, stamped n: what the event sends waits in the outbox
 abbrev pub written : ℕ → Event → ShardState → ShardState
 written n e d = record {
@@ -88,6 +97,8 @@ written n e d = record {
   outbox = put_out d.outbox (sends n e d);
   hold = d.hold;
   vacant = vacated d.config.top_version (ended_by d e) d.vacant;
+  keeps = d.keeps;
+  lost = with_loss d.keeps (lost_by d e) d.lost;
 }
 
 -- the desk after an event of its own

@@ -26,6 +26,8 @@ shard_of a = record {
   outbox = a.book.outbox;
   hold = a.book.hold;
   vacant = vacant_at a.processes.desk a.processes.table;
+  keeps = a.book.keeps;
+  lost = a.book.lost;
 }
 
 pub record IsWhole (a : Parts) : Type 0 where

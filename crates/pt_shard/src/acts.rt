@@ -13,16 +13,18 @@ ghost use Rattle.pt_signal.specs.Values.{fits, same_ref};
 ghost use Rattle.pt_process.specs.Peers.{peers_held};
 ghost use Rattle.pt_shard.specs.Sound.{Every};
 ghost use Rattle.pt_shard.specs.Processes.{in_place};
+ghost use Rattle.pt_shard.specs.LedgerState.{HasLossRoom};
 ghost use Rattle.pt_shard.specs.Acts.{Acts, Tells, PreparesBirth, TakesIn, GivesBack, PreparesEnding, IsReadyToEnd};
-ghost use Rattle.pt_shard.specs.Acts.{EndsBy, taking, unlinking, giving_up, link_after, ref_after};
+ghost use Rattle.pt_shard.specs.Acts.{Bounces, EndsBy, taking, unlinking, giving_up, link_after, ref_after};
 
 use crate::fault::Fault;
 use crate::ledger::Ledger;
+use crate::loss::Loss;
 use crate::processes::Processes;
 use crate::stop::Stop;
 use pt_events::Event;
 use pt_process::{Outcome, Process};
-use pt_signal::{Item, Letter, LinkId, Pick, Pid, Reason, Ref, Signal};
+use pt_signal::{Body, Item, Letter, LinkId, Pick, Pid, Reason, Ref, Signal};
 use std::alloc::AllocError;
 
 /// Writes that a process sends a signal, which changes nothing in it, and sends it.
@@ -234,9 +236,24 @@ fn answer(ledger: &mut Ledger, letter: &Letter, question: Ref) -> Result<(), Sto
 #[inline(never)]
 pub(crate) fn bounce(ledger: &mut Ledger, letter: &Letter) -> Result<(), Stop>
     requires { letter.now.from.shard < length ledger.old.book.outbox }
-    ensures { GivesBack letter.now (answer_of_dead letter.now.signal) ledger.old result ledger.new }
+    ensures { Bounces letter.now (answer_of_dead letter.now.signal) ledger.old result ledger.new }
 {
+    if let Signal::Message(body) = letter.signal {
+        return lose_message(ledger, letter, body);
+    }
     give_back(ledger, letter, letter.signal.answer_of_dead())
+}
+
+/// Writes that a message arrived at a process that is not alive. It is lost.
+fn lose_message(ledger: &mut Ledger, letter: &Letter, body: Body) -> Result<(), Stop>
+    requires { letter.now.signal ≡ Signal.Message body }
+    ensures { Bounces letter.now None ledger.old result ledger.new }
+{
+    ledger.prepare_loss(letter.stamp)?;
+    let event = Event::Came(letter.from, letter.to, letter.signal);
+    ledger.write(letter.stamp, event);
+    ledger.lose(Loss::Stray(letter.to, Item::User(letter.from, body)));
+    Ok(())
 }
 
 /// Writes that a letter arrived, and sends what goes back, if anything.
@@ -277,9 +294,11 @@ pub(crate) fn end_by(
     requires can { max ledger.old.book.clock letter.now.stamp < MAX_STAMP }
     requires room { 0 < ledger.old.room }
     requires owes { IsReadyToEnd letter.now.to reason processes.old ledger.old }
+    requires loss { HasLossRoom ledger.old }
     ensures { EndsBy letter.now reason processes.old ledger.old processes.new ledger.new }
 {
     let estate = processes.end(letter.to, reason);
     let event = Event::Came(letter.from, letter.to, letter.signal);
     ledger.write_end(letter.stamp, event, letter.to, &estate);
+    ledger.lose(Loss::Exited(letter.to, reason, estate.into_mailbox()));
 }

@@ -2,7 +2,7 @@
 
 ghost use Rattle.std.specs.Prelude.{◌≡◌, ℕ, ◌+◌, ◌-◌, ◌<◌, ◌≤◌, ◌^◌, [], ◌∷◌, max, min, nat_le, length, map, drop};
 ghost use Rattle.std.specs.Prelude.{replicate, slice_get, slice_index_or, slice_set, sum_by, count_by, None, IfOk};
-ghost use Rattle.std.specs.Prelude.{OnOk, is_some};
+ghost use Rattle.std.specs.Prelude.{OnOk, Some, false, is_some};
 ghost use Rattle.pt_signal.specs.declared.signal.Signal.{Signal};
 ghost use Rattle.pt_signal.specs.Process.{sent};
 ghost use Rattle.pt_events.specs.declared.event.Event.{Event};
@@ -13,13 +13,15 @@ ghost use Rattle.pt_shard.specs.ShardState.{came_event};
 ghost use Rattle.pt_signal.specs.declared.config.TheConstants.{MAX_DESKS};
 ghost use Rattle.pt_signal.specs.Boxes.{one_more};
 ghost use Rattle.pt_shard.specs.LedgerState.{Book, wrote, restarted_book, Prepares, HasNoNeed, HasRoomAt, HasRoomFor};
-ghost use Rattle.pt_shard.specs.LedgerState.{HasRoomToAll, is_of_desk};
+ghost use Rattle.pt_shard.specs.LedgerState.{HasLossRoom, HasRoomToAll, HasRoomToEnd, is_of_desk, losing};
 ghost use Rattle.pt_process.specs.Peers.{peers_held};
 ghost use Rattle.pt_shard.specs.LettersState.{LettersState};
 ghost use Rattle.pt_shard.specs.Outbox.{count_held};
 ghost use Rattle.pt_shard.specs.Sound.{Every};
 
 use crate::letters::Letters;
+use crate::loss::Loss;
+use crate::losses::Losses;
 use crate::origin::Origin;
 use crate::stop::Stop;
 use pt_events::{Event, Journal, MAX_STAMP, Stamped};
@@ -39,6 +41,7 @@ pub(crate) struct Ledger {
     journal: Journal,
     outbox: Vec<Letters>,
     hold: Option<Letter>,
+    losses: Losses,
 }
 
 impl Model for Ledger {
@@ -56,9 +59,12 @@ impl Model for Ledger {
         journal = l.journal.past;
         outbox = map (λ (b : LettersState). b.letters) l.outbox.items;
         hold = l.hold;
+        keeps = l.losses.keeps;
+        lost = l.losses.kept;
       };
       room = l.journal.room;
       rooms = map (λ (b : LettersState). b.room) l.outbox.items;
+      lost_room = l.losses.room;
     } };
 
     ghost invariant = { λ l. IsUpTo l.clock l.journal.past };
@@ -107,6 +113,8 @@ impl Ledger {
           journal = [];
           outbox = replicate desks [];
           hold = None;
+          keeps = false;
+          lost = [];
         }) }
     {
         Ok(Ledger {
@@ -115,6 +123,7 @@ impl Ledger {
             journal: Journal::new(alloc, desk),
             outbox: no_letters(alloc, desks)?,
             hold: None,
+            losses: Losses::new(alloc),
         })
     }
 
@@ -209,16 +218,51 @@ impl Ledger {
         }
     }
 
-    /// Makes room for an event that is stamped above `floor`, and for what a process would owe at its exit.
+    /// Makes room for an event that is stamped above `floor`, and for a loss, if losses are kept.
+    #[inline(always)]
+    pub(crate) fn prepare_loss(&mut self, floor: u64) -> Result<(), Stop>
+        ensures does { Prepares floor HasLossRoom self.old result self.new }
+        ensures same { self.new.rooms ≡ self.old.rooms }
+    {
+        self.prepare(floor)?;
+        self.losses.reserve()?;
+        Ok(())
+    }
+
+    /// Keeps a loss until it is told, if losses are kept. There is room for it then.
+    pub(crate) fn lose(&mut self, loss: Loss)
+        requires { HasLossRoom self.old }
+        ensures { self.new.book ≡ losing (Some loss) self.old.book }
+    {
+        self.losses.add(loss);
+    }
+
+    /// Sets whether losses are kept from now on.
+    pub(crate) fn keep_losses(&mut self, on: bool)
+        ensures { self.new.book ≡ record self.old.book { keeps = on } }
+    {
+        self.losses.set_keeps(on);
+    }
+
+    /// Takes out the oldest loss that was kept.
+    pub(crate) fn next_loss(&mut self) -> Option<Loss>
+        ensures first { result ≡ slice_get self.old.book.lost 0 }
+        ensures rest { self.new.book ≡ record self.old.book { lost = drop 1 self.old.book.lost } }
+    {
+        self.losses.next()
+    }
+
+    /// Makes room for an event that is stamped above `floor`, for what a process would owe at its exit, and for what it
+    /// leaves.
     #[inline(always)]
     pub(crate) fn prepare_end(&mut self, floor: u64, process: &mut Process) -> Result<(), Stop>
         requires few { length self.old.book.outbox ≤ MAX_DESKS }
         requires near { Every (λ q. q.shard < length self.old.book.outbox) (peers_held process.old.state) }
-        ensures does { Prepares floor (HasRoomToAll (peers_held process.old.state)) self.old result self.new }
+        ensures does { Prepares floor (HasRoomToEnd (peers_held process.old.state)) self.old result self.new }
         ensures me { process.new.me ≡ process.old.me }
         ensures state { process.new.state ≡ process.old.state }
     {
-        self.prepare(floor)?;
+        self.prepare_loss(floor)?;
         if process.owed_len() == 0 {
             return Ok(());
         }
@@ -235,6 +279,7 @@ impl Ledger {
         ensures stamp { result ≡ max self.old.book.clock floor + 1 }
         ensures book { self.new.book ≡ wrote (max self.old.book.clock floor + 1) event [] self.old.book }
         ensures rooms { self.new.rooms ≡ self.old.rooms }
+        ensures lost_room { self.new.lost_room ≡ self.old.lost_room }
     {
         let stamp = self.clock.max(floor) + 1;
         let desk = self.journal.desk();
@@ -252,6 +297,7 @@ impl Ledger {
             ≡ record self.old.book { outbox = one_more self.old.book.outbox letter.to.shard letter } }
         ensures rooms { self.new.rooms
             ≡ slice_set self.old.rooms letter.to.shard (slice_index_or self.old.rooms letter.to.shard 0 - 1) }
+        ensures lost_room { self.new.lost_room ≡ self.old.lost_room }
     {
         self.outbox[usize::from(letter.to.shard)].push(letter);
     }
@@ -309,7 +355,8 @@ impl Ledger {
         requires from { estate.now.from ≡ from }
         requires to { Every (λ l. l.to.shard < length self.old.book.outbox) estate.now.owed }
         requires letters { HasRoomToAll (map (λ l. l.to) estate.now.owed) self.old }
-        ensures { self.new.book
+        ensures lost_room { self.new.lost_room ≡ self.old.lost_room }
+        ensures book { self.new.book
             ≡ wrote (max self.old.book.clock floor + 1) event
             (map (letter (max self.old.book.clock floor + 1)) estate.now.owed) self.old.book }
     {

@@ -78,6 +78,8 @@ mod fault;
 mod laws;
 mod ledger;
 mod letters;
+mod loss;
+mod losses;
 mod origin;
 mod processes;
 mod shard;
@@ -85,6 +87,7 @@ mod stop;
 
 pub use fault::Fault;
 pub use laws::{known_to_others, leaves_each};
+pub use loss::Loss;
 pub use pt_signal::{
     Config, MAX_DESKS, MAX_LANE, MAX_SLOTS, MAX_STAMP, OpenError, Setting, defaults_stand,
     limits_stand,

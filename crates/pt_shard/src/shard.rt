@@ -1,7 +1,7 @@
 //! A desk without its lanes.
 
 ghost use Rattle.std.specs.Prelude.{◌≡◌, true, ◌<◌, ◌≤◌, ◌^◌, ◌-◌, min, length, slice_get, Some, None};
-ghost use Rattle.std.specs.Prelude.{IfOk, OnOk, Ok, Err, cond, false, is_some, option_to_list, ◌==◌, ◌++◌};
+ghost use Rattle.std.specs.Prelude.{IfOk, OnOk, drop, Ok, Err, cond, false, is_some, option_to_list, ◌==◌, ◌++◌};
 ghost use Rattle.pt_shard.specs.declared.fault.Fault.TheVariants.{Gone, Myself};
 ghost use Rattle.pt_signal.specs.Values.{same_pid};
 ghost use Rattle.std.specs.Option.{option_copied};
@@ -32,6 +32,7 @@ use crate::acts::{
 };
 use crate::fault::Fault;
 use crate::ledger::Ledger;
+use crate::loss::Loss;
 use crate::processes::{Processes, new_process};
 use crate::stop::Stop;
 use pt_events::{Event, Journal};
@@ -534,6 +535,8 @@ impl Shard {
         self.ledger.prepare_end(0, process)?;
         let estate = self.processes.end(p, reason);
         self.ledger.write_end(0, Event::Left(p, reason), p, &estate);
+        self.ledger
+            .lose(Loss::Exited(p, reason, estate.into_mailbox()));
         Ok(())
     }
 
@@ -709,6 +712,28 @@ impl Shard {
         ensures fit { IsFit self.new }
     {
         self.ledger.put_hold(letter);
+    }
+
+    /// Sets whether what is lost from now on is kept until it is told. It is not kept at first.
+    ///
+    /// An exit keeps its process's mailbox then, and a message that comes to a process that is not alive is kept. Both
+    /// take memory until [`Shard::next_loss`] tells of them.
+    pub fn keep_losses(&mut self, on: bool)
+        ensures keeps { self.new ≡ record self.old { keeps = on } }
+        ensures extends { Extends self.old self.new }
+        ensures fit { IsFit self.new }
+    {
+        self.ledger.keep_losses(on);
+    }
+
+    /// Takes out the oldest loss that was kept, or returns `None` if there is none.
+    pub fn next_loss(&mut self) -> Option<Loss>
+        ensures first { result ≡ slice_get self.old.lost 0 }
+        ensures rest { self.new ≡ record self.old { lost = drop 1 self.old.lost } }
+        ensures extends { Extends self.old self.new }
+        ensures fit { IsFit self.new }
+    {
+        self.ledger.next_loss()
     }
 
     /// Sends a signal that changes nothing in its sender.

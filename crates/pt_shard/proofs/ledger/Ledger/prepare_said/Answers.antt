@@ -10,7 +10,7 @@ returns-in_err-reserve c =
     let within = subst (λ (b : Book). c.args.to.shard < length b.outbox) (sym before) c.requires in
     let same = same_letters c.self.inside.outbox.items c.from.result c.args.to.shard c.from.ensures within c.index_mut.result.now c.reserve.new.self c.index_mut.ensures.value c.reserve.ensures.same in
     out_of_memory c.args.floor (HasRoomAt c.args.to.shard) c.args.self.now _ c.from_residual-in_err-reserve.result c.from_residual-in_err-reserve.ensures
-    (ap (λ o. record { start = c.self.inside.origin.start; desk = c.self.inside.journal.desk; clock = c.self.inside.clock; journal = c.self.inside.journal.past; outbox = o; hold = c.self.inside.hold }) same ∙ before)
+    (ap (λ o. record { start = c.self.inside.origin.start; desk = c.self.inside.journal.desk; clock = c.self.inside.clock; journal = c.self.inside.journal.past; outbox = o; hold = c.self.inside.hold; keeps = c.self.inside.losses.keeps; lost = c.self.inside.losses.kept }) same ∙ before)
     c.in_ok-prepare.ensures.does.1
 
 pub returns : goal.returns
@@ -19,7 +19,7 @@ returns c =
     let within = subst (λ (b : Book). c.args.to.shard < length b.outbox) (sym before) c.requires in
     let same = same_letters c.self.inside.outbox.items c.from.result c.args.to.shard c.from.ensures within c.index_mut.result.now c.reserve.new.self c.index_mut.ensures.value c.reserve.ensures.same in
     let roomy = room_there c.self.inside.outbox.items c.from.result c.args.to.shard c.from.ensures within c.index_mut.result.now c.reserve.new.self c.index_mut.ensures.value in (
-      ap (λ o. record { start = c.self.inside.origin.start; desk = c.self.inside.journal.desk; clock = c.self.inside.clock; journal = c.self.inside.journal.past; outbox = o; hold = c.self.inside.hold }) same ∙ before,
+      ap (λ o. record { start = c.self.inside.origin.start; desk = c.self.inside.journal.desk; clock = c.self.inside.clock; journal = c.self.inside.journal.past; outbox = o; hold = c.self.inside.hold; keeps = c.self.inside.losses.keeps; lost = c.self.inside.losses.kept }) same ∙ before,
       c.in_ok-prepare.ensures.does.1,
       subst (λ l. 0 < l.room) (sym c.self.view_is) c.in_ok-prepare.ensures.does.2,
       let k = c.in_ok-reserve.ensures.room in omega (arith, k, roomy),

@@ -37,4 +37,5 @@ loop-i-preserved c =
           let as_many = one_more_length c.loop-i.self.book.outbox c.put.new.self.book.outbox c.owed-signal.result.0.shard _ (ap (λ (b : Book). b.outbox) c.put.ensures.book) in
           let less = room_less tos c.loop-i.i c.owed-signal.result.0 within got c.loop-i.self.rooms e (c.loop-i.invariant.1 e (omega (arith, inside, as_many))) in
           subst (λ rooms. count_by (is_of_desk e) (drop (c.loop-i.i + 1) tos) ≤ get_or rooms e 0) (sym c.put.ensures.rooms) less,
+      c.put.ensures.lost_room ∙ c.loop-i.invariant.2,
     )

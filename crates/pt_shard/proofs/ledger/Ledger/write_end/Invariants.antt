@@ -7,4 +7,4 @@ use Rattle.pt_shard.proofs.ledger.Ledger.write_end.Given as goal
 abbrev pub invariant-loop-i : goal.invariant-loop-i
 invariant-loop-i l =
     (l.self.book ≡ wrote l.stamp l.fn.event (map (letter l.stamp) (take l.i l.estate.owed)) l.fn.self.book)
-    × HasRoomToAll (drop l.i (map (λ x. x.to) l.estate.owed)) l.self
+    × HasRoomToAll (drop l.i (map (λ x. x.to) l.estate.owed)) l.self × (l.self.lost_room ≡ l.fn.self.lost_room)

@@ -2,7 +2,8 @@
 use Rattle.std.proofs.Common.{◌≡◌, ◌+◌, ◌<◌, max, length, map, Ok, Some, None, sym, ap, ◌∙◌, refl, subst, arith}
 use Rattle.pt_events.specs.Journal.{letter}
 use Rattle.pt_shard.specs.ShardState.{ShardState, Handles, came_event}
-use Rattle.pt_shard.specs.LedgerState.{Book, wrote, is_of_desk}
+use Rattle.pt_shard.specs.declared.loss.Loss.TheVariants.{Exited}
+use Rattle.pt_shard.specs.LedgerState.{Book, wrote, losing, is_of_desk}
 use Rattle.pt_shard.specs.Processes.{with_process}
 use Rattle.pt_shard.specs.Sound.{Every}
 use Rattle.pt_shard.specs.Extends.{Extends}
@@ -100,7 +101,9 @@ end_by-requires-clause-owes c after owing desk ends = (
 ended_by_it : (c : goal.After-result-1) → Outcome (parts_of c.self.inside.config c.self.inside.ledger.book c.self.inside.processes) (parts_of c.self.inside.config c.end_by.new.ledger.book c.end_by.new.processes) (receipt_stamp (parts_of c.self.inside.config c.self.inside.ledger.book c.self.inside.processes) c.args.letter.now) (came_event c.args.letter.now)
 ended_by_it c =
     ended_outcome (parts_of c.self.inside.config c.self.inside.ledger.book c.self.inside.processes) c.self.invariant c.args.letter.now (c.requires.here ∙ sym (ap (λ (d : ShardState). d.number) c.self.view_is)) (subst (λ (d : ShardState). c.args.letter.now.from.shard < d.config.desks) (sym c.self.view_is) c.requires.near) c.in_ok-prepare_ending.ensures.0 (acting (parts_of c.self.inside.config c.self.inside.ledger.book c.self.inside.processes) c.self.invariant c.args.letter.now.to c.in-Some.process.now c.in-Some.ensures.value) c.in-Some-would_end.reason (sym c.in-Some-would_end.ensures) (with_process c.self.inside.processes c.args.letter.now.to c.prepare_ending.new.process) c.end_by.new.processes refl c.end_by.ensures.1 (after_letter (parts_of c.self.inside.config c.self.inside.ledger.book c.self.inside.processes) c.self.invariant c.args.letter.now c.in-Some.process.now c.in-Some.ensures.value (c.requires.here ∙ sym (ap (λ (d : ShardState). d.number) c.self.view_is)) (subst (λ (d : ShardState). c.args.letter.now.from.shard < d.config.desks) (sym c.self.view_is) c.requires.near) c.self.inside.ledger refl c.prepare_ending.new.process c.prepare_ending.new.ledger c.in_ok-prepare_ending.ensures.1 c.in_ok-prepare_ending.ensures.2) c.end_by.ensures.0 c.end_by.ensures.2 c.end_by.new.ledger.book
-    (subst (λ (b : Book). c.end_by.new.ledger.book ≡ wrote (max b.clock c.args.letter.now.stamp + 1) (came_event c.args.letter.now) (map (letter (max b.clock c.args.letter.now.stamp + 1)) c.end_by.ensures.0.owed) b) c.in_ok-prepare_ending.ensures.3 c.end_by.ensures.3)
+    (subst (λ (b : Book). c.end_by.new.ledger.book ≡ losing (Some (Exited c.args.letter.now.to c.in-Some-would_end.reason c.end_by.ensures.0.waiting))
+    (wrote (max b.clock c.args.letter.now.stamp + 1) (came_event c.args.letter.now) (map (letter (max b.clock c.args.letter.now.stamp + 1)) c.end_by.ensures.0.owed) b))
+    c.in_ok-prepare_ending.ensures.3 c.end_by.ensures.3)
 
 pub invariant_of-self-2 : goal.invariant_of-self-2
 invariant_of-self-2 c = (ended_by_it c).whole
