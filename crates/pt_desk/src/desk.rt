@@ -485,8 +485,8 @@ impl Desk {
     /// Makes p exit with this reason: Erlang's `exit/1`, section Process Termination.
     ///
     /// It sends an exit signal to each process that it holds a link with, then a DOWN to each watcher, then a demonitor
-    /// to each target of an open monitor. The items that wait are dropped. The slot is free for its next version, or
-    /// retired if p had the top one. Fails with `Gone`, `Worn` or `Memory`.
+    /// to each target of an open monitor. The items that wait are lost ([`Desk::next_loss`]). The slot is free for its
+    /// next version, or retired if p had the top one. Fails with `Gone`, `Worn` or `Memory`.
     pub fn exit(&mut self, p: Pid, reason: Reason) -> Result<(), Fault>
         ensures does { Calls p (Some (Event.Left p reason)) tt self.old.shard result self.new.shard }
         ensures ends { HasSameEnds self.old self.new }

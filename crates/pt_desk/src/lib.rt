@@ -56,6 +56,12 @@
 //! promised. The note of a call that failed so is stamped above the exit that was seen, so it comes after that exit in
 //! the node's one history.
 //!
+//! # What is lost
+//!
+//! If `keep_losses` asked for it, a desk keeps what nobody will ever take, and `next_loss` tells each loss once, in the
+//! order in which they happened: what waited in the mailbox of a process as it exited, with the reason of the exit, and
+//! each message that came to a process that was not alive. What was not told takes memory.
+//!
 //! # A desk is used up, not dropped
 //!
 //! A program that drops a `Desk` does not compile. [`Desk::apart`] takes it into its parts, and a node brings their
@@ -79,6 +85,8 @@
 //! - **The directory.** It gets each exit of the journal, and no other. (`IsSeated`)
 //! - **Turns.** `turn` posts what each lane takes, then handles at most `budget` letters, each as `handle` says, with
 //!   exact counts. (`Turns`)
+//! - **Losses.** While they are kept, those told and those kept are what the journal lost. (`AddsLosses` and `AreLosses`
+//!   of `pt_shard`)
 //! - **Accounts.** For each desk, the letters that the journal sends there are those posted, then those waiting. The
 //!   letters collected from it are those received, then the one in the hold.
 //! - **Both ends.** `meet` has two desks look at a lane from both ends, and changes nothing else.

@@ -89,7 +89,7 @@ pub use pt_events::{Event, Journal, Stamped};
 pub use pt_gathered::{Account, Gathered, LeftOver, Quiet, Settled, Unsettled};
 pub use pt_process::Process;
 pub use pt_shard::{
-    Config, Fault, MAX_DESKS, MAX_LANE, MAX_SLOTS, MAX_STAMP, OpenError, Setting, Stop,
+    Config, Fault, Loss, MAX_DESKS, MAX_LANE, MAX_SLOTS, MAX_STAMP, OpenError, Setting, Stop,
 };
 pub use pt_signal::{Body, Ids, Item, Letter, LinkId, Pick, Pid, Reason, Ref, Signal};
 pub use pt_workers::{

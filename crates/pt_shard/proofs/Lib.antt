@@ -24,3 +24,4 @@ mod Noting
 mod Living
 mod Counted
 mod Listed
+mod Losing

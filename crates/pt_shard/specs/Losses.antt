@@ -1,16 +1,16 @@
 -- What a desk loses: messages and other items that nobody will ever take.
-use Rattle.std.specs.Prelude.{Bool, cond, List, [], ◌∷◌, ◌++◌, Option, Some, None}
-use Rattle.std.specs.Option.{option_map}
+use Rattle.std.specs.Prelude.{◌≡◌, Bool, true, false, cond, List, [], ◌∷◌, ◌++◌, Option, Some, None}
+use Rattle.std.specs.Option.{option_map, option_to_list}
 use Rattle.pt_signal.specs.declared.pid.Pid.{Pid}
+use Rattle.pt_signal.specs.declared.item.Body.{Body}
 use Rattle.pt_signal.specs.declared.item.Item.{Item}
 use Rattle.pt_signal.specs.declared.reason.Reason.{Reason}
-use Rattle.pt_signal.specs.declared.letter.Letter.{Letter}
 use Rattle.pt_signal.specs.declared.signal.Signal.{Signal}
 use Rattle.pt_signal.specs.declared.signal.Signal.TheVariants.{Message}
-use Rattle.pt_signal.specs.Process.{handle}
+use Rattle.pt_signal.specs.Process.{ProcessState, handle}
 use Rattle.pt_events.specs.declared.event.Event.{Event}
 use Rattle.pt_events.specs.declared.event.Event.TheVariants.{Came, Left}
-use Rattle.pt_events.specs.History.{Past, Phase, Start, living, life}
+use Rattle.pt_events.specs.History.{Past, Phase, Start, living, ended, life, alive}
 use Rattle.pt_shard.specs.declared.loss.Loss.{Loss}
 use Rattle.pt_shard.specs.declared.loss.Loss.TheVariants.{Exited, Stray}
 
@@ -54,3 +54,23 @@ lost_in start past _ = None
 abbrev pub with_loss : Bool → Option Loss → List Loss → List Loss
 with_loss keeps None kept = kept
 with_loss keeps (Some x) kept = cond keeps (kept ++ x ∷ []) kept
+
+-- what the journal lost, in the order of its events
+abbrev pub losses : Start → Past → List Loss
+losses start [] = []
+losses start (e ∷ past) = losses start past ++ option_to_list (lost_in start past e)
+
+-- what an event loses is what its process held just after its exit, or a message that came to one not alive; and
+-- nothing else is lost
+pub record AreLosses : Type 0 where
+  pub exits : (start : Start) (past : Past) (e : Event) (p : Pid) (r : Reason) (s : ProcessState) → alive start past p ≡ true
+      → life start (e ∷ past) p ≡ ended r s → lost_in start past e ≡ Some (Exited p r s.waiting)
+  pub exited : (start : Start) (past : Past) (e : Event) (p : Pid) (r : Reason) (items : List Item)
+      → lost_in start past e ≡ Some (Exited p r items)
+      → (alive start past p ≡ true) × (s : ProcessState) × (life start (e ∷ past) p ≡ ended r s) × (s.waiting ≡ items)
+  pub strays : (start : Start) (past : Past) (a p : Pid) (body : Body) → alive start past p ≡ false
+      → lost_in start past (Came a p (Message body)) ≡ Some (Stray p (Item.User a body))
+  pub stray : (start : Start) (past : Past) (e : Event) (p : Pid) (item : Item)
+      → lost_in start past e ≡ Some (Stray p item)
+      → (alive start past p ≡ false)
+      × (a : Pid) × (body : Body) × (e ≡ Came a p (Message body)) × (item ≡ Item.User a body)

@@ -1,5 +1,5 @@
 -- A desk without its lanes as its callers see it, and what an event makes of it.
-use Rattle.std.specs.Prelude.{◌≡◌, ℕ, ◌+◌, ◌<◌, ◌≤◌, ◌==◌, Bool, false, cond, List, [], ◌∷◌, map, max, Option, Some}
+use Rattle.std.specs.Prelude.{◌≡◌, ℕ, ◌+◌, ◌<◌, ◌≤◌, ◌==◌, Bool, true, false, cond, List, [], ◌∷◌, ◌++◌, map, max, Option, Some}
 use Rattle.std.specs.Prelude.{None, is_some, Result, Ok, Err, slice_index_or}
 use Rattle.pt_signal.specs.declared.pid.Pid.{Pid}
 use Rattle.pt_signal.specs.declared.letter.Letter.{Letter}
@@ -15,7 +15,7 @@ pub use Rattle.pt_signal.specs.Boxes.{one_more}
 pub use Rattle.pt_shard.specs.Boxes.{put_out}
 use Rattle.pt_signal.specs.declared.config.Config.{Config}
 use Rattle.pt_shard.specs.declared.loss.Loss.{Loss}
-use Rattle.pt_shard.specs.Losses.{lost_in, with_loss}
+use Rattle.pt_shard.specs.Losses.{lost_in, losses, with_loss}
 use Rattle.pt_shard.specs.declared.stop.Stop.{Stop}
 use Rattle.pt_shard.specs.declared.stop.Stop.TheVariants.{Memory, Worn}
 
@@ -104,6 +104,14 @@ written n e d = record {
 -- the desk after an event of its own
 abbrev pub shard_after : Event → ShardState → ShardState
 shard_after e d = written (d.clock + 1) e d
+
+-- while losses are kept, an event adds what it loses behind those kept: those told before, then those kept, are what
+-- the journal lost, or what was kept as the journal began and then that
+abbrev pub AddsLosses : Type 0
+AddsLosses =
+    (carried told : List Loss) (n : ℕ) (e : Event) (d : ShardState) → d.keeps ≡ true
+    → told ++ d.lost ≡ carried ++ losses d.start (past d)
+    → told ++ (written n e d).lost ≡ carried ++ losses d.start (e ∷ past d)
 
 abbrev pub came_event : Letter → Event
 came_event l = Came l.from l.to l.signal

@@ -70,6 +70,9 @@
 //! - **Pids.** A pid once known stays known, to its desk and to the others. (`Known`)
 //! - **Full.** `spawn` fails with `Full` exactly if each slot has a live process or has used its top version.
 //!   (`IsNextBirth`)
+//! - **Losses.** A shard that is asked to keeps what it loses until it is told: what waited in the mailbox of a process
+//!   as it exited, with its reason, and each message that came to a process that was not alive. (`AreLosses`,
+//!   `AddsLosses`)
 //! - **Resuming.** `restart` empties the journal over the state that it leaves. Each process is what it was.
 #![tactic(auto)]
 
@@ -86,7 +89,7 @@ mod shard;
 mod stop;
 
 pub use fault::Fault;
-pub use laws::{known_to_others, leaves_each};
+pub use laws::{known_to_others, leaves_each, losses_are_kept, what_is_lost};
 pub use loss::Loss;
 pub use pt_signal::{
     Config, MAX_DESKS, MAX_LANE, MAX_SLOTS, MAX_STAMP, OpenError, Setting, defaults_stand,

@@ -519,8 +519,8 @@ impl Shard {
         }
     }
 
-    /// Takes p out of its slot, which is then free for its next version, or retired if p had the top one. It puts out
-    /// what p owes: an exit signal to each linked process, a DOWN to each watcher, and a demonitor to the target of
+    /// Takes p out of its slot, which is then free for its next version, or retired if p had the top one. What waits in
+    /// its mailbox is lost ([`Shard::next_loss`]). It puts out what p owes: an exit signal to each linked process, a DOWN to each watcher, and a demonitor to the target of
     /// each open monitor.
     ///
     /// Fails with `Gone`, `Worn` or `Memory`.

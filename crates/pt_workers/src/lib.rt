@@ -32,7 +32,7 @@ mod work;
 pub use pairs::{assign, release};
 pub use pt_desk::{Desk, Turned};
 pub use pt_events::{Event, Stamped};
-pub use pt_shard::Fault;
+pub use pt_shard::{Fault, Loss};
 pub use pt_signal::{Body, Item, Pick, Pid, Reason, Ref};
 pub use run_fault::RunFault;
 pub use running::{FreeGate, Gate, Ran, run, run_single};
