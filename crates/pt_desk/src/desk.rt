@@ -510,6 +510,14 @@ impl Desk {
         self.shard.keep_losses(on);
     }
 
+    /// The loss with this number among those kept and not told, the oldest first, or `None` if there are not so many. It
+    /// is read, and stays.
+    pub fn loss(&self, place: usize) -> Option<&Loss>
+        ensures { option_copied result ≡ slice_get self.now.shard.lost place }
+    {
+        self.shard.loss(place)
+    }
+
     /// Takes out the oldest loss that was kept and not told, or returns `None` if there is none. So each is told once,
     /// in the order in which they happened.
     pub fn next_loss(&mut self) -> Option<Loss>

@@ -1,12 +1,13 @@
 -- The desks of a node without their lanes, and the letters left over.
 use Rattle.std.specs.Prelude.{◌≡◌, ℕ, ◌+◌, ◌*◌, ◌<◌, nat_lt, Bool, cond, List, [], ◌++◌, length, map, slice_index_or}
-use Rattle.std.specs.Prelude.{Option, None}
+use Rattle.std.specs.Prelude.{Option, Some, None}
 use Rattle.std.specs.List.{flat_map}
 use Rattle.pt_signal.specs.declared.letter.Letter.{Letter}
 use Rattle.pt_events.specs.History.{Start}
 use Rattle.pt_events.specs.Journal.{Journals, posts, gots, Agrees}
 use Rattle.pt_events.specs.Refusals.{RefusalsAreTrue}
 use Rattle.pt_signal.specs.declared.config.Config.{Config}
+use Rattle.pt_shard.specs.declared.loss.Loss.{Loss}
 use Rattle.pt_shard.specs.ShardState.{ShardState}
 use Rattle.pt_shard.specs.Outbox.{held_from}
 use Rattle.pt_shard.specs.Fit.{IsFit}
@@ -48,6 +49,11 @@ over g d e = are_both (nat_lt d (length g.shards)) (nat_lt e (length g.shards)) 
 
 abbrev pub journals : GatheredState → Journals
 journals g = journal_at g.shards
+
+-- what a desk lost that nobody was told of
+abbrev pub lost_on : Option ShardState → List Loss
+lost_on None = []
+lost_on (Some s) = s.lost
 
 -- the desk number d of the node, without its lanes
 pub record IsShardOf (config : Config) (d : ℕ) (s : ShardState) : Type 0 where

@@ -9,7 +9,8 @@ ghost use Rattle.pt_laws.specs.Laws.{LegalWithLeftOver};
 ghost use Rattle.pt_laws.specs.Load.{IsStart};
 ghost use Rattle.pt_merge.specs.Merging.{AreApart, journal_of};
 ghost use Rattle.pt_shard.specs.Outbox.{held_from};
-ghost use Rattle.pt_gathered.specs.Gathered.{IsGathered, begins, box_at, hold_at, over, over_in, journals};
+ghost use Rattle.std.specs.Option.{option_copied};
+ghost use Rattle.pt_gathered.specs.Gathered.{IsGathered, begins, lost_on, box_at, hold_at, over, over_in, journals};
 ghost use Rattle.pt_gathered.specs.LeftOvers.{all_left, left_from, left_between};
 ghost use Rattle.pt_gathered.specs.Quiet.{AreInTurn, latest_stamp};
 ghost use Rattle.pt_gathered.specs.Settling.{Steps};
@@ -21,7 +22,7 @@ use crate::left_over::LeftOver;
 use crate::node_laws::laws_of_node;
 use pt_events::{Journal, Stamped};
 use pt_merge::merge;
-use pt_shard::{Config, Shard, Stop};
+use pt_shard::{Config, Loss, Shard, Stop};
 use pt_signal::Letter;
 use std::alloc::{AllocError, Global};
 use std::collections::VecDeque;
@@ -205,6 +206,13 @@ impl AtRest {
             latest = latest.max(self.shards[which].clock());
         }
         latest
+    }
+
+    /// The loss with this number among those that a desk kept and did not tell, the oldest first.
+    pub fn loss(&self, desk: u8, place: usize) -> Option<&Loss>
+        ensures { option_copied result ≡ slice_get (lost_on (slice_get self.now.shards desk)) place }
+    {
+        self.shards.get(usize::from(desk))?.loss(place)
     }
 
     pub fn into_parts(self) -> (Config, Vec<Shard>)

@@ -1,7 +1,7 @@
 //! A node in which no letter is left over.
 
 ghost use Rattle.pt_signal.specs.declared.config.TheConstants.{MAX_DESKS, MAX_STAMP};
-ghost use Rattle.std.specs.Prelude.{◌≡◌, ◌<◌, ◌≤◌, ℕ, [], ◌++◌, length, slice_index_or, reverse, is_some, IfOk};
+ghost use Rattle.std.specs.Prelude.{◌≡◌, ◌<◌, ◌≤◌, ℕ, [], ◌++◌, length, slice_get, slice_index_or, reverse, is_some, IfOk};
 ghost use Rattle.std.specs.Map.{lookup};
 ghost use Rattle.std.specs.List.{list_any};
 ghost use Rattle.pt_signal.specs.Values.{same_ref};
@@ -13,7 +13,8 @@ ghost use Rattle.pt_laws.specs.Load.{IsQuiet};
 ghost use Rattle.pt_accounts.specs.DeskLives.{DeskTable};
 ghost use Rattle.pt_accounts.specs.LivesState.{AreAllPids, InEveryMerge, account_in};
 ghost use Rattle.pt_shard.specs.ShardState.{ShardState};
-ghost use Rattle.pt_gathered.specs.Gathered.{IsGathered, begins, journals, over};
+ghost use Rattle.std.specs.Option.{option_copied};
+ghost use Rattle.pt_gathered.specs.Gathered.{IsGathered, begins, journals, lost_on, over};
 ghost use Rattle.pt_gathered.specs.Tables.{IsTold};
 ghost use Rattle.pt_gathered.specs.Quiet.{AreBornLater, AreInTurn, IsSettled, latest_stamp, ends_of};
 ghost use Rattle.pt_gathered.specs.Settling.{NothingLeft};
@@ -26,7 +27,7 @@ use crate::node_laws::laws_of_node;
 use crate::settled::{Settled, ends_of};
 use pt_accounts::{Account, DeskLives, Lives};
 use pt_events::Stamped;
-use pt_shard::{Config, Shard};
+use pt_shard::{Config, Loss, Shard};
 use pt_signal::{Ids, Pid, Ref};
 use std::alloc::AllocError;
 use std::marker::Model;
@@ -110,6 +111,14 @@ impl Quiet {
         ensures gathered { IsGathered self.now.gathered }
     {
         self.node.desks()
+    }
+
+    /// The loss with this number among those that a desk kept and nobody was told of, the oldest first, with what was
+    /// lost while the node was settled. `None` if there are not so many, or no such desk.
+    pub fn loss(&self, desk: u8, place: usize) -> Option<&Loss>
+        ensures { option_copied result ≡ slice_get (lost_on (slice_get self.now.gathered.shards desk)) place }
+    {
+        self.node.loss(desk, place)
     }
 
     /// The settings of the node.

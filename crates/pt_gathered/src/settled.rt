@@ -1,14 +1,15 @@
 //! A settled node without the list of its processes.
 
 ghost use Rattle.pt_signal.specs.declared.config.TheConstants.{MAX_DESKS, MAX_STAMP};
-ghost use Rattle.std.specs.Prelude.{◌≡◌, ◌<◌, ◌≤◌, ℕ, [], ◌++◌, length, slice_index_or, reverse, IfOk, IfErr};
+ghost use Rattle.std.specs.Prelude.{◌≡◌, ◌<◌, ◌≤◌, ℕ, [], ◌++◌, length, slice_get, slice_index_or, reverse, IfOk, IfErr};
 ghost use Rattle.pt_events.specs.History.{IsLegal, Past};
 ghost use Rattle.pt_events.specs.Journal.{IsMerge, clock, events};
 ghost use Rattle.pt_laws.specs.Laws.{LegalWithLeftOver};
 ghost use Rattle.pt_laws.specs.Load.{IsQuiet};
 ghost use Rattle.pt_accounts.specs.DeskLives.{DeskTable};
 ghost use Rattle.pt_shard.specs.ShardState.{ShardState};
-ghost use Rattle.pt_gathered.specs.Gathered.{IsGathered, begins, journals, over};
+ghost use Rattle.std.specs.Option.{option_copied};
+ghost use Rattle.pt_gathered.specs.Gathered.{IsGathered, begins, journals, lost_on, over};
 ghost use Rattle.pt_gathered.specs.Tables.{IsTold};
 ghost use Rattle.pt_gathered.specs.Quiet.{AreBornLater, AreInTurn, IsSettled, latest_stamp, ends_of};
 ghost use Rattle.pt_gathered.specs.Settling.{NothingLeft};
@@ -22,7 +23,7 @@ use crate::node_laws::laws_of_node;
 use crate::quiet::Quiet;
 use pt_accounts::{DeskLives, Lives};
 use pt_events::Stamped;
-use pt_shard::{Config, Shard};
+use pt_shard::{Config, Loss, Shard};
 use pt_signal::Pid;
 use std::alloc::{AllocError, Global};
 use std::marker::Model;
@@ -130,6 +131,14 @@ impl Settled {
         ensures gathered { IsGathered self.now.gathered }
     {
         self.node.desks()
+    }
+
+    /// The loss with this number among those that a desk kept and nobody was told of, the oldest first, with what was
+    /// lost while the node was settled. `None` if there are not so many, or no such desk.
+    pub fn loss(&self, desk: u8, place: usize) -> Option<&Loss>
+        ensures { option_copied result ≡ slice_get (lost_on (slice_get self.now.gathered.shards desk)) place }
+    {
+        self.node.loss(desk, place)
     }
 
     /// The settings of the node.

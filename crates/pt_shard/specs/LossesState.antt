@@ -1,5 +1,5 @@
 -- What a desk keeps of what it lost, as its owner sees it. No public clause cites this module.
-use Rattle.std.specs.Prelude.{◌≡◌, ℕ, ◌<◌, Bool, true, List}
+use Rattle.std.specs.Prelude.{ℕ, Bool, List}
 use Rattle.pt_shard.specs.declared.loss.Loss.{Loss}
 
 pub record LossesState : Type 0 where

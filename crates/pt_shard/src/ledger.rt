@@ -8,7 +8,7 @@ ghost use Rattle.pt_signal.specs.Process.{sent};
 ghost use Rattle.pt_events.specs.declared.event.Event.{Event};
 ghost use Rattle.pt_events.specs.Journal.{letter};
 ghost use Rattle.pt_events.specs.Journal.{letter as stamp_letter};
-ghost use Rattle.std.specs.Option.{option_to_list};
+ghost use Rattle.std.specs.Option.{option_copied, option_to_list};
 ghost use Rattle.pt_shard.specs.ShardState.{came_event};
 ghost use Rattle.pt_signal.specs.declared.config.TheConstants.{MAX_DESKS};
 ghost use Rattle.pt_signal.specs.Boxes.{one_more};
@@ -242,6 +242,13 @@ impl Ledger {
         ensures { self.new.book ≡ record self.old.book { keeps = on } }
     {
         self.losses.set_keeps(on);
+    }
+
+    /// The loss with this number among those kept, the oldest first.
+    pub(crate) fn loss(&self, place: usize) -> Option<&Loss>
+        ensures { option_copied result ≡ slice_get self.now.book.lost place }
+    {
+        self.losses.at(place)
     }
 
     /// Takes out the oldest loss that was kept.

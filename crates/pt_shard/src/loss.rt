@@ -1,6 +1,6 @@
 //! What nobody will ever take.
 
-ghost use Rattle.std.specs.Prelude.{◌≡◌, slice_get};
+ghost use Rattle.std.specs.Prelude.{◌≡◌, length, slice_get};
 ghost use Rattle.pt_shard.specs.Losses.{items_lost, loser, reason_lost};
 
 use pt_process::Mailbox;
@@ -32,6 +32,16 @@ impl Loss {
         match self {
             Loss::Exited(_, reason, _) => Some(*reason),
             Loss::Stray(_, _) => None,
+        }
+    }
+
+    /// The number of items that are lost.
+    pub fn len(&self) -> usize
+        ensures { result ≡ length (items_lost self.now) }
+    {
+        match self {
+            Loss::Exited(_, _, waiting) => waiting.as_slice().len(),
+            Loss::Stray(_, _) => 1,
         }
     }
 

@@ -1,6 +1,7 @@
 //! What a desk keeps of what it lost.
 
 ghost use Rattle.std.specs.Prelude.{◌≡◌, ◌<◌, [], true, false, drop, slice_get, Some, OnOk};
+ghost use Rattle.std.specs.Option.{option_copied};
 ghost use Rattle.pt_shard.specs.Losses.{with_loss};
 
 use crate::loss::Loss;
@@ -70,6 +71,13 @@ impl Losses {
         if self.keeps {
             self.kept.push_back_reserved(loss);
         }
+    }
+
+    /// The loss with this number, the oldest first.
+    pub(crate) fn at(&self, place: usize) -> Option<&Loss>
+        ensures { option_copied result ≡ slice_get self.now.kept place }
+    {
+        self.kept.get(place)
     }
 
     /// Takes out the oldest.

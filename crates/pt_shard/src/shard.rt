@@ -726,6 +726,13 @@ impl Shard {
         self.ledger.keep_losses(on);
     }
 
+    /// The loss with this number among those kept and not told, the oldest first, or `None` if there are not so many.
+    pub fn loss(&self, place: usize) -> Option<&Loss>
+        ensures { option_copied result ≡ slice_get self.now.lost place }
+    {
+        self.ledger.loss(place)
+    }
+
     /// Takes out the oldest loss that was kept, or returns `None` if there is none.
     pub fn next_loss(&mut self) -> Option<Loss>
         ensures first { result ≡ slice_get self.old.lost 0 }
