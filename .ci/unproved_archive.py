@@ -29,8 +29,9 @@ ROOT = Path(__file__).resolve().parent.parent
 PROGRAM = "pt_c_unproved"
 EXPORT = re.compile(r'#\[unsafe\(no_mangle\)\]\n(?:#\[.*\]\n)*pub extern "C" fn (\w+)\(([^)]*)\)( -> u32)?')
 # How a struct that is passed by value crosses: by a pointer, or as its two fields.
-BY_POINTER = ("PtPid", "PtBody", "PtPick", "PtConfig")
+BY_POINTER = ("PtPid", "PtBody", "PtPick", "PtConfig", "PtNext")
 BY_FIELDS = {"PtRef": ("desk", "number"), "PtReason": ("code", "number")}
+ROW = re.compile(r"(&(?:mut )?)\[(\w+)\]")
 PLAIN = {"u8": "uint8_t", "u32": "uint32_t", "u64": "uint64_t", "usize": "size_t", "bool": "bool"}
 
 
@@ -62,8 +63,9 @@ def argument(kind: str) -> str:
     """An argument of this type in the program's call, which never runs."""
     if kind == "Global":
         return "rt.alloc()"
-    if kind.startswith("&mut ["):
-        return f"&mut any::<[pt_table::desk_handle::{kind[6:-1]}; 1]>(&rt)"
+    if row := ROW.fullmatch(kind):
+        module = "desk_handle" if row[2] == "DeskHandle" else "types"
+        return f"{row[1]}any::<[pt_table::{module}::{row[2]}; 1]>(&rt)"
     return "&mut any(&rt)" if kind.startswith("&mut ") else "any(&rt)"
 
 
@@ -140,7 +142,7 @@ def crossing(name: str, kind: str) -> tuple[list[str], list[str], list[str]]:
     """A parameter: its declarations in C, those of the inner function, and what is handed on."""
     if kind == "Global":
         return [], [], []
-    if kind.startswith("&mut ["):
+    if ROW.fullmatch(kind):
         return [f"void *{name}", f"size_t {name}_count"], ["void *", "size_t"], [name, f"{name}_count"]
     if kind.startswith("&mut "):
         return [f"void *{name}"], ["void *"], [name]
@@ -165,6 +167,7 @@ typedef struct { uint32_t code; uint32_t number; } PtReason;
 typedef struct { uint32_t kind; int64_t num; bool has_who; PtPid who; } PtBody;
 typedef struct { uint32_t code; uint32_t kind; PtPid pid; PtRef reference; } PtPick;
 typedef struct { uint32_t slots; uint32_t top_version; uint32_t lane; uint64_t start; } PtConfig;
+typedef struct { uint32_t code; PtReason reason; uint64_t until; PtPick pick; } PtNext;
 """
 
 

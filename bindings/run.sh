@@ -115,7 +115,7 @@ by_the_page() { # SED-SCRIPT
 mkdir -p "$work/page"
 ln -s "$here" "$work/page/bindings"
 by_the_page '' >"$work/printed"
-for example in about bad_codes no_memory resumed ring supervisor; do
+for example in about bad_codes crew crew_load no_memory resumed ring supervisor; do
     by_the_page "/^\.\//d; s/ping_pong/$example/g" >"$work/printed"
     [ -x "$work/page/$example" ] || { echo "bindings: the lines of docs/EMBEDDING.md do not build $example"; exit 1; }
 done
@@ -126,6 +126,8 @@ echo "c: the lines of docs/EMBEDDING.md build the examples"
 # C, and C++ for the header
 build about
 build bad_codes
+build crew
+build crew_load
 build rows
 build supervisor
 build ring
@@ -133,6 +135,8 @@ build resumed
 build no_memory
 "$work/about"
 "$work/bad_codes"
+"$work/crew_load"
+"$work/crew" | diff "$here/c/crew.out" -
 "$work/rows" "$work/table"
 "$work/no_memory"
 "$work/supervisor" | diff "$here/c/supervisor.out" -
@@ -140,13 +144,14 @@ build no_memory
 "$work/ring" >"$work/printed"
 for standard in c++11 c++20; do
     echo '#include "pundewo_text.h"
-        pt_desk desk = PT_NO_DESK; pt_gathered node = PT_NO_GATHERED; pt_quiet quiet = PT_NO_QUIET; pt_history all = PT_NO_HISTORY;' |
+        pt_desk desk = PT_NO_DESK; pt_gathered node = PT_NO_GATHERED; pt_quiet quiet = PT_NO_QUIET; pt_history all = PT_NO_HISTORY;
+        pt_crew crew = PT_NO_CREW;' |
         cc -x c++ -std=$standard -I "$here/c" -Wall -Wextra -Wpedantic -Werror -fsyntax-only -
 done
 if command -v valgrind >/dev/null; then
     # (fair: four threads that spin would else wait for each other for minutes)
     memory="valgrind -q --fair-sched=try --error-exitcode=9 --leak-check=full --show-leak-kinds=all --errors-for-leak-kinds=all"
-    for program in about bad_codes "rows $work/table" supervisor resumed "ring 20"; do
+    for program in about bad_codes "rows $work/table" supervisor resumed "ring 20" crew "crew_load 3000"; do
         $memory "$work/"$program >"$work/printed" 2>&1 \
             || { cat "$work/printed"; echo "valgrind: $program is not clean"; exit 1; }
     done
@@ -181,6 +186,7 @@ echo "rust: tests, pages and examples passed"
     cd "$here/python"
     python3 -m unittest discover -q -s tests
     PYTHONPATH=. python3 examples/supervisor.py | diff "$here/c/supervisor.out" -
+    PYTHONPATH=. python3 examples/crew.py | diff "$here/c/crew.out" -
     if command -v mypy >/dev/null; then
         mypy --strict --no-incremental pundewo build_wheel.py examples
     fi

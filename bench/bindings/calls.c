@@ -39,20 +39,58 @@ static uint32_t life_call(void) {
     return code | pt_exit(&desk, p, (pt_reason){PT_NORMAL, 0});
 }
 
+/* Pairs of processes with handlers in C, which send each other a message in turn. */
+enum { PAIRS = 64 };
+static pt_crew crew;
+
+static const pt_next wait_any = {.code = PT_NEXT_WAIT, .pick = {.code = PT_PICK_ANY}};
+
+/* The crew of so many pairs, with a message on its way in each. */
+static void begin_pairs(int pairs) {
+    assert(pt_crew_open(&crew) == PT_OK);
+    for (int k = 0; k < pairs; k++) {
+        pt_pid one, two;
+        assert(pt_crew_spawn(&crew, &desk, 1, wait_any, &one) == PT_OK);
+        assert(pt_crew_spawn(&crew, &desk, 2, wait_any, &two) == PT_OK);
+        assert(pt_send(&desk, one, two, (pt_body){.kind = 1}) == PT_OK);
+    }
+}
+
+/* A step, which has a job for one of each pair; each handler sends the message back, and waits. */
+static uint32_t step_pairs(size_t pairs) {
+    pt_job jobs[PAIRS];
+    pt_answer answers[PAIRS];
+    pt_turned turned;
+    size_t count, taken;
+    uint32_t code = pt_crew_step(&crew, &desk, PAIRS, jobs, PAIRS, &count, &turned);
+    if (count != pairs) return PT_NOTHING;
+    for (size_t k = 0; k < count; k++) {
+        code |= pt_send(&desk, jobs[k].pid, jobs[k].item.pid, jobs[k].item.body);
+        answers[k] = (pt_answer){jobs[k].pid, wait_any};
+    }
+    return code | pt_crew_answer(&crew, answers, count, &taken);
+}
+
+static uint32_t crew_call(void) { return step_pairs(1); }
+static uint32_t crew_64_call(void) { return step_pairs(PAIRS); }
+
 static const struct { const char *name; uint32_t (*call)(void); } calls[] = {
     {"clock", clock_call}, {"alive", alive_call}, {"knows", knows_call}, {"peek", peek_call},
     {"receive", receive_call}, {"event_at", event_call}, {"message", message_call}, {"life", life_call},
+    {"crew", crew_call}, {"crew_64", crew_64_call},
 };
 
 int main(int argc, char **argv) {
     assert(argc == 3);
     long count = atol(argv[2]);
-    assert(pt_open(&desk, 1, (pt_config){.slots = 4, .top_version = 4000000, .lane = 8}) == PT_OK);
+    assert(pt_open(&desk, 1, (pt_config){.slots = 256, .top_version = 4000000, .lane = 64}) == PT_OK);
     assert(pt_spawn(&desk, &a) == PT_OK && pt_spawn(&desk, &b) == PT_OK);
+    if (!strncmp(argv[1], "crew", 4)) begin_pairs(strcmp(argv[1], "crew") ? PAIRS : 1);
     for (size_t k = 0; k < sizeof calls / sizeof *calls; k++)
         if (!strcmp(argv[1], calls[k].name)) {
             for (long n = 0; n < count; n++)
                 if (calls[k].call() != PT_OK) abort();
+            if (crew.at) assert(pt_crew_give_up(&crew) == PT_OK);
             return pt_give_up(&desk) != PT_OK;
         }
     fprintf(stderr, "no call %s\n", argv[1]);

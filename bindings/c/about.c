@@ -32,6 +32,8 @@ static void sent(pt_signal x) {
     NEXT(x.code); TRUE(x.alive); reason(x.reason); ref(x.reference); ids(x.ids); body(x.body);
 }
 
+static void does(pt_next n) { NEXT(n.code); reason(n.reason); NEXT(n.until); pick(n.pick); }
+
 /* A sample is written between two guards, which stay as they are. */
 #define SAMPLE(type, value, write)                                                                                   \
     struct { unsigned char before[16]; type value; unsigned char after[16]; } guarded_##value;                     \
@@ -56,6 +58,10 @@ static void samples(void) {
     TRUE(a.has_ended); reason(a.ended); NEXT(a.arrived); NEXT(a.taken); NEXT(a.waiting);
     SAMPLE(pt_config, c, pt_about_config);
     NEXT(c.slots); NEXT(c.top_version); NEXT(c.lane); NEXT(c.start);
+    SAMPLE(pt_job, j, pt_about_job);
+    NEXT(j.code); pid(j.pid); NEXT(j.tag); item(j.item); reason(j.reason); does(j.was);
+    SAMPLE(pt_answer, b, pt_about_answer);
+    pid(b.pid); does(b.next);
 }
 
 static void sizes(void) {
@@ -74,19 +80,24 @@ static void sizes(void) {
     is("pt_turned", s.turned, sizeof(pt_turned));
     is("pt_account", s.account, sizeof(pt_account));
     is("pt_config", s.config, sizeof(pt_config));
+    is("pt_next", s.next, sizeof(pt_next));
+    is("pt_job", s.job, sizeof(pt_job));
+    is("pt_answer", s.answer, sizeof(pt_answer));
     is("pt_codes", s.codes, sizeof(pt_codes));
 }
 
 static void codes(void) {
     static const uint32_t all[] = {
         PT_OK, PT_FULL, PT_MEMORY, PT_WORN, PT_GONE, PT_MYSELF, PT_NOPROC, PT_UNKNOWN, PT_NOTHING, PT_EMPTY, PT_FILLED,
-        PT_BAD_DESKS, PT_BAD_SLOTS, PT_BAD_TOP_VERSION, PT_BAD_LANE, PT_BAD_START, PT_BAD_CODE,
+        PT_BAD_DESKS, PT_BAD_SLOTS, PT_BAD_TOP_VERSION, PT_BAD_LANE, PT_BAD_START, PT_BAD_CODE, PT_NOT_RUNNING,
         PT_NORMAL, PT_KILL, PT_KILLED, PT_NO_PROCESS, PT_SHUTDOWN, PT_OTHER,
         PT_ITEM_USER, PT_ITEM_EXIT, PT_ITEM_DOWN, PT_ITEM_ALIVE,
         PT_PICK_KIND, PT_PICK_FROM, PT_PICK_EXIT_OF, PT_PICK_DOWN_OF, PT_PICK_ALIVE_OF, PT_PICK_ANY,
         PT_SIGNAL_MESSAGE, PT_SIGNAL_LINK, PT_SIGNAL_UNLINK, PT_SIGNAL_EXIT, PT_SIGNAL_LINK_EXIT, PT_SIGNAL_MONITOR,
         PT_SIGNAL_DEMONITOR, PT_SIGNAL_DOWN, PT_SIGNAL_ALIVE_ASK, PT_SIGNAL_ALIVE_SAY,
         PT_EVENT_BORN, PT_EVENT_SAID, PT_EVENT_CAME, PT_EVENT_TOOK, PT_EVENT_FLAG, PT_EVENT_LEFT, PT_EVENT_REFUSED,
+        PT_NEXT_WAIT, PT_NEXT_WAIT_UNTIL, PT_NEXT_PROCEED, PT_NEXT_STOP, PT_NEXT_RUNNING,
+        PT_JOB_START, PT_JOB_PROCEED, PT_JOB_ITEM, PT_JOB_TIMEOUT, PT_JOB_EXIT,
     };
     pt_codes told;
     uint32_t written[sizeof told / sizeof(uint32_t)];

@@ -24,6 +24,74 @@ static bool is_same(state a, state b) {
         && a.is_alive == b.is_alive;
 }
 
+/* What a crew tells of itself. */
+typedef struct { size_t len, queued; bool is_idle, was_refused; pt_next next; uint64_t tag; } crew_state;
+
+static crew_state state_of_crew(pt_crew *crew, pt_desk *desk, pt_pid p) {
+    crew_state s;
+    memset(&s, 0, sizeof s);
+    assert(pt_crew_len(crew, &s.len) == PT_OK && pt_crew_queued(crew, &s.queued) == PT_OK);
+    assert(pt_crew_is_idle(crew, desk, &s.is_idle) == PT_OK && pt_crew_refused(crew, &s.was_refused) == PT_OK);
+    assert(pt_crew_next(crew, p, &s.next) == PT_OK && pt_crew_tag(crew, p, &s.tag) == PT_OK);
+    return s;
+}
+
+static bool is_same_crew(crew_state a, crew_state b) {
+    return a.len == b.len && a.queued == b.queued && a.is_idle == b.is_idle && a.was_refused == b.was_refused
+        && a.next.code == b.next.code && a.tag == b.tag;
+}
+
+/* The same in what a process does next: in its own code, and in that of the pick or of the reason that counts. */
+static int crews(void) {
+    pt_desk desk = PT_NO_DESK, none = PT_NO_DESK;
+    pt_crew crew = PT_NO_CREW, nobody = PT_NO_CREW;
+    pt_pid p, out, was;
+    pt_job jobs[2];
+    pt_turned turned;
+    size_t count, taken = 9;
+    int tried = 0;
+    assert(pt_open(&desk, 1, (pt_config){.slots = 4, .top_version = 9, .lane = 8}) == PT_OK);
+    assert(pt_crew_open(&crew) == PT_OK && pt_crew_open(&crew) == PT_FILLED);
+    assert(pt_crew_spawn(&crew, &desk, 7, (pt_next){.code = PT_NEXT_PROCEED}, &p) == PT_OK);
+    assert(pt_crew_step(&crew, &desk, 9, jobs, 2, &count, &turned) == PT_OK && count == 1);
+    state before = state_of(&desk, p);
+    crew_state crew_before = state_of_crew(&crew, &desk, p);
+    assert(crew_before.next.code == PT_NEXT_RUNNING && crew_before.tag == 7 && jobs[0].code == PT_JOB_START);
+    memset(&out, 0xA5, sizeof out);
+    memcpy(&was, &out, sizeof out);
+    for (size_t k = 0; k < sizeof bad / sizeof *bad; k++) {
+        const pt_next nexts[] = {{.code = bad[k]}, {.code = PT_NEXT_WAIT, .pick = {.code = bad[k]}},
+            {.code = PT_NEXT_WAIT_UNTIL, .until = 9, .pick = {.code = bad[k]}},
+            {.code = PT_NEXT_STOP, .reason = {.code = bad[k]}}};
+        for (size_t n = 0; n < sizeof nexts / sizeof *nexts; n++) {
+            pt_answer answers[2] = {{p, nexts[n]}, {p, {.code = PT_NEXT_PROCEED}}};
+            assert(pt_crew_spawn(&crew, &desk, 8, nexts[n], &out) == PT_BAD_CODE && !memcmp(&was, &out, sizeof out));
+            /* before PT_GONE, and behind PT_EMPTY */
+            assert(pt_crew_spawn_child(&crew, &desk, (pt_pid){0, 3, 1}, true, 8, nexts[n], &out) == PT_BAD_CODE);
+            assert(pt_crew_spawn(&nobody, &desk, 8, nexts[n], &out) == PT_EMPTY);
+            assert(pt_crew_spawn(&crew, &none, 8, nexts[n], &out) == PT_EMPTY && !memcmp(&was, &out, sizeof out));
+            taken = 9;
+            assert(pt_crew_answer(&crew, answers, 2, &taken) == PT_BAD_CODE && taken == 0);
+            assert(pt_crew_answer(&nobody, answers, 2, &count) == PT_EMPTY && count == 1);
+            assert(is_same(before, state_of(&desk, p)));
+            assert(is_same_crew(crew_before, state_of_crew(&crew, &desk, p)));
+            tried++;
+        }
+    }
+    /* a code that does not count may be any, and so may be what is not there */
+    const pt_next wait = {.code = PT_NEXT_WAIT, .reason = {.code = 99}, .pick = {.code = PT_PICK_ANY}};
+    const pt_answer good[2] = {{p, wait}, {p, wait}};
+    assert(pt_crew_answer(&crew, good, 2, &taken) == PT_NOT_RUNNING && taken == 1);
+    assert(pt_crew_answer(&crew, good, 0, &taken) == PT_OK && taken == 0);
+    assert(pt_crew_answer(&crew, &(pt_answer){{9, 9, 9}, {.code = PT_NEXT_PROCEED}}, 1, &taken) == PT_NOT_RUNNING);
+    assert(pt_crew_tag(&crew, (pt_pid){9, 9, 9}, &before.clock) == PT_NOTHING);
+    assert(pt_crew_next_time(&crew, &before.clock) == PT_NOTHING && pt_crew_begin_again(&crew) == PT_OK);
+    assert(pt_crew_step(&crew, &none, 9, jobs, 2, &count, &turned) == PT_EMPTY);
+    assert(pt_crew_step(&nobody, &desk, 9, jobs, 2, &count, &turned) == PT_EMPTY);
+    assert(pt_crew_give_up(&crew) == PT_OK && pt_crew_give_up(&crew) == PT_EMPTY && pt_give_up(&desk) == PT_OK);
+    return tried;
+}
+
 int main(void) {
     pt_desk desk = PT_NO_DESK, none = PT_NO_DESK;
     pt_pid p, other, strange = {9, 0, 1};
@@ -58,6 +126,6 @@ int main(void) {
     assert(pt_exit(&desk, strange, (pt_reason){PT_NORMAL, 0}) == PT_GONE);
     assert(pt_exit(&desk, p, (pt_reason){PT_OTHER, 1}) == PT_OK && !state_of(&desk, p).is_alive);
     assert(pt_give_up(&desk) == PT_OK);
-    printf("c: %d bad codes in 3 calls, each refused\n", tried);
+    printf("c: %d bad codes in 3 calls and %d in 3 calls of a crew, each refused\n", tried, crews());
     return 0;
 }

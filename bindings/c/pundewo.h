@@ -8,12 +8,15 @@
  * desk, except that a call which answers PT_NOPROC is noted in the journal. All of this is proved of the library, for
  * callers that keep to what they owe:
  *
- *  - a handle begins as PT_NO_DESK, PT_NO_GATHERED, PT_NO_QUIET or PT_NO_HISTORY, is changed by the functions below
+ *  - a handle begins as PT_NO_DESK, PT_NO_GATHERED, PT_NO_CREW or its like, is changed by the functions below
  *    alone, and is never copied. An empty handle is tested for, and answered by PT_EMPTY;
  *  - one call at a time on one handle. It may go to another thread (the library proves that its type is `Send`): order
  *    that by a lock, a thread's start or join, a channel, or a sequentially consistent atomic;
  *  - every pointer is valid and aligned, what it points to is initialized, and no two pointers of one call overlap;
- *  - a bool is 0 or 1. A code in a pick or in a reason may have any value: PT_BAD_CODE answers one that means nothing;
+ *  - a bool is 0 or 1. A code in a struct that is passed in may have any value: PT_BAD_CODE answers one that means
+ *    nothing;
+ *  - a crew is used with one desk alone: that of its first call, or, after pt_crew_begin_again, the desk of the same
+ *    number in the node that was resumed;
  *  - pt_gather gets all desks of one pt_open or of one pt_resume, each once and in order;
  *  - malloc, realloc and free come from one allocator, with malloc's usual alignment; no call is made from a signal
  *    handler, nor in the forked child of a process with threads.
@@ -35,6 +38,7 @@ typedef struct { void *at; } pt_gathered;
 typedef struct { void *at; } pt_quiet;
 typedef struct { void *at; } pt_settled;
 typedef struct { void *at; } pt_history;
+typedef struct { void *at; } pt_crew;
 
 #ifdef __cplusplus
 #define PT_NO_DESK pt_desk{nullptr}
@@ -42,12 +46,14 @@ typedef struct { void *at; } pt_history;
 #define PT_NO_QUIET pt_quiet{nullptr}
 #define PT_NO_SETTLED pt_settled{nullptr}
 #define PT_NO_HISTORY pt_history{nullptr}
+#define PT_NO_CREW pt_crew{nullptr}
 #else
 #define PT_NO_DESK ((pt_desk){0})
 #define PT_NO_GATHERED ((pt_gathered){0})
 #define PT_NO_QUIET ((pt_quiet){0})
 #define PT_NO_SETTLED ((pt_settled){0})
 #define PT_NO_HISTORY ((pt_history){0})
+#define PT_NO_CREW ((pt_crew){0})
 #endif
 
 /* The name and the version of the library, and whether it was proved. */
@@ -71,7 +77,8 @@ enum pt_code {
     PT_BAD_TOP_VERSION = 13, /* at least 1 */
     PT_BAD_LANE = 14,       /* 1 to 65,536 */
     PT_BAD_START = 15,      /* at most 2^62 */
-    PT_BAD_CODE = 16        /* the code of a pick or of a reason that was passed in means nothing */
+    PT_BAD_CODE = 16,       /* a code in a struct that was passed in means nothing */
+    PT_NOT_RUNNING = 17     /* an answer for a process that was told nothing, or has been answered */
 };
 
 /* The name of a process: its desk, its slot there, and how often the slot was given out. No two have the same. */
@@ -152,6 +159,34 @@ typedef struct { bool has_ended; pt_reason ended; uint64_t arrived; uint64_t tak
  * clocks. */
 typedef struct { uint32_t slots; uint32_t top_version; uint32_t lane; uint64_t start; } pt_config;
 
+/* What a process of a crew does next:
+ *  - WAIT: it waits for an item that `pick` takes;
+ *  - WAIT_UNTIL: the same, but no longer than until the time `until` (pt_crew_set_time);
+ *  - PROCEED: it is told to proceed as soon as its turn comes;
+ *  - STOP: it exits with `reason`, and is told so;
+ *  - RUNNING: it was told something, and is told nothing until it is answered (pt_crew_answer).
+ * A call that gets any other code answers PT_BAD_CODE; so it does where the code of the pick or of the reason that counts
+ * means nothing. */
+enum { PT_NEXT_WAIT = 0, PT_NEXT_WAIT_UNTIL = 1, PT_NEXT_PROCEED = 2, PT_NEXT_STOP = 3, PT_NEXT_RUNNING = 4 };
+typedef struct { uint32_t code; pt_reason reason; uint64_t until; pt_pick pick; } pt_next;
+
+/* What the handler of a process is told. `tag` is what the process was spawned with.
+ *  - START: it begins: it was to proceed, and has been told nothing before;
+ *  - PROCEED: it proceeds, as it was answered;
+ *  - ITEM: it gets `item`, which it waited for and which is out of its mailbox;
+ *  - TIMEOUT: the time until which it waited has come, and no item fits;
+ *  - EXIT: it has exited with `reason`, and `was` is what it was to do: PT_NEXT_RUNNING, if it was told something that
+ *    nobody answered. It is told once, and the process is none of the crew then: it gets no answer. The reason is that
+ *    of its own exit, by PT_NEXT_STOP or by pt_exit; it is PT_NO_PROCESS where an exit signal ended it, or where it
+ *    exited while its node was settled. */
+enum { PT_JOB_START = 0, PT_JOB_PROCEED = 1, PT_JOB_ITEM = 2, PT_JOB_TIMEOUT = 3, PT_JOB_EXIT = 4 };
+typedef struct {
+    uint32_t code; pt_pid pid; uint64_t tag; pt_item item; pt_reason reason; pt_next was;
+} pt_job;
+
+/* What a running process does next. */
+typedef struct { pt_pid pid; pt_next next; } pt_answer;
+
 /* ---- nodes */
 
 /* Opens a node: the `count` handles, all empty, get its desks, in order. PT_FILLED, PT_MEMORY, PT_BAD_.. */
@@ -188,6 +223,7 @@ uint32_t pt_gathered_give_up(pt_gathered *node);
 uint32_t pt_quiet_give_up(pt_quiet *node);
 uint32_t pt_settled_give_up(pt_settled *node);
 uint32_t pt_history_give_up(pt_history *history);
+uint32_t pt_crew_give_up(pt_crew *crew);
 
 /* ---- calls of a process on its desk. Each may answer PT_GONE, PT_WORN, PT_MEMORY and PT_EMPTY
  *
@@ -209,6 +245,63 @@ uint32_t pt_exit(pt_desk *desk, pt_pid p, pt_reason reason);                    
 
 /* Posts the letters that wait, and handles at most `budget`. PT_EMPTY; what stopped it stands in `out`. */
 uint32_t pt_turn(pt_desk *desk, uint32_t budget, pt_turned *out);
+
+/* ---- crews: the processes of one desk whose handlers are yours. Each may answer PT_EMPTY, which comes first
+ *
+ * A loop is: pt_crew_step; for each job its handler, which makes calls of the desk as it likes, and for each job but
+ * PT_JOB_EXIT an answer, then or later; pt_crew_answer. A handler takes no item from the mailbox of a process of the crew
+ * by itself. What the handlers sent is on its way by the next step, whose turn posts it first.
+ *
+ * No wake-up is lost: a process of the crew that has something to do is in the queue, or the next step finds it. If the
+ * crew is idle (pt_crew_is_idle) and no letter waits (pt_pending), nothing is to be done before the time that
+ * pt_crew_next_time tells, unless another desk sends something. */
+
+/* Begins the crew of a desk, with no process and at the time 0. PT_FILLED, PT_MEMORY. */
+uint32_t pt_crew_open(pt_crew *crew);
+
+/* Spawns a process on the desk as pt_spawn and pt_spawn_child do. It is of the crew then, with this tag, and does `first`
+ * next: it is told PT_JOB_START first where that is PT_NEXT_PROCEED. PT_BAD_CODE, and then as there. */
+uint32_t pt_crew_spawn(pt_crew *crew, pt_desk *desk, uint64_t tag, pt_next first, pt_pid *out);
+uint32_t pt_crew_spawn_child(pt_crew *crew, pt_desk *desk, pt_pid parent, bool linked, uint64_t tag, pt_next first,
+    pt_pid *out);
+
+/* Does a step: a turn of the desk with this budget, whose account `turned` gets; then it reads what is new, wakes whose
+ * time has come, and runs the processes that are in the queue, in order, until `most` jobs are in `jobs` or each was
+ * come to once. `count` gets the number of jobs, and what is behind them in `jobs` stays as it was. No process is in
+ * `jobs` twice. A process that was told anything but PT_JOB_EXIT is running. Where there was no memory or no stamp for a
+ * process it stays in the queue, and pt_crew_refused tells so. */
+uint32_t pt_crew_step(pt_crew *crew, pt_desk *desk, uint32_t budget, pt_job *jobs, size_t most, size_t *count,
+    pt_turned *turned);
+
+/* Takes the answers in order, up to the first that is refused. `taken` gets the number of those that were taken. If all
+ * were it answers PT_OK, and else the code of the one at place `taken`, by which nothing has changed: PT_BAD_CODE;
+ * PT_NOT_RUNNING, where its process is not running or none of the crew. */
+uint32_t pt_crew_answer(pt_crew *crew, const pt_answer *answers, size_t count, size_t *taken);
+
+/* Says what time it is in the calls that follow, in a unit of your own. */
+uint32_t pt_crew_set_time(pt_crew *crew, uint64_t now);
+
+/* For a node that was resumed: goes on over its desk of the same number. Each process is in the queue then, does next
+ * what it was to do, and is told by the next steps that it has exited, where it did in settling. PT_MEMORY, and then it
+ * may be called again. */
+uint32_t pt_crew_begin_again(pt_crew *crew);
+
+/* The earliest time until which a process waits that is not in the queue. PT_NOTHING: there is none. */
+uint32_t pt_crew_next_time(pt_crew *crew, uint64_t *out);
+
+/* The tag of a process, and what it does next. PT_NOTHING: it is none of the crew. */
+uint32_t pt_crew_tag(pt_crew *crew, pt_pid p, uint64_t *out);
+uint32_t pt_crew_next(pt_crew *crew, pt_pid p, pt_next *out);
+
+/* How many processes it has, and how many of them may have something to do. */
+uint32_t pt_crew_len(pt_crew *crew, size_t *out);
+uint32_t pt_crew_queued(pt_crew *crew, size_t *out);
+
+/* Whether none is in the queue, and all that happened on the desk was read. */
+uint32_t pt_crew_is_idle(pt_crew *crew, pt_desk *desk, bool *out);
+
+/* Whether a process was refused memory or a stamp in the last step. */
+uint32_t pt_crew_refused(pt_crew *crew, bool *out);
 
 /* ---- what a desk tells. Each may answer PT_EMPTY */
 
@@ -281,15 +374,18 @@ uint32_t pt_history_left_at(pt_history *history, size_t place, pt_left_over *out
 typedef struct {
     uint32_t
         done, full, memory, worn, gone, myself, noproc, unknown, nothing, empty, filled, bad_desks, bad_slots,
-        bad_top_version, bad_lane, bad_start, bad_code, reason_normal, reason_kill, reason_killed, reason_noproc,
-        reason_shutdown, reason_other, item_user, item_exit, item_down, item_alive, pick_kind, pick_from,
+        bad_top_version, bad_lane, bad_start, bad_code, not_running, reason_normal, reason_kill, reason_killed,
+        reason_noproc, reason_shutdown, reason_other, item_user, item_exit, item_down, item_alive, pick_kind, pick_from,
         pick_exit_of, pick_down_of, pick_alive_of, pick_any, signal_message, signal_link, signal_unlink,
         signal_exit, signal_link_exit, signal_monitor, signal_demonitor, signal_down, signal_alive_ask,
-        signal_alive_say, event_born, event_said, event_came, event_took, event_flag, event_left, event_refused;
+        signal_alive_say, event_born, event_said, event_came, event_took, event_flag, event_left, event_refused,
+        next_wait, next_wait_until, next_proceed, next_stop, next_running, job_start, job_proceed, job_item, job_timeout,
+        job_exit;
 } pt_codes;
 typedef struct {
     size_t
-        pid, reference, ids, reason, body, item, pick, signal, event, left_over, turned, account, config, codes;
+        pid, reference, ids, reason, body, item, pick, signal, event, left_over, turned, account, config, next, job,
+        answer, codes;
 } pt_sizes;
 void pt_about_codes(pt_codes *out);
 void pt_about_sizes(pt_sizes *out);
@@ -300,6 +396,8 @@ void pt_about_left_over(pt_left_over *out);
 void pt_about_turned(pt_turned *out);
 void pt_about_account(pt_account *out);
 void pt_about_config(pt_config *out);
+void pt_about_job(pt_job *out);
+void pt_about_answer(pt_answer *out);
 
 #ifdef __cplusplus
 }

@@ -21,22 +21,23 @@ from threading import Lock
 from typing import Any, Callable, Iterator, Optional, Sequence, TypeVar
 
 from ._library import (
-    BUILD, CAccount, CBody, CConfig, CEvent, CHandle, CIds, CItem, CLeftOver, CPick, CPid, CReason, CRef, CSignal,
-    CTurned, body_of, c_body, c_pick, c_pid, c_reason, c_ref, event_of, ids_of, item_of, left_over_of, lib, own, pick_of,
-    pid_of, reason_of, ref_of,
+    BUILD, CAccount, CAnswer, CBody, CConfig, CEvent, CHandle, CIds, CItem, CJob, CLeftOver, CNext, CPick, CPid, CReason,
+    CRef, CSignal, CTurned, body_of, c_body, c_next, c_pick, c_pid, c_reason, c_ref, event_of, ids_of, item_of, job_of,
+    left_over_of, lib, next_of, own, pick_of, pid_of, reason_of, ref_of,
 )
 from .values import (
-    ANY, EVENTS, ITEMS, KILL, KILLED, NOPROC, NORMAL, PICKS, REASONS, SHUTDOWN, SIGNALS, U8, U32, U64, Account, Body, Code,
-    Config, Event, Ids, Item, LeftOver, LinkId, Pick, Pid, Reason, Ref, Signal, Turned, flag, number, of_type, shown,
-    unchecked,
+    ANY, EVENTS, ITEMS, JOBS, KILL, KILLED, NEXTS, NOPROC, NORMAL, PICKS, PROCEED, REASONS, RUNNING, SHUTDOWN, SIGNALS, U8,
+    U16, U32, U64, Account, Body, Code, Config, Event, Ids, Item, Job, LeftOver, LinkId, Next, Pick, Pid, Reason, Ref, Signal,
+    Turned, flag, number, of_type, shown, unchecked,
 )
 
 __version__ = "0.1.0"
 
 __all__ = [
-    "ANY", "BUILD", "EVENTS", "ITEMS", "KILL", "KILLED", "NOPROC", "NORMAL", "PICKS", "REASONS", "SHUTDOWN", "SIGNALS",
-    "Account", "Body", "Busy", "Code", "Config", "Desk", "Event", "Fault", "Gathered", "History", "Ids", "Item", "LeftOver",
-    "LinkId", "Pick", "Pid", "Quiet", "Reason", "Ref", "Settled", "Signal", "Turned", "Unsettled", "gather", "open_node",
+    "ANY", "BUILD", "EVENTS", "ITEMS", "JOBS", "KILL", "KILLED", "NEXTS", "NOPROC", "NORMAL", "PICKS", "PROCEED", "REASONS",
+    "RUNNING", "SHUTDOWN", "SIGNALS", "Account", "Body", "Busy", "Code", "Config", "Crew", "Desk", "Event", "Fault",
+    "Gathered", "History", "Ids", "Item", "Job", "LeftOver", "LinkId", "Next", "Pick", "Pid", "Quiet", "Reason", "Ref",
+    "Settled", "Signal", "Turned", "Unsettled", "gather", "open_node",
 ]
 
 T = TypeVar("T")
@@ -75,6 +76,8 @@ class _Held:
     """A handle of the library, which is given up with this value. A call on an empty one fails as EMPTY."""
 
     _give_up = "pt_give_up"
+    # the `open_node` that the node comes from, if it is one
+    _opened: object = None
 
     def __init__(self) -> None:
         self._handle = CHandle()
@@ -108,6 +111,11 @@ class _Held:
             return call(self._at, *words)
         finally:
             self._lock.release()
+
+    def _from(self: H, held: _Held) -> H:
+        """The same, of the node that the other value has."""
+        self._opened = held._opened
+        return self
 
     def _busy(self) -> Busy:
         return Busy(f"a {type(self).__name__} is in use by another thread: wait until the call there has returned")
@@ -366,6 +374,138 @@ class Desk(_Held):
         return pids, at.value
 
 
+class Crew(_Held):
+    """The processes of one desk whose handlers are Python's. Use it, and its desk, on one thread at a time.
+
+    A loop is: `step`; for each job its handler, which makes calls of the desk as it likes; and for each job but "exit" an
+    answer, then or later. A handler takes no item from the mailbox of a process of the crew by itself. What the handlers
+    sent is on its way by the next step, whose turn posts it first.
+
+    No wake-up is lost: a process of the crew that has something to do is in the queue, or the next step finds it. If the
+    crew `is_idle` and no letter is `pending` on its desk, nothing is to be done before `next_time`, unless another desk
+    sends something.
+
+    Each call with a desk raises ValueError if that is not the crew's own.
+    """
+
+    _give_up = "pt_crew_give_up"
+
+    def __init__(self, desk: Desk):
+        """The crew of this desk, with no process and at the time 0. Fault: MEMORY."""
+        super().__init__()
+        self._node, self._number = of_type("desk", desk, Desk)._node, desk.number
+        self._from(desk)._must(lib.pt_crew_open)
+
+    def _called(self) -> str:
+        return f"Crew of desk {self._number}"
+
+    @contextmanager
+    def _over(self, desk: Desk) -> Iterator[Any]:
+        """The handle of the crew's own desk, for one call."""
+        if of_type("desk", desk, Desk)._node is not self._node or desk.number != self._number:
+            raise ValueError(f"desk is {shown(desk)} of a node, and must be that of the crew")
+        with desk._held_alone():
+            yield desk._at
+
+    def spawn(self, desk: Desk, tag: int, first: Next = PROCEED) -> Pid:
+        """Spawns a process, as `Desk.spawn` does. It is of the crew, with this tag, and does `first` next: if that is
+        PROCEED, its first job is "start".
+
+        Fault: WORN, FULL if no slot is free, MEMORY.
+        """
+        words = number("tag", tag, 0, U64), c_next("first", first)
+        with self._over(desk) as at:
+            return pid_of(self._give(lib.pt_crew_spawn, CPid(), at, *words))
+
+    def spawn_child(self, desk: Desk, parent: Pid, linked: bool, tag: int, first: Next = PROCEED) -> Pid:
+        """The same of a child of a process, as `Desk.spawn_child`.
+
+        Fault: GONE if the parent is not alive here, WORN, FULL if no slot is free, MEMORY.
+        """
+        words = c_pid("parent", parent), flag("linked", linked), number("tag", tag, 0, U64), c_next("first", first)
+        with self._over(desk) as at:
+            return pid_of(self._give(lib.pt_crew_spawn_child, CPid(), at, *words))
+
+    def step(self, desk: Desk, budget: int = 64, most: int = 64) -> tuple[list[Job], Turned]:
+        """A turn of the desk with this budget; then it reads what is new, wakes whose time has come, and runs the
+        processes in the queue, in order, until there are `most` jobs or each was come to once. Returns the jobs, and what
+        the turn did.
+
+        No process has two jobs. A process that was told anything but "exit" is running. If there was no memory or no
+        stamp for a process it stays in the queue, and `refused` is true.
+        """
+        budget, most = number("budget", budget, 0, U32), number("most", most, 0, U16)
+        jobs, count, out = (CJob * most)(), c.c_size_t(), CTurned()
+        with self._over(desk) as at:
+            self._must(lib.pt_crew_step, at, budget, jobs, most, c.byref(count), c.byref(out))
+        turned = unchecked(Turned, (out.posted, out.handled, Code(out.stopped) if out.stopped else None))
+        return [job_of(jobs[place]) for place in range(count.value)], turned
+
+    def answer(self, p: Pid, does: Next) -> bool:
+        """What a running process does next. Returns False, and nothing has changed, if p is not running."""
+        return self._answer([CAnswer(c_pid("p", p), c_next("does", does))]) == 1
+
+    def answer_all(self, answers: Sequence[tuple[Pid, Next]]) -> int:
+        """Takes the answers in order, up to the first of a process that is not running. Returns how many were taken."""
+        try:
+            given = [(pid, does) for pid, does in answers]
+        except (TypeError, ValueError):
+            raise TypeError(f"answers is {shown(answers)}, and must be a sequence of pairs of Pid and Next") from None
+        return self._answer([CAnswer(c_pid(f"answers[{place}].pid", pid), c_next(f"answers[{place}].next", does))
+                             for place, (pid, does) in enumerate(given)])
+
+    def _answer(self, answers: list[CAnswer]) -> int:
+        taken = c.c_size_t()
+        code = self._call(lib.pt_crew_answer, (CAnswer * len(answers))(*answers), len(answers), c.byref(taken))
+        if code not in (Code.OK, Code.NOT_RUNNING):
+            raise _fault(lib.pt_crew_answer, (), code)
+        return taken.value
+
+    def set_time(self, now: int) -> None:
+        """Says what time it is in the calls that follow, in a unit of your own."""
+        self._must(lib.pt_crew_set_time, number("now", now, 0, U64))
+
+    def begin_again(self, desk: Desk) -> None:
+        """Goes on over the desk of the same number in the node that was resumed. Each process is in the queue, and does next
+        what it was to do. Fault: MEMORY, and then it may be called again."""
+        node = of_type("desk", desk, Desk)._node
+        if desk._opened is not self._opened or desk.number != self._number:
+            raise ValueError(f"desk is {shown(desk)} of a node, and must be that of the crew in a node that was resumed")
+        self._must(lib.pt_crew_begin_again)
+        self._node = node
+
+    def next_time(self) -> Optional[int]:
+        """The earliest time until which a process waits that is not in the queue, or None."""
+        out = self._find(lib.pt_crew_next_time, c.c_uint64())
+        return None if out is None else out.value
+
+    def tag(self, p: Pid) -> Optional[int]:
+        """The tag of p, or None if it is none of the crew."""
+        out = self._find(lib.pt_crew_tag, c.c_uint64(), c_pid("p", p))
+        return None if out is None else out.value
+
+    def next(self, p: Pid) -> Optional[Next]:
+        """What p does next, or None if it is none of the crew."""
+        out = self._find(lib.pt_crew_next, CNext(), c_pid("p", p))
+        return None if out is None else next_of(out)
+
+    def __len__(self) -> int:
+        return self._give(lib.pt_crew_len, c.c_size_t()).value
+
+    def queued(self) -> int:
+        """How many processes may have something to do."""
+        return self._give(lib.pt_crew_queued, c.c_size_t()).value
+
+    def is_idle(self, desk: Desk) -> bool:
+        """Whether no process is in the queue, and all that happened on the desk was read."""
+        with self._over(desk) as at:
+            return self._give(lib.pt_crew_is_idle, c.c_bool(), at).value
+
+    def refused(self) -> bool:
+        """Whether a process was refused memory or a stamp in the last step."""
+        return self._give(lib.pt_crew_refused, c.c_bool()).value
+
+
 class History(_Held):
     """The events of all desks of a node in one legal order, and the letters that are on their way at its end."""
 
@@ -414,7 +554,7 @@ class Gathered(_Held):
 
         Unsettled: WORN if a clock is at its limit, MEMORY. The node has what was handled so far, and may be settled again.
         """
-        quiet = Quiet()
+        quiet = Quiet()._from(self)
         code = self._call(lib.pt_settle, quiet._at)
         if code:
             raise _fault(lib.pt_settle, (), code, Unsettled)
@@ -422,7 +562,7 @@ class Gathered(_Held):
 
     def settle_unlisted(self) -> Settled:
         """The same without the list of all pids that ever were: a pause then costs what happened since the last one."""
-        settled = Settled()
+        settled = Settled()._from(self)
         code = self._call(lib.pt_settle_unlisted, settled._at)
         if code:
             raise _fault(lib.pt_settle_unlisted, (), code, Unsettled)
@@ -450,11 +590,11 @@ class Settled(_Held):
         """Resumes the node, as `Quiet.resume` does. This value is empty afterwards."""
         handles = (CHandle * self.desks())()
         self._must(lib.pt_resume_settled, handles, len(handles))
-        return _desks_of(handles)
+        return _desks_of(handles, self._opened)
 
     def into_quiet(self) -> Quiet:
         """The settled node with the list of all pids that ever were. This value is empty afterwards."""
-        quiet = Quiet()
+        quiet = Quiet()._from(self)
         self._must(lib.pt_settled_into_quiet, quiet._at)
         return quiet
 
@@ -480,7 +620,7 @@ class Quiet(_Held):
         """
         handles = (CHandle * self.desks())()
         self._must(lib.pt_resume, handles, len(handles))
-        return _desks_of(handles)
+        return _desks_of(handles, self._opened)
 
     def handled(self) -> int:
         """How many letters settling handled."""
@@ -513,10 +653,13 @@ class Quiet(_Held):
                           c_ref("monitor", monitor)).value
 
 
-def _desks_of(handles: c.Array[CHandle]) -> list[Desk]:
+def _desks_of(handles: c.Array[CHandle], opened: object) -> list[Desk]:
     """The desks of a new node, each with one of these handles."""
     node = object()
-    return [Desk(handle, node, number, len(handles)) for number, handle in enumerate(handles)]
+    desks = [Desk(handle, node, number, len(handles)) for number, handle in enumerate(handles)]
+    for desk in desks:
+        desk._opened = opened
+    return desks
 
 
 def open_node(count: int = 1, config: Config = Config()) -> list[Desk]:
@@ -528,7 +671,7 @@ def open_node(count: int = 1, config: Config = Config()) -> list[Desk]:
     code = lib.pt_open(handles, count, settings)
     if code:
         raise _fault(lib.pt_open, (), code)
-    return _desks_of(handles)
+    return _desks_of(handles, object())
 
 
 def gather(desks: Sequence[Desk]) -> Gathered:
@@ -546,7 +689,7 @@ def gather(desks: Sequence[Desk]) -> Gathered:
         desk._node is desks[0]._node and desk.number == number for number, desk in enumerate(desks))
     if not whole:
         raise ValueError("desks are not all desks of one node in order")
-    gathered = Gathered()
+    gathered = Gathered()._from(desks[0])
     with ExitStack() as locks:
         for desk in desks:
             locks.enter_context(desk._held_alone())

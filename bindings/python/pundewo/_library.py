@@ -8,8 +8,8 @@ from pathlib import Path
 from typing import Any, Callable, TypeVar
 
 from .values import (
-    EVENTS, ITEMS, PICKS, REASONS, SIGNALS, Account, Body, Event, Ids, Item, LeftOver, LinkId, Pick, Pid, Reason, Ref,
-    Signal, of_type, unchecked,
+    EVENTS, ITEMS, JOBS, NEXTS, PICKS, REASONS, SIGNALS, Account, Body, Event, Ids, Item, Job, LeftOver, LinkId, Next, Pick,
+    Pid, Reason, Ref, Signal, of_type, unchecked,
 )
 
 V = TypeVar("V")
@@ -73,6 +73,19 @@ class CConfig(c.Structure):
     _fields_ = [("slots", c.c_uint32), ("top_version", c.c_uint32), ("lane", c.c_uint32), ("start", c.c_uint64)]
 
 
+class CNext(c.Structure):
+    _fields_ = [("code", c.c_uint32), ("reason", CReason), ("until", c.c_uint64), ("pick", CPick)]
+
+
+class CJob(c.Structure):
+    _fields_ = [("code", c.c_uint32), ("pid", CPid), ("tag", c.c_uint64), ("item", CItem), ("reason", CReason),
+                ("was", CNext)]
+
+
+class CAnswer(c.Structure):
+    _fields_ = [("pid", CPid), ("next", CNext)]
+
+
 class CHandle(c.Structure):
     _fields_ = [("at", c.c_void_p)]
 
@@ -117,6 +130,12 @@ def _declare() -> None:
         "quiet_pid_count": [p(size)], "quiet_pid_at": [size, p(CPid)], "quiet_account": [CPid, p(CAccount)],
         "quiet_linked": [CPid, CPid, p(CIds)], "quiet_kept": [CPid, CRef, p(flag)],
         "quiet_watching": [CPid, CRef, p(flag)], "history_count": [p(size)], "history_at": [size, p(CEvent)],
+        "crew_open": [], "crew_give_up": [], "crew_spawn": [p(CHandle), c.c_uint64, CNext, p(CPid)],
+        "crew_spawn_child": [p(CHandle), CPid, flag, c.c_uint64, CNext, p(CPid)],
+        "crew_step": [p(CHandle), c.c_uint32, p(CJob), size, p(size), p(CTurned)],
+        "crew_answer": [p(CAnswer), size, p(size)], "crew_set_time": [c.c_uint64], "crew_begin_again": [],
+        "crew_next_time": [p(c.c_uint64)], "crew_tag": [CPid, p(c.c_uint64)], "crew_next": [CPid, p(CNext)],
+        "crew_len": [p(size)], "crew_queued": [p(size)], "crew_is_idle": [p(CHandle), p(flag)], "crew_refused": [p(flag)],
         "quiet_desks": [p(c.c_uint8)], "history_left_count": [p(size)], "history_left_at": [size, p(CLeftOver)],
     }
     for name, words in calls.items():
@@ -193,6 +212,20 @@ def event_of(e: CEvent) -> Event:
         signal_of(e.signal) if name in ("said", "came") else None, e.on if name == "flag" else None)
 
 
+def next_of(n: CNext) -> Next:
+    name = NEXTS[n.code]
+    return unchecked(Next, (
+        name, pick_of(n.pick) if name in ("wait", "wait-until") else None, n.until if name == "wait-until" else None,
+        reason_of(n.reason) if name == "stop" else None))
+
+
+def job_of(j: CJob) -> Job:
+    name = JOBS[j.code]
+    return unchecked(Job, (
+        name, pid_of(j.pid), j.tag, item_of(j.item) if name == "item" else None,
+        reason_of(j.reason) if name == "exit" else None, next_of(j.was) if name == "exit" else None))
+
+
 def left_over_of(l: CLeftOver) -> LeftOver:
     return unchecked(LeftOver, (l.from_desk, l.to_desk, pid_of(l.sender), pid_of(l.to), signal_of(l.signal), l.stamp))
 
@@ -230,4 +263,16 @@ def c_pick(field: str, pick: Pick) -> CPick:
         crossing.pid = c_pid(f"{field}.what", what)
     elif isinstance(what, Ref):
         crossing.reference = c_ref(f"{field}.what", what)
+    return crossing
+
+
+def c_next(field: str, does: Next) -> CNext:
+    name, pick, until, reason = own(field, does, Next)
+    crossing = CNext(code=NEXTS.index(name))
+    if pick is not None:
+        crossing.pick = c_pick(f"{field}.pick", pick)
+    if until is not None:
+        crossing.until = until
+    if reason is not None:
+        crossing.reason = c_reason(f"{field}.reason", reason)
     return crossing

@@ -17,6 +17,7 @@ from typing import TYPE_CHECKING, Any, Iterable, NamedTuple, Optional, Sequence,
 T = TypeVar("T")
 
 U8 = 2**8 - 1
+U16 = 2**16 - 1
 U32 = 2**32 - 1
 U64 = 2**64 - 1
 I64 = 2**63 - 1
@@ -104,6 +105,7 @@ class Code(IntEnum):
     BAD_LANE = 14
     BAD_START = 15
     BAD_CODE = 16
+    NOT_RUNNING = 17
 
 
 # A named tuple of checked fields without the checks, for fields that the library wrote.
@@ -306,6 +308,70 @@ class Pick(_Checked, _Pick):
 
 
 ANY = Pick()
+NEXTS = ("wait", "wait-until", "proceed", "stop", "running")
+
+
+class _Next(NamedTuple):
+    name: str
+    pick: Optional[Pick]
+    until: Optional[int]
+    reason: Optional[Reason]
+
+
+class Next(_Checked, _Next):
+    """What a process of a crew does next; `name` is one of NEXTS, and what does not belong to it is None.
+
+    "wait" has a pick; "wait-until" has a pick and a time; "stop" has a reason.
+    """
+
+    __slots__ = ()
+
+    def __new__(cls, name: str, pick: Optional[Pick] = None, until: Optional[int] = None,
+                reason: Optional[Reason] = None) -> Next:
+        name = one_of("Next.name", name, NEXTS)
+        until = number("Next.until", until, 0, U64) if name == "wait-until" else part("Next.until", until, int, False)
+        return unchecked(cls, (name, part("Next.pick", pick, Pick, name in ("wait", "wait-until")), until,
+                               part("Next.reason", reason, Reason, name == "stop")))
+
+    def __str__(self) -> str:
+        return " ".join(str(word) for word in (self.name, self.until, self.pick, self.reason) if word is not None)
+
+
+PROCEED, RUNNING = Next("proceed"), Next("running")
+JOBS = ("start", "proceed", "item", "timeout", "exit")
+
+
+class _Job(NamedTuple):
+    name: str
+    pid: Pid
+    tag: int
+    item: Optional[Item]
+    reason: Optional[Reason]
+    was: Optional[Next]
+
+
+class Job(_Checked, _Job):
+    """What a process of a crew is told; `name` is one of JOBS, and what does not belong to it is None.
+
+    "item" has an item. "exit" has the reason, and in `was` what the process was to do. The reason is that of the process's
+    own exit. It is NOPROC if an exit signal ended the process, or if it exited while its node was settled.
+    """
+
+    __slots__ = ()
+
+    def __new__(cls, name: str, pid: Pid, tag: int, item: Optional[Item] = None, reason: Optional[Reason] = None,
+                was: Optional[Next] = None) -> Job:
+        name = one_of("Job.name", name, JOBS)
+        return unchecked(cls, (
+            name, of_type("Job.pid", pid, Pid), number("Job.tag", tag, 0, U64),
+            part("Job.item", item, Item, name == "item"), part("Job.reason", reason, Reason, name == "exit"),
+            part("Job.was", was, Next, name == "exit")))
+
+    def __str__(self) -> str:
+        words = (self.name, self.pid, self.tag, self.item, self.reason, self.was)
+        return " ".join(str(word) for word in words if word is not None)
+
+
 SIGNALS = ("message", "link", "unlink", "exit", "link-exit", "monitor", "demonitor", "down", "alive-ask", "alive-say")
 _SIGNAL_WORDS: dict[str, tuple[type, ...]] = {
     "message": (Body,), "link": (LinkId,), "unlink": (Ids,), "exit": (Reason,), "link-exit": (Ids, Reason),

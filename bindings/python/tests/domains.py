@@ -158,8 +158,9 @@ class Words(Domain):
 
 
 BYTE, WORD, LONG, SIGNED = Ints(0, 2**8 - 1), Ints(0, 2**32 - 1), Ints(0, 2**64 - 1), Ints(-(2**63), 2**63 - 1)
-PID, REF, LINK, IDS, REASON, BODY, ITEM, PICK, SIGNAL = map(
-    A, (v.Pid, v.Ref, v.LinkId, v.Ids, v.Reason, v.Body, v.Item, v.Pick, v.Signal))
+SHORT = Ints(0, 2**16 - 1)
+PID, REF, LINK, IDS, REASON, BODY, ITEM, PICK, SIGNAL, NEXT = map(
+    A, (v.Pid, v.Ref, v.LinkId, v.Ids, v.Reason, v.Body, v.Item, v.Pick, v.Signal, v.Next))
 CONFIG, NOTHING = A(v.Config), Only(None)
 
 
@@ -171,6 +172,14 @@ def _item(name: str, **has: Domain) -> dict[str, Domain]:
 def _event(name: str, **has: Domain) -> dict[str, Domain]:
     rest = dict.fromkeys(("peer", "link", "reason", "pick", "item", "signal", "on"), NOTHING)
     return {"stamp": LONG, "desk": BYTE, "name": Only(name), "pid": PID, **rest, **has}
+
+
+def _next(*names: str, **has: Domain) -> dict[str, Domain]:
+    return {"name": Only(*names), "pick": NOTHING, "until": NOTHING, "reason": NOTHING, **has}
+
+
+def _job(*names: str, **has: Domain) -> dict[str, Domain]:
+    return {"name": Only(*names), "pid": PID, "tag": LONG, "item": NOTHING, "reason": NOTHING, "was": NOTHING, **has}
 
 
 SHAPES: dict[type, list[dict[str, Domain]]] = {
@@ -193,6 +202,9 @@ SHAPES: dict[type, list[dict[str, Domain]]] = {
     v.LeftOver: [{"from_desk": BYTE, "to_desk": BYTE, "sender": PID, "to": PID, "signal": SIGNAL, "stamp": LONG}],
     v.Turned: [{"posted": LONG, "handled": LONG, "stopped": Codes()}],
     v.Account: [{"ended": A(v.Reason, True), "arrived": LONG, "taken": LONG, "waiting": LONG}],
+    v.Next: [_next("wait", pick=PICK), _next("wait-until", pick=PICK, until=LONG), _next("proceed", "running"),
+             _next("stop", reason=REASON)],
+    v.Job: [_job("start", "proceed", "timeout"), _job("item", item=ITEM), _job("exit", reason=REASON, was=NEXT)],
     v.Config: [{"slots": WORD, "top_version": WORD, "lane": WORD, "start": LONG}],
 }
 

@@ -229,7 +229,7 @@ class About(unittest.TestCase):
 
     def test_fields(self):
         samples = {"event": p.CEvent, "left_over": p.CLeftOver, "turned": p.CTurned, "account": p.CAccount,
-                   "config": p.CConfig}
+                   "config": p.CConfig, "job": p.CJob, "answer": p.CAnswer}
         for name, kind in samples.items():
             sample = kind()
             getattr(p.lib, f"pt_about_{name}")(c.byref(sample))
@@ -238,12 +238,12 @@ class About(unittest.TestCase):
 
     def test_sizes_and_codes(self):
         kinds = [p.CPid, p.CRef, p.CIds, p.CReason, p.CBody, p.CItem, p.CPick, p.CSignal, p.CEvent, p.CLeftOver,
-                 p.CTurned, p.CAccount, p.CConfig]
+                 p.CTurned, p.CAccount, p.CConfig, p.CNext, p.CJob, p.CAnswer]
         sizes = (c.c_size_t * (len(kinds) + 1))()
         p.lib.pt_about_sizes(sizes)
         self.assertEqual(list(sizes)[:-1], [c.sizeof(kind) for kind in kinds])
         wanted = [code.value for code in Code]
-        for names in (v.REASONS + ("other",), v.ITEMS, v.PICKS, v.SIGNALS, v.EVENTS):
+        for names in (v.REASONS + ("other",), v.ITEMS, v.PICKS, v.SIGNALS, v.EVENTS, v.NEXTS, v.JOBS):
             wanted += range(len(names))
         self.assertEqual(sizes[-1], 4 * len(wanted))
         codes = (c.c_uint32 * len(wanted))()

@@ -120,6 +120,33 @@ pub struct RawAccount {
     pub waiting: u64,
 }
 
+#[repr(C)]
+#[derive(Clone, Copy, Debug, Default)]
+pub struct RawNext {
+    pub code: u32,
+    pub reason: RawReason,
+    pub until: u64,
+    pub pick: RawPick,
+}
+
+#[repr(C)]
+#[derive(Clone, Copy, Debug, Default)]
+pub struct RawJob {
+    pub code: u32,
+    pub pid: Pid,
+    pub tag: u64,
+    pub item: RawItem,
+    pub reason: RawReason,
+    pub was: RawNext,
+}
+
+#[repr(C)]
+#[derive(Clone, Copy, Debug, Default)]
+pub struct RawAnswer {
+    pub pid: Pid,
+    pub next: RawNext,
+}
+
 unsafe extern "C" {
     /// The first byte of a text that ends with a zero.
     pub static pundewo_build: std::ffi::c_char;
@@ -187,6 +214,26 @@ unsafe extern "C" {
     pub fn pt_history_at(history: &mut Handle, place: usize, out: &mut RawEvent) -> u32;
     pub fn pt_history_left_count(history: &mut Handle, out: &mut usize) -> u32;
     pub fn pt_history_left_at(history: &mut Handle, place: usize, out: &mut RawLeftOver) -> u32;
+    pub fn pt_crew_open(crew: &mut Handle) -> u32;
+    pub fn pt_crew_give_up(crew: &mut Handle) -> u32;
+    pub fn pt_crew_spawn(crew: &mut Handle, h: &mut Handle, tag: u64, first: RawNext, out: &mut Pid) -> u32;
+    pub fn pt_crew_spawn_child(
+        crew: &mut Handle, h: &mut Handle, parent: Pid, linked: bool, tag: u64, first: RawNext, out: &mut Pid,
+    ) -> u32;
+    pub fn pt_crew_step(
+        crew: &mut Handle, h: &mut Handle, budget: u32, jobs: *mut RawJob, most: usize, count: &mut usize,
+        turned: &mut RawTurned,
+    ) -> u32;
+    pub fn pt_crew_answer(crew: &mut Handle, answers: *const RawAnswer, count: usize, taken: &mut usize) -> u32;
+    pub fn pt_crew_set_time(crew: &mut Handle, now: u64) -> u32;
+    pub fn pt_crew_begin_again(crew: &mut Handle) -> u32;
+    pub fn pt_crew_next_time(crew: &mut Handle, out: &mut u64) -> u32;
+    pub fn pt_crew_tag(crew: &mut Handle, p: Pid, out: &mut u64) -> u32;
+    pub fn pt_crew_next(crew: &mut Handle, p: Pid, out: &mut RawNext) -> u32;
+    pub fn pt_crew_len(crew: &mut Handle, out: &mut usize) -> u32;
+    pub fn pt_crew_queued(crew: &mut Handle, out: &mut usize) -> u32;
+    pub fn pt_crew_is_idle(crew: &mut Handle, h: &mut Handle, out: &mut bool) -> u32;
+    pub fn pt_crew_refused(crew: &mut Handle, out: &mut bool) -> u32;
     pub fn pt_about_codes(out: *mut u32);
     pub fn pt_about_sizes(out: *mut usize);
     pub fn pt_about_event(out: &mut RawEvent);
@@ -194,4 +241,6 @@ unsafe extern "C" {
     pub fn pt_about_turned(out: &mut RawTurned);
     pub fn pt_about_account(out: &mut RawAccount);
     pub fn pt_about_config(out: &mut Config);
+    pub fn pt_about_job(out: &mut RawJob);
+    pub fn pt_about_answer(out: &mut RawAnswer);
 }

@@ -52,6 +52,9 @@ fields!(RawLeftOver: from_desk to_desk from to stamp signal);
 fields!(RawTurned: posted handled stopped);
 fields!(RawAccount: has_ended ended arrived taken waiting);
 fields!(Config: slots top_version lane start);
+fields!(RawNext: code reason until pick);
+fields!(RawJob: code pid tag item reason was);
+fields!(RawAnswer: pid next);
 
 fn in_order(sample: &impl Fields) {
     let mut told = Vec::new();
@@ -66,39 +69,48 @@ fn each_field_stands_where_the_library_has_it() {
     let mut turned = RawTurned::default();
     let mut account = RawAccount::default();
     let mut config = Config::default();
+    let mut job = RawJob::default();
+    let mut answer = RawAnswer::default();
     unsafe {
         pt_about_event(&mut event);
         pt_about_left_over(&mut left_over);
         pt_about_turned(&mut turned);
         pt_about_account(&mut account);
         pt_about_config(&mut config);
+        pt_about_job(&mut job);
+        pt_about_answer(&mut answer);
     }
     in_order(&event);
     in_order(&left_over);
     in_order(&turned);
     in_order(&account);
     in_order(&config);
+    in_order(&job);
+    in_order(&answer);
 }
 
 #[test]
 fn each_size_is_the_librarys() {
-    let mut told = [0; 14];
+    let mut told = [0; 17];
     unsafe { pt_about_sizes(told.as_mut_ptr()) };
     let mine = [
         size_of::<Pid>(), size_of::<RawRef>(), size_of::<RawIds>(), size_of::<RawReason>(), size_of::<RawBody>(),
         size_of::<RawItem>(), size_of::<RawPick>(), size_of::<RawSignal>(), size_of::<RawEvent>(),
-        size_of::<RawLeftOver>(), size_of::<RawTurned>(), size_of::<RawAccount>(), size_of::<Config>(), told[13],
+        size_of::<RawLeftOver>(), size_of::<RawTurned>(), size_of::<RawAccount>(), size_of::<Config>(),
+        size_of::<RawNext>(), size_of::<RawJob>(), size_of::<RawAnswer>(), told[16],
     ];
     assert_eq!(told, mine);
 }
 
 #[test]
 fn each_code_is_the_librarys() {
-    let mut sizes = [0; 14];
+    let mut sizes = [0; 17];
     unsafe { pt_about_sizes(sizes.as_mut_ptr()) };
-    // the answers, and then the codes of reasons, items, picks, signals and events, as `values.rs` reads them
-    let wanted: Vec<u32> = (0..17).chain(0..6).chain(0..4).chain(0..6).chain(0..10).chain(0..7).collect();
-    assert_eq!(sizes[13], wanted.len() * size_of::<u32>());
+    // the answers, and then the codes of reasons, items, picks, signals and events, as `values.rs` reads them, and of what
+    // a process of a crew does next and is told
+    let table = (0..18).chain(0..6).chain(0..4).chain(0..6).chain(0..10).chain(0..7);
+    let wanted: Vec<u32> = table.chain(0..5).chain(0..5).collect();
+    assert_eq!(sizes[16], wanted.len() * size_of::<u32>());
     let mut told = vec![0; wanted.len()];
     unsafe { pt_about_codes(told.as_mut_ptr()) };
     assert_eq!(told, wanted);

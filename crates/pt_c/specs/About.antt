@@ -14,6 +14,10 @@ use Rattle.pt_table.specs.declared.types.PtLeftOver.{PtLeftOver}
 use Rattle.pt_table.specs.declared.types.PtTurned.{PtTurned}
 use Rattle.pt_table.specs.declared.types.PtAccount.{PtAccount}
 use Rattle.pt_table.specs.declared.types.PtConfig.{PtConfig}
+use Rattle.pt_table.specs.declared.types.PtNext.{PtNext}
+use Rattle.pt_table.specs.declared.types.PtJob.{PtJob}
+use Rattle.pt_table.specs.declared.types.PtAnswer.{PtAnswer}
+use Rattle.pt_signal.specs.declared.pid.Pid.{Pid}
 use Rattle.pt_c.specs.declared.about.PtCodes.{PtCodes}
 use Rattle.pt_c.specs.declared.about.PtSizes.{PtSizes}
 
@@ -36,6 +40,7 @@ all_codes = record {
   bad_lane = 14;
   bad_start = 15;
   bad_code = 16;
+  not_running = 17;
   reason_normal = 0;
   reason_kill = 1;
   reason_killed = 2;
@@ -69,6 +74,16 @@ all_codes = record {
   event_flag = 4;
   event_left = 5;
   event_refused = 6;
+  next_wait = 0;
+  next_wait_until = 1;
+  next_proceed = 2;
+  next_stop = 3;
+  next_running = 4;
+  job_start = 0;
+  job_proceed = 1;
+  job_item = 2;
+  job_timeout = 3;
+  job_exit = 4;
 }
 
 -- codes, of which these are the answers of calls
@@ -91,6 +106,7 @@ with_answers c = record c {
   bad_lane = 14;
   bad_start = 15;
   bad_code = 16;
+  not_running = 17;
 }
 
 -- of which these are of reasons, of items and of picks
@@ -141,6 +157,30 @@ with_events c = record c {
   event_refused = 6;
 }
 
+-- of which these are of what a process does next
+abbrev pub with_nexts : PtCodes → PtCodes
+with_nexts c = record c {
+  next_wait = 0;
+  next_wait_until = 1;
+  next_proceed = 2;
+  next_stop = 3;
+  next_running = 4;
+}
+
+-- of which these are of what a process is told
+abbrev pub with_jobs : PtCodes → PtCodes
+with_jobs c = record c {
+  job_start = 0;
+  job_proceed = 1;
+  job_item = 2;
+  job_timeout = 3;
+  job_exit = 4;
+}
+
+-- a name, which no code depends on
+abbrev pub nobody : Pid
+nobody = record { shard = 0; slot = 0; version = 0 }
+
 abbrev pub all_sizes : PtSizes
 all_sizes = record {
   pid = 12;
@@ -156,7 +196,10 @@ all_sizes = record {
   turned = 24;
   account = 40;
   config = 24;
-  codes = 200;
+  next = 64;
+  job = 176;
+  answer = 80;
+  codes = 244;
 }
 
 -- a value whose fields have the numbers from this one on
@@ -198,6 +241,9 @@ sample_signal n = record {
   body = sample_body (n + 11);
 }
 
+abbrev pub sample_next : ℕ → PtNext
+sample_next n = record { code = n; reason = sample_reason (n + 1); until = n + 3; pick = sample_pick (n + 4) }
+
 abbrev pub sample_event : PtEvent
 sample_event = record {
   stamp = 1;
@@ -223,6 +269,22 @@ sample_left_over = record {
   to = sample_pid 6;
   stamp = 9;
   signal = sample_signal 10;
+}
+
+abbrev pub sample_job : PtJob
+sample_job = record {
+  code = 1;
+  pid = sample_pid 2;
+  tag = 5;
+  item = sample_item 6;
+  reason = sample_reason 21;
+  was = sample_next 23;
+}
+
+abbrev pub sample_answer : PtAnswer
+sample_answer = record {
+  pid = sample_pid 1;
+  next = sample_next 4;
 }
 
 abbrev pub sample_turned : PtTurned

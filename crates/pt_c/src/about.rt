@@ -3,18 +3,23 @@
 ghost use Rattle.std.specs.Prelude.{◌≡◌, ◌<◌};
 ghost use Rattle.pt_c.specs.About.{all_codes, all_sizes, sample_event, sample_left_over, sample_turned, sample_account};
 ghost use Rattle.pt_c.specs.About.{sample_config, sample_pid, sample_ref, sample_reason, sample_ids, sample_body};
-ghost use Rattle.pt_c.specs.About.{sample_pick, sample_item, sample_signal};
-ghost use Rattle.pt_c.specs.About.{with_answers, with_values, with_signals, with_events};
+ghost use Rattle.pt_c.specs.About.{sample_pick, sample_item, sample_signal, sample_next, sample_job, sample_answer};
+ghost use Rattle.pt_c.specs.About.{with_answers, with_values, with_signals, with_events, with_nexts, with_jobs, nobody};
 
+use pt_crew::Next;
+use pt_hands::{Job, What};
 use pt_node::{
     Body, Event, Fault, Ids, Item, LinkId, OpenError, Pick, Pid, Reason, Ref, Setting, Signal,
     Stamped,
 };
-use pt_table::codes::{BAD_CODE, DONE, EMPTY, FILLED, NOTHING, UNKNOWN, code_of, open_code};
+use pt_table::codes::{
+    BAD_CODE, DONE, EMPTY, FILLED, NOT_RUNNING, NOTHING, UNKNOWN, code_of, open_code,
+};
 use pt_table::crossing::{event_out, item_out, pick_out, reason_out, signal_out};
+use pt_table::crossing_jobs::{job_out, next_out};
 use pt_table::types::{
-    PtAccount, PtBody, PtConfig, PtEvent, PtIds, PtItem, PtLeftOver, PtPick, PtPid, PtReason,
-    PtRef, PtSignal, PtTurned,
+    PtAccount, PtAnswer, PtBody, PtConfig, PtEvent, PtIds, PtItem, PtJob, PtLeftOver, PtNext,
+    PtPick, PtPid, PtReason, PtRef, PtSignal, PtTurned,
 };
 use std::mem::size_of;
 
@@ -39,6 +44,7 @@ pub struct PtCodes {
     pub bad_lane: u32,
     pub bad_start: u32,
     pub bad_code: u32,
+    pub not_running: u32,
     pub reason_normal: u32,
     pub reason_kill: u32,
     pub reason_killed: u32,
@@ -72,6 +78,16 @@ pub struct PtCodes {
     pub event_flag: u32,
     pub event_left: u32,
     pub event_refused: u32,
+    pub next_wait: u32,
+    pub next_wait_until: u32,
+    pub next_proceed: u32,
+    pub next_stop: u32,
+    pub next_running: u32,
+    pub job_start: u32,
+    pub job_proceed: u32,
+    pub job_item: u32,
+    pub job_timeout: u32,
+    pub job_exit: u32,
 }
 
 /// The size of each struct that crosses, in bytes.
@@ -91,6 +107,9 @@ pub struct PtSizes {
     pub turned: usize,
     pub account: usize,
     pub config: usize,
+    pub next: usize,
+    pub job: usize,
+    pub answer: usize,
     pub codes: usize,
 }
 
@@ -116,7 +135,7 @@ const LINK: LinkId = LinkId { desk: 0, number: 0 };
 pub extern "C" fn pt_about_codes(out: &mut PtCodes)
     ensures { out.new ≡ all_codes }
 {
-    *out = with_events(with_signals(with_values(with_answers(*out))));
+    *out = with_jobs(with_nexts(with_events(with_signals(with_values(with_answers(*out))))));
 }
 
 /// The codes that calls answer.
@@ -141,6 +160,7 @@ fn with_answers(codes: PtCodes) -> PtCodes
         bad_lane: open_code(OpenError::Bounds(Setting::Lane)),
         bad_start: open_code(OpenError::Bounds(Setting::Start)),
         bad_code: BAD_CODE,
+        not_running: NOT_RUNNING,
         ..codes
     }
 }
@@ -207,6 +227,45 @@ fn with_events(codes: PtCodes) -> PtCodes
     }
 }
 
+/// The codes of what a process does next.
+fn with_nexts(codes: PtCodes) -> PtCodes
+    ensures { result ≡ with_nexts codes }
+{
+    PtCodes {
+        next_wait: next_out(Next::Wait(Pick::Any)).code,
+        next_wait_until: next_out(Next::WaitUntil(Pick::Any, 0)).code,
+        next_proceed: next_out(Next::Proceed).code,
+        next_stop: next_out(Next::Stop(Reason::Normal)).code,
+        next_running: next_out(Next::Running).code,
+        ..codes
+    }
+}
+
+/// The codes of what a process is told.
+fn with_jobs(codes: PtCodes) -> PtCodes
+    ensures { result ≡ with_jobs codes }
+{
+    let item = Item::User(NOBODY, BLANK);
+    PtCodes {
+        job_start: job_out(job(What::Start)).code,
+        job_proceed: job_out(job(What::Proceed)).code,
+        job_item: job_out(job(What::Item(item))).code,
+        job_timeout: job_out(job(What::Timeout)).code,
+        job_exit: job_out(job(What::Exit(Reason::Normal, Next::Running))).code,
+        ..codes
+    }
+}
+
+fn job(what: What) -> Job
+    ensures { result ≡ record { pid = nobody; tag = 0; what = what } }
+{
+    Job {
+        pid: NOBODY,
+        tag: 0,
+        what,
+    }
+}
+
 fn stamped(event: Event) -> Stamped
     ensures { result ≡ record { stamp = 0; desk = 0; event = event } }
 {
@@ -236,6 +295,9 @@ pub extern "C" fn pt_about_sizes(out: &mut PtSizes)
         turned: size_of::<PtTurned>(),
         account: size_of::<PtAccount>(),
         config: size_of::<PtConfig>(),
+        next: size_of::<PtNext>(),
+        job: size_of::<PtJob>(),
+        answer: size_of::<PtAnswer>(),
         codes: size_of::<PtCodes>(),
     };
 }
@@ -410,4 +472,42 @@ pub extern "C" fn pt_about_config(out: &mut PtConfig)
         lane: 3,
         start: 4,
     };
+}
+
+/// Writes a sample of a job: its fields have the numbers 1, 2, 3 and so on in order, a bool being true.
+#[unsafe(no_mangle)]
+pub extern "C" fn pt_about_job(out: &mut PtJob)
+    ensures { out.new ≡ sample_job }
+{
+    *out = PtJob {
+        code: 1,
+        pid: sample_pid(2),
+        tag: 5,
+        item: sample_item(6),
+        reason: sample_reason(21),
+        was: sample_next(23),
+    };
+}
+
+/// Writes a sample of an answer: its fields have the numbers 1, 2, 3 and so on in order.
+#[unsafe(no_mangle)]
+pub extern "C" fn pt_about_answer(out: &mut PtAnswer)
+    ensures { out.new ≡ sample_answer }
+{
+    *out = PtAnswer {
+        pid: sample_pid(1),
+        next: sample_next(4),
+    };
+}
+
+fn sample_next(first: u8) -> PtNext
+    requires { first < 150 }
+    ensures { result ≡ sample_next first }
+{
+    PtNext {
+        code: first as u32,
+        reason: sample_reason(first + 1),
+        until: first as u64 + 3,
+        pick: sample_pick(first + 4),
+    }
 }

@@ -1,10 +1,9 @@
 //! The process table for C: a static library, whose header is `bindings/c/pundewo.h`.
 //!
 //! C keeps opaque handles of one pointer: for a desk, a gathered node, a settled one with and without the list of its
-//! pids, and a history. An
-//! export takes the value out of the handle, makes the call of Rattle that has its name, and puts the value back. By
-//! its contract, its code and what it writes are that call's answer, and if it fails, all is as it was. An empty handle
-//! is a code, too.
+//! pids, a history, and a crew. An export takes the value out of the handle, makes the call of Rattle that has its name,
+//! and puts the value back. By its contract, its code and what it writes are that call's answer, and if it fails, all is
+//! as it was. An empty handle is a code, too.
 //!
 //! Values with an enum or an option in Rattle cross as plain structs with a code (`pt_table::types`). `about` reports
 //! codes, sizes and fields, to be compared with a header. `pt_table` has all that is not exported.
@@ -17,7 +16,9 @@
 //!   call's answer. (`CallsThrough`, `ReadsThrough`)
 //! - **Failures.** If a function fails, each handle and each struct passed in is as it was, also if there is no memory.
 //! - **Handles.** An empty handle, a full one that must be empty, and a wrong number of desks are codes.
-//! - **Bad codes.** So is a pick or a reason whose own code means nothing.
+//! - **Bad codes.** So is a pick, a reason, or what a process does next, whose own code means nothing.
+//! - **Crews.** A step hands out what `Hands` hands out, in order, no process twice, and no wake-up is lost. Of a row of
+//!   answers each is taken, up to the first that is refused. (`CrewSteps`, `AnswersInOrder`)
 //! - **Nodes.** Opening, gathering, settling and resuming leave in the handles what `open`, `gather`, `settle` and
 //!   `resume` promise, or `settle_unlisted` and `resume_settled`.
 //! - **Threads.** Each handle may go to another thread.
@@ -25,6 +26,7 @@
 
 mod about;
 mod calls;
+mod crews;
 mod node;
 mod reads;
 mod resuming;

@@ -3,3 +3,4 @@ pub mod Noting
 pub mod Coming
 pub mod Pulls
 pub mod Filling
+pub mod Idle

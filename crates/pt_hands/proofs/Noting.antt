@@ -30,7 +30,7 @@ use Rattle.pt_crew.proofs.Waking.{by_cases, elsewhere, knows_later, there, same_
 use Rattle.pt_hands.specs.declared.hand.Hand.{Hand}
 use Rattle.pt_hands.specs.declared.hand.Job.{Job}
 use Rattle.pt_hands.specs.declared.hands.Hands.{Hands}
-use Rattle.pt_hands.specs.Pulling.{AttendsHands, HandView, Noted, SameViews, exit_by, exit_in, hand_view, hand_views, new_hand, what_of}
+use Rattle.pt_hands.specs.Pulling.{AttendsHands, HandView, NoneNoted, Noted, SameViews, exit_by, exit_in, hand_view, hand_views, new_hand, what_of}
 use Rattle.pt_hands.specs.Taking.{NotesExit, TakesHeld, TakesJob, TakesOf}
 
 -- what is seen of a hand ------------------------------------------------------------------------
@@ -366,3 +366,19 @@ attends_answered old new d p next (Ok true) done refused reads a crew =
     attends_then old new d d a (extends d) crew (done.rest.left ∙ a.left) (done.rest.waiting ∙ a.born) reads (with_comes old new d p done.behaviour Running next a done.ran done.does)
 attends_answered old new d p next (Ok false) done refused reads a crew = attends_same old new d d a (extends d) crew done reads
 attends_answered old new d p next (Err x) done refused reads a crew = attends_same old new d d a (extends d) crew refused reads
+
+-- it goes on over the desk of a node that was resumed, where no exit was noted
+pub attends_again : (old new : Hands) (d e : ShardState) → AttendsHands old d → NoneNoted old → Attends new.crew e → AreSame (roles old.crew) (roles new.crew) → KeepsRest old.crew new.crew → new.read ≡ 0 → AttendsHands new e
+attends_again old new d e a none crew same rest reads = record {
+  crew = crew;
+  empty = λ p b n is. a.empty p b n (sym (same p) ∙ is);
+  left = rest.left ∙ a.left;
+  born = rest.waiting ∙ a.born;
+  noted = record {
+    more = e.journal;
+    seen = [];
+    journal = sym (append-nil e.journal);
+    counted = sym reads;
+    ends = λ p b n is. none p b n (sym (same p) ∙ is);
+  };
+}

@@ -15,9 +15,11 @@ use Rattle.pt_crew.specs.declared.behaviour.Next.{Next}
 use Rattle.pt_crew.specs.declared.behaviour.Next.TheVariants.{Proceed, Running, Stop}
 use Rattle.pt_crew.specs.declared.births.Role.{Role}
 use Rattle.pt_crew.specs.declared.crew.Crew.{Crew}
+use Rattle.pt_crew.specs.declared.crew.Member.{Member}
 use Rattle.pt_crew.specs.Visiting.{Answers, takes}
 use Rattle.pt_crew.specs.Handing.{MayBeHanded, item_handed}
-use Rattle.pt_crew.specs.Crews.{Attends, left, queue, roles, time_of, waiting, was_refused}
+use Rattle.pt_crew.specs.Waking.{is_queued}
+use Rattle.pt_crew.specs.Crews.{Attends, left, members, queue, roles, time_of, waiting, was_refused}
 use Rattle.pt_hands.specs.declared.hand.Hand.{Hand}
 use Rattle.pt_hands.specs.declared.hand.Job.{Job}
 use Rattle.pt_hands.specs.declared.hand.What.{What}
@@ -100,6 +102,14 @@ pub record AttendsHands (h : Hands) (d : ShardState) : Type 0 where
   pub left : left h.crew ≡ []
   pub born : waiting h.crew ≡ []
   pub noted : Noted h d
+
+-- Of no process an exit was noted that it has not been told. So it is where nobody stands in the queue after a step.
+abbrev pub NoneNoted : Hands → Type 0
+NoneNoted h = (p : Pid) (b : Hand) (n : Next) → roles h.crew p ≡ Some (b, n) → b.ended ≡ None
+
+-- each process of a crew is in its queue
+abbrev pub AreAllQueued : {B : Type 0} → Crew B → Type 0
+AreAllQueued {B} c = (p : Pid) (m : Member B) → members c p ≡ Some m → is_queued m ≡ true
 
 -- p is told what it was handed, and is running then: an item that was taken out of its mailbox, or none
 pub record HandsOut (p : Pid) (old : Hands) (d : ShardState) (job : Job) (new : Hands) (e : ShardState) : Type 0 where

@@ -1,17 +1,17 @@
 //! The processes of one desk whose handlers are outside.
 
-ghost use Rattle.std.specs.Prelude.{◌≡◌, ◌<◌, ◌≤◌, ◌+◌, IfOk, IsOk, MatchBool, None, OnErr, OnOk, Some, [], length};
+ghost use Rattle.std.specs.Prelude.{◌≡◌, ◌<◌, ◌≤◌, ◌+◌, true, IfOk, IsOk, MatchBool, None, OnErr, OnOk, Some, [], length};
 ghost use Rattle.std.specs.Option.{option_map};
 ghost use Rattle.pt_signal.specs.declared.pid.Pid.{Pid};
 ghost use Rattle.pt_shard.specs.ShardState.{ShardState};
 ghost use Rattle.pt_shard.specs.Extends.{Extends};
 ghost use Rattle.pt_desk.specs.DeskState.{GoesOn};
 ghost use Rattle.pt_crew.specs.Visiting.{AreSame};
-ghost use Rattle.pt_crew.specs.Crews.{Enters, IsNextTime, IsSame, KeepsRest, crew_size, queue, roles, time_of};
+ghost use Rattle.pt_crew.specs.Crews.{AreBorn, Enters, IsNextTime, IsSame, KeepsRest, crew_size, queue, roles, time_of};
 ghost use Rattle.pt_crew.specs.Crews.{left, waiting, was_refused};
 ghost use Rattle.pt_crew.specs.Running.{is_idle};
-ghost use Rattle.pt_crew.specs.Stepping.{BeginsStep, EndsStep, EntersChild, IsAnswered, first_of, is_running};
-ghost use Rattle.pt_hands.specs.Pulling.{AttendsHands, Fills, HandView, Pulls, SameViews, crew_of, hand_views};
+ghost use Rattle.pt_crew.specs.Stepping.{BeginsStep, EndsStep, EntersChild, IsAnswered, QueueIsLonger, first_of, is_running};
+ghost use Rattle.pt_hands.specs.Pulling.{AreAllQueued, AttendsHands, Fills, HandView, NoneNoted, Pulls, SameViews, crew_of, hand_views};
 ghost use Rattle.pt_events.specs.declared.event.Event.TheVariants.{Left};
 ghost use Rattle.pt_hands.specs.Pulling.{new_hand};
 ghost use Rattle.pt_hands.specs.Taking.{IsAllNoted, NotesExit, PullsInto, TakesJob};
@@ -78,10 +78,12 @@ impl Hands {
         self.crew.next(p)
     }
 
-    /// Whether the queue is empty, and all that happened on its desk was read.
+    /// Whether the queue is empty, and all that happened on its desk was read. Then each exit was told.
     pub fn is_idle(&self, desk: &Desk) -> bool
-        ensures { result ≡ is_idle (crew_of self.now) desk.now.shard }
+        ensures idle { result ≡ is_idle (crew_of self.now) desk.now.shard }
+        ensures told { result ≡ true → AttendsHands self.now desk.now.shard → NoneNoted self.now }
     {
+        let _lawful = desk.journal();
         self.crew.is_idle(desk)
     }
 
@@ -166,6 +168,25 @@ impl Hands {
         ensures attends { AttendsHands self.old desk.now.shard → AttendsHands self.new desk.now.shard }
     {
         self.crew.end_step(desk);
+    }
+
+    /// Continues over the desk of the same number in a node that was resumed. It reads the journal of that desk from
+    /// its beginning, and each of its processes is in the queue then. For no journal that is left has what they got
+    /// while the node was settled.
+    ///
+    /// It fails for want of memory only if this attends no desk, and then no process is forgotten.
+    pub fn begin_again(&mut self) -> Result<(), AllocError>
+        ensures attends { OnOk result ((d e : ShardState) → AttendsHands self.old d → NoneNoted self.old
+            → AreBorn (roles (crew_of self.old)) e → AttendsHands self.new e) }
+        ensures all { OnOk result (AreAllQueued (crew_of self.new)) }
+        ensures ok { (d : ShardState) → AttendsHands self.old d → IsOk result }
+        ensures roles { AreSame (roles (crew_of self.old)) (roles (crew_of self.new)) }
+        ensures longer { QueueIsLonger (queue (crew_of self.old)) (queue (crew_of self.new)) }
+        ensures rest { KeepsRest (crew_of self.old) (crew_of self.new) }
+    {
+        self.crew.begin_again()?;
+        self.read = 0;
+        Ok(())
     }
 
     /// Says what a running process does next. It joins the queue's end.

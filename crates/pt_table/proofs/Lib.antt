@@ -3,3 +3,4 @@ pub mod Values
 pub mod Handles
 pub mod InRow
 pub mod Waking
+pub mod InCrew

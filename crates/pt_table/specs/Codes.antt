@@ -36,6 +36,10 @@ filled = 10
 abbrev pub bad_code : ℕ
 bad_code = 16
 
+-- an answer is for a process that is not running
+abbrev pub not_running : ℕ
+not_running = 17
+
 -- a setting is out of its range
 abbrev pub open_code : OpenError → ℕ
 open_code NoMemory = 2

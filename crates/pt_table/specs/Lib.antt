@@ -1,5 +1,7 @@
 pub mod Held
 pub mod Crossing
+pub mod Jobs
+pub mod Crewing
 pub mod Codes
 pub mod Answers
 pub mod Reading

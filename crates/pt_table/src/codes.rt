@@ -26,6 +26,9 @@ pub const FILLED: u32 = 10;
 /// A code in a struct that was passed in is none of its enumeration.
 pub const BAD_CODE: u32 = 16;
 
+/// An answer is for a process that is not running.
+pub const NOT_RUNNING: u32 = 17;
+
 pub fn code_of(fault: Fault) -> u32
     ensures { result ≡ code_of fault }
 {

@@ -411,7 +411,7 @@ fn no_ids() -> PtIds
     }
 }
 
-fn no_reason() -> PtReason
+pub(crate) fn no_reason() -> PtReason
     ensures { result ≡ no_reason }
 {
     PtReason { code: 0, number: 0 }
@@ -428,7 +428,7 @@ fn no_body() -> PtBody
     }
 }
 
-fn no_pick() -> PtPick
+pub(crate) fn no_pick() -> PtPick
     ensures { result ≡ no_pick }
 {
     PtPick {
@@ -439,7 +439,7 @@ fn no_pick() -> PtPick
     }
 }
 
-fn no_item() -> PtItem
+pub(crate) fn no_item() -> PtItem
     ensures { result ≡ no_item }
 {
     PtItem {

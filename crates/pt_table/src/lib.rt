@@ -1,5 +1,5 @@
 //! The table for C without its exports: plain structs and codes in place of enums and options, the handles, and the
-//! calls of a desk with these structs.
+//! calls of a desk and of a crew with these structs.
 //!
 //! `pt_c` exports it. It is a library of its own so that the gate proves it once. A static library keeps no checked
 //! crate, so what is in `pt_c` is proved again when its archive is built.
@@ -12,12 +12,17 @@
 //!   `Codes`)
 //! - **Bad codes.** A pick or a reason with a code that means nothing is refused, before all that the desk would refuse,
 //!   and nothing has changed. (`IfCrosses`)
+//! - **Crews.** A step hands out what `Hands` hands out, each job as its struct, and an answer is that of `Hands`. Of a row
+//!   of answers each is taken up to the first that is refused. (`CrewSteps`, `TakesAnswers`)
 //! - **Wake-ups.** `Woken` says which process is returned next. No event gives an item to any other process, or makes
 //!   it exit. (`NobodyIsMissed`)
 #![tactic(auto)]
 
 pub mod codes;
+pub mod crew_handle;
+pub mod crewing;
 pub mod crossing;
+pub mod crossing_jobs;
 pub mod desk_handle;
 pub mod doing;
 pub mod gathered_handle;

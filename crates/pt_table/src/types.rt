@@ -187,3 +187,48 @@ pub struct PtConfig {
     /// The start of the clocks: 0 to 2^62.
     pub start: u64,
 }
+
+/// What a process of a crew does next. The codes are:
+///
+/// - 0: it waits for an item that `pick` takes;
+/// - 1: the same, but no longer than until the time `until`;
+/// - 2: it proceeds;
+/// - 3: it exits with `reason`;
+/// - 4: it is running, until it is answered.
+///
+/// A call that gets any other code refuses it as 16. So it does if the code in the pick of 0 and 1, or in the reason of
+/// 3, is none of its enumeration.
+#[repr(C)]
+#[derive(Clone, Copy)]
+pub struct PtNext {
+    pub code: u32,
+    pub reason: PtReason,
+    pub until: u64,
+    pub pick: PtPick,
+}
+
+/// What a process of a crew is told. The codes are:
+///
+/// - 0: it begins;
+/// - 1: it proceeds;
+/// - 2: it gets an item (`item`);
+/// - 3: the time until which it waited has come;
+/// - 4: it has exited (`reason`), and this was what it was to do (`was`).
+#[repr(C)]
+#[derive(Clone, Copy)]
+pub struct PtJob {
+    pub code: u32,
+    pub pid: PtPid,
+    pub tag: u64,
+    pub item: PtItem,
+    pub reason: PtReason,
+    pub was: PtNext,
+}
+
+/// What a running process does next.
+#[repr(C)]
+#[derive(Clone, Copy)]
+pub struct PtAnswer {
+    pub pid: PtPid,
+    pub next: PtNext,
+}

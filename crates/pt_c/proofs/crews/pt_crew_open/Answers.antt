@@ -1,0 +1,10 @@
+-- `pt_crew_open`: its contract, where there was memory.
+use Rattle.std.proofs.Common.{inl, refl, sym, ◌∙◌}
+use Rattle.pt_c.proofs.Joining.{if_empty}
+use Rattle.pt_c.proofs.crews.pt_crew_open.Goals as goal
+
+pub returns : goal.returns
+returns c =
+    let e = c.new.ensures in
+    if_empty c.args.c.now.state _ _ (sym c.is_full.ensures.full ∙ c.if-is_full.false)
+    (inl (refl, c.new.result, record { attends = e.attends; nobody = e.nobody; queue = e.queue; time = e.time }, c.filled.ensures))

@@ -1,0 +1,421 @@
+//! The calls of a crew: the processes of one desk whose handlers are outside.
+//!
+//! Each makes the call of `Hands` that has its name on the crew of the handle, and returns its code. It returns 9 if a
+//! handle has none, and nothing has changed then.
+
+ghost use Rattle.std.specs.Prelude.{◌≡◌, length};
+ghost use Rattle.pt_crew.specs.Crews.{crew_size, queue, was_refused};
+ghost use Rattle.pt_hands.specs.Pulling.{crew_of, hand_views};
+ghost use Rattle.pt_table.specs.Answers.{CallsThrough, ReadsThrough, ShowsCode, full, value_behind};
+ghost use Rattle.pt_table.specs.Crewing.{CrewBeginsAgain, CrewSteps, SpawnsChildInCrew, SpawnsInCrew, TakesAnswers, TellsTime};
+ghost use Rattle.pt_table.specs.Crossing.{pid_crossed};
+ghost use Rattle.pt_table.specs.Jobs.{next_out};
+ghost use Rattle.pt_c.specs.Crews.{AnswersInOrder, OpensCrew, SetsCrewTime, TellsIdle};
+ghost use Rattle.pt_c.specs.Nodes.{GivesUp};
+
+use crate::node::end_code;
+use pt_hands::Hands;
+use pt_table::codes::{DONE, EMPTY, FILLED, MEMORY};
+use pt_table::crew_handle::{CrewHandle, claim, filled, hold, is_full, spare};
+use pt_table::crewing::{answer_all, begin_again, next, next_time, spawn, spawn_child, step, tag};
+use pt_table::crossing::pid_in;
+use pt_table::desk_handle::{DeskHandle, claim as claim_desk, hold as hold_desk};
+use pt_table::types::{PtAnswer, PtJob, PtNext, PtPid, PtTurned};
+use std::alloc::Global;
+
+/// Begins a crew, with no process and at the time 0. It is for the desk with which its calls are made first.
+///
+/// The handle must be empty: it returns 10 if it is not.
+#[unsafe(no_mangle)]
+pub extern "C" fn pt_crew_open(alloc: Global, c: &mut CrewHandle) -> u32
+    ensures { OpensCrew result c.old.state c.new.state }
+{
+    if is_full(alloc, c) {
+        return FILLED;
+    }
+    let Ok(place) = spare(alloc) else {
+        return MEMORY;
+    };
+    *c = filled(place, Hands::new(alloc));
+    DONE
+}
+
+/// Gives up a crew. Its processes stay on their desk, and are of no crew.
+#[unsafe(no_mangle)]
+pub extern "C" fn pt_crew_give_up(alloc: Global, c: &mut CrewHandle) -> u32
+    ensures { GivesUp result c.old.state c.new.state }
+{
+    match claim(alloc, c) {
+        Some(place) => end_code(place.crew.is_some()),
+        None => EMPTY,
+    }
+}
+
+/// Spawns a process on the desk with this tag, which does `first` next, as `Hands::spawn` does. It writes the pid to
+/// `out` if it returns 0. It returns 16 if a code in `first` is none of its enumeration.
+#[unsafe(no_mangle)]
+pub extern "C" fn pt_crew_spawn(
+    alloc: Global,
+    c: &mut CrewHandle,
+    h: &mut DeskHandle,
+    tag: u64,
+    first: PtNext,
+    out: &mut PtPid,
+) -> u32
+    ensures { CallsThrough c.old.state c.new.state result ((h.new.state ≡ h.old.state) × (out.new ≡ out.old))
+        (λ old new. CallsThrough h.old.state h.new.state result ((new ≡ old) × (out.new ≡ out.old))
+        (λ d e. SpawnsInCrew tag first result out.old out.new old d new e)) }
+{
+    let Some(mut held) = claim(alloc, c) else {
+        return EMPTY;
+    };
+    let code = match &mut held.crew {
+        Some(crew) => spawn_on(alloc, crew, h, tag, first, out),
+        None => EMPTY,
+    };
+    *c = hold(held);
+    code
+}
+
+fn spawn_on(
+    alloc: Global,
+    crew: &mut Hands,
+    h: &mut DeskHandle,
+    tag: u64,
+    first: PtNext,
+    out: &mut PtPid,
+) -> u32
+    ensures { CallsThrough h.old.state h.new.state result ((crew.new ≡ crew.old) × (out.new ≡ out.old))
+        (λ d e. SpawnsInCrew tag first result out.old out.new crew.old d crew.new e) }
+{
+    let Some(mut place) = claim_desk(alloc, h) else {
+        return EMPTY;
+    };
+    let code = match &mut place.desk {
+        Some(desk) => spawn(crew, desk, tag, first, out),
+        None => EMPTY,
+    };
+    *h = hold_desk(place);
+    code
+}
+
+/// Spawns a child of the parent with this tag, linked with it if `linked` is true, as `Hands::spawn_child` does. It writes
+/// the pid to `out` if it returns 0. It returns 16 if a code in `first` is none of its enumeration.
+#[unsafe(no_mangle)]
+pub extern "C" fn pt_crew_spawn_child(
+    alloc: Global,
+    c: &mut CrewHandle,
+    h: &mut DeskHandle,
+    parent: PtPid,
+    linked: bool,
+    tag: u64,
+    first: PtNext,
+    out: &mut PtPid,
+) -> u32
+    ensures { CallsThrough c.old.state c.new.state result ((h.new.state ≡ h.old.state) × (out.new ≡ out.old))
+        (λ old new. CallsThrough h.old.state h.new.state result ((new ≡ old) × (out.new ≡ out.old))
+        (λ d e. SpawnsChildInCrew (pid_crossed parent) linked tag first result out.old out.new old d new e)) }
+{
+    let Some(mut held) = claim(alloc, c) else {
+        return EMPTY;
+    };
+    let code = match &mut held.crew {
+        Some(crew) => spawn_child_on(alloc, crew, h, parent, linked, tag, first, out),
+        None => EMPTY,
+    };
+    *c = hold(held);
+    code
+}
+
+fn spawn_child_on(
+    alloc: Global,
+    crew: &mut Hands,
+    h: &mut DeskHandle,
+    parent: PtPid,
+    linked: bool,
+    tag: u64,
+    first: PtNext,
+    out: &mut PtPid,
+) -> u32
+    ensures { CallsThrough h.old.state h.new.state result ((crew.new ≡ crew.old) × (out.new ≡ out.old))
+        (λ d e. SpawnsChildInCrew (pid_crossed parent) linked tag first result out.old out.new crew.old d crew.new e) }
+{
+    let Some(mut place) = claim_desk(alloc, h) else {
+        return EMPTY;
+    };
+    let code = match &mut place.desk {
+        Some(desk) => spawn_child(crew, desk, pid_in(parent), linked, tag, first, out),
+        None => EMPTY,
+    };
+    *h = hold_desk(place);
+    code
+}
+
+/// Does a turn of the desk, and then a step of the crew, which hands out at most as many jobs as `jobs` has places. The
+/// jobs are in front of `jobs` then, `count` is their number, and `turned` is what the turn did.
+#[unsafe(no_mangle)]
+pub extern "C" fn pt_crew_step(
+    alloc: Global,
+    c: &mut CrewHandle,
+    h: &mut DeskHandle,
+    budget: u32,
+    jobs: &mut [PtJob],
+    count: &mut usize,
+    turned: &mut PtTurned,
+) -> u32
+    ensures { CallsThrough c.old.state c.new.state result ((h.new.state ≡ h.old.state) × (jobs.new ≡ jobs.old)
+        × (count.new ≡ count.old) × (turned.new ≡ turned.old))
+        (λ old new. CallsThrough h.old.state h.new.state result ((new ≡ old) × (jobs.new ≡ jobs.old)
+        × (count.new ≡ count.old) × (turned.new ≡ turned.old))
+        (λ d e. (result ≡ 0) × CrewSteps budget jobs.old old d turned.new count.new jobs.new new e)) }
+{
+    let Some(mut held) = claim(alloc, c) else {
+        return EMPTY;
+    };
+    let code = match &mut held.crew {
+        Some(crew) => step_on(alloc, crew, h, budget, jobs, count, turned),
+        None => EMPTY,
+    };
+    *c = hold(held);
+    code
+}
+
+fn step_on(
+    alloc: Global,
+    crew: &mut Hands,
+    h: &mut DeskHandle,
+    budget: u32,
+    jobs: &mut [PtJob],
+    count: &mut usize,
+    turned: &mut PtTurned,
+) -> u32
+    ensures { CallsThrough h.old.state h.new.state result ((crew.new ≡ crew.old) × (jobs.new ≡ jobs.old)
+        × (count.new ≡ count.old) × (turned.new ≡ turned.old))
+        (λ d e. (result ≡ 0) × CrewSteps budget jobs.old crew.old d turned.new count.new jobs.new crew.new e) }
+{
+    let Some(mut place) = claim_desk(alloc, h) else {
+        return EMPTY;
+    };
+    let code = match &mut place.desk {
+        Some(desk) => {
+            *turned = step(crew, desk, budget, jobs, count);
+            DONE
+        }
+        None => EMPTY,
+    };
+    *h = hold_desk(place);
+    code
+}
+
+/// Takes the answers in order, up to the first that is refused. `taken` is the number of those taken then.
+///
+/// If all were taken it returns 0. Else it returns the code of the one at place `taken`: 16 if a code in it is none of
+/// its enumeration, and 17 if its process is not running or is none of the crew.
+#[unsafe(no_mangle)]
+pub extern "C" fn pt_crew_answer(
+    alloc: Global,
+    c: &mut CrewHandle,
+    answers: &[PtAnswer],
+    taken: &mut usize,
+) -> u32
+    ensures { CallsThrough c.old.state c.new.state result (taken.new ≡ taken.old)
+        (λ old new. AnswersInOrder answers.now result taken.new old new) }
+{
+    let Some(mut held) = claim(alloc, c) else {
+        return EMPTY;
+    };
+    let code = match &mut held.crew {
+        Some(crew) => answer_all(crew, answers, taken),
+        None => EMPTY,
+    };
+    *c = hold(held);
+    code
+}
+
+/// Says what time it is in the calls that follow.
+#[unsafe(no_mangle)]
+pub extern "C" fn pt_crew_set_time(alloc: Global, c: &mut CrewHandle, now: u64) -> u32
+    ensures { CallsThrough c.old.state c.new.state result (Unit {0}) (λ old new. SetsCrewTime now result old new) }
+{
+    let Some(mut held) = claim(alloc, c) else {
+        return EMPTY;
+    };
+    let code = match &mut held.crew {
+        Some(crew) => {
+            crew.set_time(now);
+            DONE
+        }
+        None => EMPTY,
+    };
+    *c = hold(held);
+    code
+}
+
+/// Continues over the desk of the same number in a node that was resumed, as `Hands::begin_again` does. It may be called
+/// again if it returns 2.
+#[unsafe(no_mangle)]
+pub extern "C" fn pt_crew_begin_again(alloc: Global, c: &mut CrewHandle) -> u32
+    ensures { CallsThrough c.old.state c.new.state result (Unit {0}) (λ old new. CrewBeginsAgain result old new) }
+{
+    let Some(mut held) = claim(alloc, c) else {
+        return EMPTY;
+    };
+    let code = match &mut held.crew {
+        Some(crew) => begin_again(crew),
+        None => EMPTY,
+    };
+    *c = hold(held);
+    code
+}
+
+/// The earliest time until which a process waits that is not in the queue; 8 if there is no such process.
+#[unsafe(no_mangle)]
+pub extern "C" fn pt_crew_next_time(alloc: Global, c: &mut CrewHandle, out: &mut u64) -> u32
+    ensures { ReadsThrough c.old.state c.new.state result (out.new ≡ out.old)
+        (λ crew. TellsTime crew result out.old out.new) }
+{
+    let Some(held) = claim(alloc, c) else {
+        return EMPTY;
+    };
+    let code = match &held.crew {
+        Some(crew) => next_time(crew, out),
+        None => EMPTY,
+    };
+    *c = hold(held);
+    code
+}
+
+/// The tag of a process; 8 if it is none of the crew.
+#[unsafe(no_mangle)]
+pub extern "C" fn pt_crew_tag(alloc: Global, c: &mut CrewHandle, p: PtPid, out: &mut u64) -> u32
+    ensures { ReadsThrough c.old.state c.new.state result (out.new ≡ out.old)
+        (λ crew. ShowsCode result out.old out.new (λ v. v.tag) (hand_views crew (pid_crossed p))) }
+{
+    let Some(held) = claim(alloc, c) else {
+        return EMPTY;
+    };
+    let code = match &held.crew {
+        Some(crew) => tag(crew, pid_in(p), out),
+        None => EMPTY,
+    };
+    *c = hold(held);
+    code
+}
+
+/// What a process does next; 8 if it is none of the crew.
+#[unsafe(no_mangle)]
+pub extern "C" fn pt_crew_next(alloc: Global, c: &mut CrewHandle, p: PtPid, out: &mut PtNext) -> u32
+    ensures { ReadsThrough c.old.state c.new.state result (out.new ≡ out.old)
+        (λ crew. ShowsCode result out.old out.new (λ v. next_out v.next) (hand_views crew (pid_crossed p))) }
+{
+    let Some(held) = claim(alloc, c) else {
+        return EMPTY;
+    };
+    let code = match &held.crew {
+        Some(crew) => next(crew, pid_in(p), out),
+        None => EMPTY,
+    };
+    *c = hold(held);
+    code
+}
+
+/// The number of processes of the crew.
+#[unsafe(no_mangle)]
+pub extern "C" fn pt_crew_len(alloc: Global, c: &mut CrewHandle, out: &mut usize) -> u32
+    ensures { ReadsThrough c.old.state c.new.state result (out.new ≡ out.old)
+        (λ crew. (result ≡ 0) × (out.new ≡ crew_size (crew_of crew))) }
+{
+    let Some(held) = claim(alloc, c) else {
+        return EMPTY;
+    };
+    let code = match &held.crew {
+        Some(crew) => {
+            *out = crew.len();
+            DONE
+        }
+        None => EMPTY,
+    };
+    *c = hold(held);
+    code
+}
+
+/// The number of processes of the crew that may have something to do.
+#[unsafe(no_mangle)]
+pub extern "C" fn pt_crew_queued(alloc: Global, c: &mut CrewHandle, out: &mut usize) -> u32
+    ensures { ReadsThrough c.old.state c.new.state result (out.new ≡ out.old)
+        (λ crew. (result ≡ 0) × (out.new ≡ length (queue (crew_of crew)))) }
+{
+    let Some(held) = claim(alloc, c) else {
+        return EMPTY;
+    };
+    let code = match &held.crew {
+        Some(crew) => {
+            *out = crew.queued();
+            DONE
+        }
+        None => EMPTY,
+    };
+    *c = hold(held);
+    code
+}
+
+/// Whether no process is in the queue, and all that happened on the desk was read.
+#[unsafe(no_mangle)]
+pub extern "C" fn pt_crew_is_idle(
+    alloc: Global,
+    c: &mut CrewHandle,
+    h: &mut DeskHandle,
+    out: &mut bool,
+) -> u32
+    ensures { ReadsThrough c.old.state c.new.state result ((h.new.state ≡ h.old.state) × (out.new ≡ out.old))
+        (λ crew. ReadsThrough h.old.state h.new.state result (out.new ≡ out.old)
+        (λ d. (result ≡ 0) × TellsIdle crew d out.new)) }
+{
+    let Some(held) = claim(alloc, c) else {
+        return EMPTY;
+    };
+    let code = match &held.crew {
+        Some(crew) => is_idle_on(alloc, crew, h, out),
+        None => EMPTY,
+    };
+    *c = hold(held);
+    code
+}
+
+fn is_idle_on(alloc: Global, crew: &Hands, h: &mut DeskHandle, out: &mut bool) -> u32
+    ensures { ReadsThrough h.old.state h.new.state result (out.new ≡ out.old)
+        (λ d. (result ≡ 0) × TellsIdle crew.now d out.new) }
+{
+    let Some(place) = claim_desk(alloc, h) else {
+        return EMPTY;
+    };
+    let code = match &place.desk {
+        Some(desk) => {
+            *out = crew.is_idle(desk);
+            DONE
+        }
+        None => EMPTY,
+    };
+    *h = hold_desk(place);
+    code
+}
+
+/// Whether a process was refused memory or a stamp in the last step.
+#[unsafe(no_mangle)]
+pub extern "C" fn pt_crew_refused(alloc: Global, c: &mut CrewHandle, out: &mut bool) -> u32
+    ensures { ReadsThrough c.old.state c.new.state result (out.new ≡ out.old)
+        (λ crew. (result ≡ 0) × (out.new ≡ was_refused (crew_of crew))) }
+{
+    let Some(held) = claim(alloc, c) else {
+        return EMPTY;
+    };
+    let code = match &held.crew {
+        Some(crew) => {
+            *out = crew.refused();
+            DONE
+        }
+        None => EMPTY,
+    };
+    *c = hold(held);
+    code
+}

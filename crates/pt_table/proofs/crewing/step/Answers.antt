@@ -1,0 +1,26 @@
+-- `step`: its contract.
+use Rattle.std.proofs.Common.{ap, ◌∙◌}
+use Rattle.pt_desk.proofs.Turning.{goes_on_then}
+use Rattle.pt_table.proofs.crewing.step.Goals as goal
+
+pub returns : goal.returns
+returns c =
+    let t = c.turn-turned.ensures in
+    let b = c.begin_step.ensures in
+    let f = c.fill.ensures in
+    let n = c.end_step.ensures in
+    record {
+      turned = c.turn-turned.result;
+      turned_is = ap (λ s. record { posted = c.turn-turned.result.posted; handled = c.turn-turned.result.handled; stopped = s }) c.stop_code.ensures;
+      mid = c.turn-turned.new.self;
+      turns = t.turns;
+      begun = c.begin_step.new.self;
+      begins = b.begins;
+      filled = c.fill.new.crew;
+      fills = λ a. f.does (b.attends c.args.desk.now.shard t.goes_on.shard a);
+      ends = n.ends;
+      attends = λ a. n.attends (f.attends (b.attends c.args.desk.now.shard t.goes_on.shard a));
+      awake = λ a. n.ends.awake (f.attends (b.attends c.args.desk.now.shard t.goes_on.shard a)).crew;
+      time = n.ends.time ∙ f.time ∙ b.begins.time;
+      goes_on = goes_on_then c.args.desk.now c.turn-turned.new.self c.fill.new.desk t.goes_on f.goes_on;
+    }

@@ -1,0 +1,197 @@
+//! The calls of a crew, with the structs that cross in place of the table's values.
+//!
+//! A struct with a code is looked at before anything else. If a code is none of its enumeration, the call returns
+//! `BAD_CODE`, and nothing has changed.
+
+ghost use Rattle.std.specs.Prelude.{◌≡◌, ◌<◌, ◌≤◌, ◌+◌, length};
+ghost use Rattle.std.specs.Option.{option_map};
+ghost use Rattle.pt_shard.specs.ShardState.{ShardState};
+ghost use Rattle.pt_desk.specs.DeskState.{GoesOn};
+ghost use Rattle.pt_crew.specs.Crews.{IsNextTime, time_of};
+ghost use Rattle.pt_hands.specs.Pulling.{AttendsHands, crew_of, hand_views};
+ghost use Rattle.pt_table.specs.Answers.{ShowsCode};
+ghost use Rattle.pt_table.specs.Crewing.{AnswersOne, CrewBeginsAgain, CrewSteps, HandsOutRow, PullsRow, SpawnsChildInCrew};
+ghost use Rattle.pt_table.specs.Crewing.{SpawnsInCrew, TakesAnswers, TellsTime};
+ghost use Rattle.pt_table.specs.Jobs.{next_out};
+
+use crate::codes::{BAD_CODE, DONE, MEMORY, NOT_RUNNING, NOTHING, code_of, stop_code};
+use crate::crossing::{pid_in, pid_out};
+use crate::crossing_jobs::{job_out, next_in, next_out};
+use crate::types::{PtAnswer, PtJob, PtNext, PtPid, PtTurned};
+use pt_hands::Hands;
+use pt_node::{Desk, Pid};
+
+pub fn spawn(crew: &mut Hands, desk: &mut Desk, tag: u64, first: PtNext, out: &mut PtPid) -> u32
+    ensures { SpawnsInCrew tag first result out.old out.new crew.old desk.old crew.new desk.new }
+{
+    let Some(first) = next_in(first) else {
+        return BAD_CODE;
+    };
+    match crew.spawn(desk, tag, first) {
+        Ok(pid) => {
+            *out = pid_out(pid);
+            DONE
+        }
+        Err(fault) => code_of(fault),
+    }
+}
+
+pub fn spawn_child(
+    crew: &mut Hands,
+    desk: &mut Desk,
+    parent: Pid,
+    linked: bool,
+    tag: u64,
+    first: PtNext,
+    out: &mut PtPid,
+) -> u32
+    ensures { SpawnsChildInCrew parent linked tag first result out.old out.new crew.old desk.old crew.new desk.new }
+{
+    let Some(first) = next_in(first) else {
+        return BAD_CODE;
+    };
+    match crew.spawn_child(desk, parent, linked, tag, first) {
+        Ok(pid) => {
+            *out = pid_out(pid);
+            DONE
+        }
+        Err(fault) => code_of(fault),
+    }
+}
+
+/// A turn of the desk, and then a step of the crew that hands out jobs until the slice is full. It writes the number of
+/// them to `count`, and returns what the turn did.
+pub fn step(
+    crew: &mut Hands,
+    desk: &mut Desk,
+    budget: u32,
+    jobs: &mut [PtJob],
+    count: &mut usize,
+) -> PtTurned
+    ensures { CrewSteps budget jobs.old crew.old desk.old result count.new jobs.new crew.new desk.new }
+{
+    let turned = desk.turn(budget);
+    crew.begin_step(desk);
+    *count = fill(crew, desk, jobs);
+    crew.end_step(desk);
+    PtTurned {
+        posted: turned.posted,
+        handled: turned.handled,
+        stopped: stop_code(turned.stopped),
+    }
+}
+
+/// Runs the processes that are in the queue now, in order, until the slice is full. It writes what they are told to the
+/// front of the slice, and returns how many jobs these are.
+fn fill(crew: &mut Hands, desk: &mut Desk, jobs: &mut [PtJob]) -> usize
+    ensures does { AttendsHands crew.old desk.old.shard
+        → HandsOutRow jobs.old crew.old desk.old.shard result jobs.new crew.new desk.new.shard }
+    ensures attends { AttendsHands crew.old desk.old.shard → AttendsHands crew.new desk.new.shard }
+    ensures time { time_of (crew_of crew.new) ≡ time_of (crew_of crew.old) }
+    ensures goes_on { GoesOn desk.old desk.new }
+{
+    let mut filled = 0;
+    for _place in 0..crew.queued() {
+        if filled >= jobs.len() {
+            return filled;
+        }
+        filled = pull_into(crew, desk, jobs, filled);
+    }
+    filled
+}
+
+/// Pulls, and writes the job to that place of the slice, if there is one. It returns the place of the next.
+fn pull_into(crew: &mut Hands, desk: &mut Desk, jobs: &mut [PtJob], place: usize) -> usize
+    requires { place < length jobs.old }
+    ensures does { AttendsHands crew.old desk.old.shard
+        → PullsRow place jobs.old crew.old desk.old.shard result jobs.new crew.new desk.new.shard }
+    ensures attends { AttendsHands crew.old desk.old.shard → AttendsHands crew.new desk.new.shard }
+    ensures time { time_of (crew_of crew.new) ≡ time_of (crew_of crew.old) }
+    ensures len { length jobs.new ≡ length jobs.old }
+    ensures within { result ≤ place + 1 }
+    ensures goes_on { GoesOn desk.old desk.new }
+{
+    match crew.pull(desk) {
+        Some(job) => {
+            jobs[place] = job_out(job);
+            place + 1
+        }
+        None => place,
+    }
+}
+
+/// Takes the answers in order, up to the first that is refused. It writes the number of those taken to `taken`, and
+/// returns the code of the one that was refused, if there is one.
+pub fn answer_all(crew: &mut Hands, answers: &[PtAnswer], taken: &mut usize) -> u32
+    ensures does { TakesAnswers answers.now result taken.new crew.old crew.new }
+    ensures attends { (d : ShardState) → AttendsHands crew.old d → AttendsHands crew.new d }
+{
+    for place in 0..answers.len() {
+        let code = answer(crew, answers[place]);
+        if code != DONE {
+            *taken = place;
+            return code;
+        }
+    }
+    *taken = answers.len();
+    DONE
+}
+
+fn answer(crew: &mut Hands, answer: PtAnswer) -> u32
+    ensures does { AnswersOne answer result crew.old crew.new }
+    ensures attends { (d : ShardState) → AttendsHands crew.old d → AttendsHands crew.new d }
+{
+    let Some(next) = next_in(answer.next) else {
+        return BAD_CODE;
+    };
+    match crew.answer(pid_in(answer.pid), next) {
+        Ok(true) => DONE,
+        Ok(false) => NOT_RUNNING,
+        Err(_) => MEMORY,
+    }
+}
+
+pub fn begin_again(crew: &mut Hands) -> u32
+    ensures { CrewBeginsAgain result crew.old crew.new }
+{
+    match crew.begin_again() {
+        Ok(()) => DONE,
+        Err(_) => MEMORY,
+    }
+}
+
+pub fn next_time(crew: &Hands, out: &mut u64) -> u32
+    ensures { TellsTime crew.now result out.old out.new }
+{
+    match crew.next_time() {
+        Some(time) => {
+            *out = time;
+            DONE
+        }
+        None => NOTHING,
+    }
+}
+
+pub fn tag(crew: &Hands, p: Pid, out: &mut u64) -> u32
+    ensures { ShowsCode result out.old out.new (λ v. v.tag) (hand_views crew.now p) }
+{
+    match crew.tag(p) {
+        Some(tag) => {
+            *out = tag;
+            DONE
+        }
+        None => NOTHING,
+    }
+}
+
+pub fn next(crew: &Hands, p: Pid, out: &mut PtNext) -> u32
+    ensures { ShowsCode result out.old out.new (λ v. next_out v.next) (hand_views crew.now p) }
+{
+    match crew.next(p) {
+        Some(next) => {
+            *out = next_out(next);
+            DONE
+        }
+        None => NOTHING,
+    }
+}
