@@ -115,7 +115,7 @@ by_the_page() { # SED-SCRIPT
 mkdir -p "$work/page"
 ln -s "$here" "$work/page/bindings"
 by_the_page '' >"$work/printed"
-for example in about bad_codes crew crew_load no_memory resumed ring supervisor; do
+for example in about bad_codes crew crew_load losses no_memory resumed ring supervisor; do
     by_the_page "/^\.\//d; s/ping_pong/$example/g" >"$work/printed"
     [ -x "$work/page/$example" ] || { echo "bindings: the lines of docs/EMBEDDING.md do not build $example"; exit 1; }
 done
@@ -133,12 +133,14 @@ build supervisor
 build ring
 build resumed
 build no_memory
+build losses
 "$work/about"
 "$work/bad_codes"
 "$work/crew_load"
 "$work/crew" | diff "$here/c/crew.out" -
 "$work/rows" "$work/table"
 "$work/no_memory"
+"$work/losses"
 "$work/supervisor" | diff "$here/c/supervisor.out" -
 "$work/resumed" | diff "$here/c/resumed.out" -
 "$work/ring" >"$work/printed"
@@ -151,7 +153,7 @@ done
 if command -v valgrind >/dev/null; then
     # (fair: four threads that spin would else wait for each other for minutes)
     memory="valgrind -q --fair-sched=try --error-exitcode=9 --leak-check=full --show-leak-kinds=all --errors-for-leak-kinds=all"
-    for program in about bad_codes "rows $work/table" supervisor resumed "ring 20" crew "crew_load 3000"; do
+    for program in about bad_codes losses "rows $work/table" supervisor resumed "ring 20" crew "crew_load 3000"; do
         $memory "$work/"$program >"$work/printed" 2>&1 \
             || { cat "$work/printed"; echo "valgrind: $program is not clean"; exit 1; }
     done

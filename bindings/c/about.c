@@ -54,6 +54,8 @@ static void samples(void) {
     NEXT(l.from_desk); NEXT(l.to_desk); pid(l.from); pid(l.to); NEXT(l.stamp); sent(l.signal);
     SAMPLE(pt_turned, t, pt_about_turned);
     NEXT(t.posted); NEXT(t.handled); NEXT(t.stopped);
+    SAMPLE(pt_loss, lost, pt_about_loss);
+    TRUE(lost.has_exited); pid(lost.pid); reason(lost.reason); NEXT(lost.items);
     SAMPLE(pt_account, a, pt_about_account);
     TRUE(a.has_ended); reason(a.ended); NEXT(a.arrived); NEXT(a.taken); NEXT(a.waiting);
     SAMPLE(pt_config, c, pt_about_config);
@@ -79,6 +81,7 @@ static void sizes(void) {
     is("pt_left_over", s.left_over, sizeof(pt_left_over));
     is("pt_turned", s.turned, sizeof(pt_turned));
     is("pt_account", s.account, sizeof(pt_account));
+    is("pt_loss", s.loss, sizeof(pt_loss));
     is("pt_config", s.config, sizeof(pt_config));
     is("pt_next", s.next, sizeof(pt_next));
     is("pt_job", s.job, sizeof(pt_job));

@@ -159,6 +159,10 @@ typedef struct { bool has_ended; pt_reason ended; uint64_t arrived; uint64_t tak
  * clocks. */
 typedef struct { uint32_t slots; uint32_t top_version; uint32_t lane; uint64_t start; } pt_config;
 
+/* What a desk lost by one event: how many items of this process. Either it exited with this reason, and they waited in its
+ * mailbox; or it was not alive as a message came, and `reason` says nothing. */
+typedef struct { bool has_exited; pt_pid pid; pt_reason reason; size_t items; } pt_loss;
+
 /* What a process of a crew does next:
  *  - WAIT: it waits for an item that `pick` takes;
  *  - WAIT_UNTIL: the same, but no longer than until the time `until` (pt_crew_set_time);
@@ -177,8 +181,8 @@ typedef struct { uint32_t code; pt_reason reason; uint64_t until; pt_pick pick; 
  *  - TIMEOUT: the time until which it waited has come, and no item fits;
  *  - EXIT: it has exited with `reason`, and `was` is what it was to do: PT_NEXT_RUNNING, if it was told something that
  *    nobody answered. It is told once, and the process is none of the crew then: it gets no answer. The reason is that
- *    of its own exit, by PT_NEXT_STOP or by pt_exit; it is PT_NO_PROCESS where an exit signal ended it, or where it
- *    exited while its node was settled. */
+ *    of its own exit, by PT_NEXT_STOP or by pt_exit. Where an exit signal ended it, or where it exited while its node
+ *    was settled, it is the reason that pt_crew_note_loss noted, or PT_NO_PROCESS where none was. */
 enum { PT_JOB_START = 0, PT_JOB_PROCEED = 1, PT_JOB_ITEM = 2, PT_JOB_TIMEOUT = 3, PT_JOB_EXIT = 4 };
 typedef struct {
     uint32_t code; pt_pid pid; uint64_t tag; pt_item item; pt_reason reason; pt_next was;
@@ -246,6 +250,23 @@ uint32_t pt_exit(pt_desk *desk, pt_pid p, pt_reason reason);                    
 /* Posts the letters that wait, and handles at most `budget`. PT_EMPTY; what stopped it stands in `out`. */
 uint32_t pt_turn(pt_desk *desk, uint32_t budget, pt_turned *out);
 
+/* ---- what a desk lost. Each may answer PT_EMPTY
+ *
+ * A message is lost where its receiver exits before it took it, or is not alive as it comes. A desk that is asked to keeps
+ * what it lost until it is told, in order: nothing else takes memory for it, and a desk that is not asked keeps nothing.
+ * So the one who keeps something beside a message knows when nobody will ever take it. What settling lost is told by the
+ * desk of the same number in the node that was resumed. */
+
+/* Sets whether what is lost from now on is kept. It is not at first. */
+uint32_t pt_keep_losses(pt_desk *desk, bool on);
+
+/* The loss with this number among those that were not told, the oldest first, and an item of it. PT_NOTHING. */
+uint32_t pt_loss_at(pt_desk *desk, size_t place, pt_loss *out);
+uint32_t pt_loss_item(pt_desk *desk, size_t place, size_t item, pt_item *out);
+
+/* The oldest was told, and is kept no longer. PT_NOTHING: there was none. */
+uint32_t pt_next_loss(pt_desk *desk);
+
 /* ---- crews: the processes of one desk whose handlers are yours. Each may answer PT_EMPTY, which comes first
  *
  * A loop is: pt_crew_step; for each job its handler, which makes calls of the desk as it likes, and for each job but
@@ -277,6 +298,10 @@ uint32_t pt_crew_step(pt_crew *crew, pt_desk *desk, uint32_t budget, pt_job *job
  * were it answers PT_OK, and else the code of the one at place `taken`, by which nothing has changed: PT_BAD_CODE;
  * PT_NOT_RUNNING, where its process is not running or none of the crew. */
 uint32_t pt_crew_answer(pt_crew *crew, const pt_answer *answers, size_t count, size_t *taken);
+
+/* Notes what the loss with this number of the desk (pt_loss_at) tells: the reason of an exit. So a crew knows each reason,
+ * if its desk keeps its losses, and each is noted before the step that tells of the exit. PT_NOTHING. */
+uint32_t pt_crew_note_loss(pt_crew *crew, pt_desk *desk, size_t place);
 
 /* Says what time it is in the calls that follow, in a unit of your own. */
 uint32_t pt_crew_set_time(pt_crew *crew, uint64_t now);
@@ -385,7 +410,7 @@ typedef struct {
 typedef struct {
     size_t
         pid, reference, ids, reason, body, item, pick, signal, event, left_over, turned, account, config, next, job,
-        answer, codes;
+        answer, loss, codes;
 } pt_sizes;
 void pt_about_codes(pt_codes *out);
 void pt_about_sizes(pt_sizes *out);
@@ -395,6 +420,7 @@ void pt_about_event(pt_event *out);
 void pt_about_left_over(pt_left_over *out);
 void pt_about_turned(pt_turned *out);
 void pt_about_account(pt_account *out);
+void pt_about_loss(pt_loss *out);
 void pt_about_config(pt_config *out);
 void pt_about_job(pt_job *out);
 void pt_about_answer(pt_answer *out);

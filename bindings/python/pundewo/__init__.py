@@ -21,14 +21,14 @@ from threading import Lock
 from typing import Any, Callable, Iterator, Optional, Sequence, TypeVar
 
 from ._library import (
-    BUILD, CAccount, CAnswer, CBody, CConfig, CEvent, CHandle, CIds, CItem, CJob, CLeftOver, CNext, CPick, CPid, CReason,
+    BUILD, CAccount, CAnswer, CBody, CConfig, CEvent, CHandle, CIds, CItem, CJob, CLeftOver, CLoss, CNext, CPick, CPid, CReason,
     CRef, CSignal, CTurned, body_of, c_body, c_next, c_pick, c_pid, c_reason, c_ref, event_of, ids_of, item_of, job_of,
     left_over_of, lib, next_of, own, pick_of, pid_of, reason_of, ref_of,
 )
 from .values import (
     ANY, EVENTS, ITEMS, JOBS, KILL, KILLED, NEXTS, NOPROC, NORMAL, PICKS, PROCEED, REASONS, RUNNING, SHUTDOWN, SIGNALS, U8,
-    U16, U32, U64, Account, Body, Code, Config, Event, Ids, Item, Job, LeftOver, LinkId, Next, Pick, Pid, Reason, Ref, Signal,
-    Turned, flag, number, of_type, shown, unchecked,
+    U16, U32, U64, Account, Body, Code, Config, Event, Ids, Item, Job, LeftOver, LinkId, Loss, Next, Pick, Pid, Reason, Ref,
+    Signal, Turned, flag, number, of_type, shown, unchecked,
 )
 
 __version__ = "0.1.0"
@@ -36,7 +36,7 @@ __version__ = "0.1.0"
 __all__ = [
     "ANY", "BUILD", "EVENTS", "ITEMS", "JOBS", "KILL", "KILLED", "NEXTS", "NOPROC", "NORMAL", "PICKS", "PROCEED", "REASONS",
     "RUNNING", "SHUTDOWN", "SIGNALS", "Account", "Body", "Busy", "Code", "Config", "Crew", "Desk", "Event", "Fault",
-    "Gathered", "History", "Ids", "Item", "Job", "LeftOver", "LinkId", "Next", "Pick", "Pid", "Quiet", "Reason", "Ref",
+    "Gathered", "History", "Ids", "Item", "Job", "LeftOver", "LinkId", "Loss", "Next", "Pick", "Pid", "Quiet", "Reason", "Ref",
     "Settled", "Signal", "Turned", "Unsettled", "gather", "open_node",
 ]
 
@@ -253,6 +253,23 @@ class Desk(_Held):
         """
         return self._give(lib.pt_trap, c.c_bool(), c_pid("p", p), flag("on", on)).value
 
+    def keep_losses(self, on: bool = True) -> None:
+        """Sets whether what this desk loses from now on is kept until `next_loss` tells of it. It is not at first.
+
+        A desk loses what waits in a mailbox as its process exits, and each message that comes to a process that is not
+        alive. What was not told takes memory. A resumed desk goes on as it was set, with all that was not told.
+        """
+        self._must(lib.pt_keep_losses, flag("on", on))
+
+    def next_loss(self) -> Optional[Loss]:
+        """The oldest loss that was not told; None if there is none. Each is told once."""
+        out = self._find(lib.pt_loss_at, CLoss(), 0)
+        if out is None:
+            return None
+        items = tuple(item_of(self._give(lib.pt_loss_item, CItem(), 0, place)) for place in range(out.items))
+        self._must(lib.pt_next_loss)
+        return unchecked(Loss, (pid_of(out.pid), reason_of(out.reason) if out.has_exited else None, items))
+
     def receive(self, p: Pid, pick: Pick = ANY) -> Optional[Item]:
         """Takes the first item that matches out of the mailbox of p; None if none does: Erlang's `receive .. after 0`.
 
@@ -460,6 +477,16 @@ class Crew(_Held):
         if code not in (Code.OK, Code.NOT_RUNNING):
             raise _fault(lib.pt_crew_answer, (), code)
         return taken.value
+
+    def next_loss(self, desk: Desk) -> Optional[Loss]:
+        """The oldest loss of the desk that was not told, as `Desk.next_loss` returns it. The crew notes the reason of the
+        exit that it tells. So a crew knows each reason, if each loss is taken here before the step that tells of the exit.
+        """
+        with self._over(desk) as at:
+            code = self._call(lib.pt_crew_note_loss, at, 0)
+        if code not in (Code.OK, Code.NOTHING):
+            raise _fault(lib.pt_crew_note_loss, (), code)
+        return desk.next_loss()
 
     def set_time(self, now: int) -> None:
         """Says what time it is in the calls that follow, in a unit of your own."""

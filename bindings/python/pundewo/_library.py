@@ -77,6 +77,10 @@ class CNext(c.Structure):
     _fields_ = [("code", c.c_uint32), ("reason", CReason), ("until", c.c_uint64), ("pick", CPick)]
 
 
+class CLoss(c.Structure):
+    _fields_ = [("has_exited", c.c_bool), ("pid", CPid), ("reason", CReason), ("items", c.c_size_t)]
+
+
 class CJob(c.Structure):
     _fields_ = [("code", c.c_uint32), ("pid", CPid), ("tag", c.c_uint64), ("item", CItem), ("reason", CReason),
                 ("was", CNext)]
@@ -130,7 +134,8 @@ def _declare() -> None:
         "quiet_pid_count": [p(size)], "quiet_pid_at": [size, p(CPid)], "quiet_account": [CPid, p(CAccount)],
         "quiet_linked": [CPid, CPid, p(CIds)], "quiet_kept": [CPid, CRef, p(flag)],
         "quiet_watching": [CPid, CRef, p(flag)], "history_count": [p(size)], "history_at": [size, p(CEvent)],
-        "crew_open": [], "crew_give_up": [], "crew_spawn": [p(CHandle), c.c_uint64, CNext, p(CPid)],
+        "keep_losses": [flag], "loss_at": [size, p(CLoss)], "loss_item": [size, size, p(CItem)], "next_loss": [],
+        "crew_note_loss": [p(CHandle), size], "crew_open": [], "crew_give_up": [], "crew_spawn": [p(CHandle), c.c_uint64, CNext, p(CPid)],
         "crew_spawn_child": [p(CHandle), CPid, flag, c.c_uint64, CNext, p(CPid)],
         "crew_step": [p(CHandle), c.c_uint32, p(CJob), size, p(size), p(CTurned)],
         "crew_answer": [p(CAnswer), size, p(size)], "crew_set_time": [c.c_uint64], "crew_begin_again": [],

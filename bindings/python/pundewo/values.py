@@ -337,6 +337,26 @@ class Next(_Checked, _Next):
         return " ".join(str(word) for word in (self.name, self.until, self.pick, self.reason) if word is not None)
 
 
+class _Loss(NamedTuple):
+    pid: Pid
+    reason: Optional[Reason]
+    items: tuple[Item, ...]
+
+
+class Loss(_Checked, _Loss):
+    """What a desk lost by one event: items that nobody will ever take.
+
+    `reason` is that of the exit of the process, and None if it was not alive as the message came.
+    """
+
+    __slots__ = ()
+
+    def __new__(cls, pid: Pid, reason: Optional[Reason], items: tuple[Item, ...]) -> Loss:
+        for place, item in enumerate(of_type("Loss.items", items, tuple)):
+            of_type(f"Loss.items[{place}]", item, Item)
+        return unchecked(cls, (of_type("Loss.pid", pid, Pid), maybe("Loss.reason", reason, Reason), items))
+
+
 PROCEED, RUNNING = Next("proceed"), Next("running")
 JOBS = ("start", "proceed", "item", "timeout", "exit")
 
@@ -354,7 +374,8 @@ class Job(_Checked, _Job):
     """What a process of a crew is told; `name` is one of JOBS, and what does not belong to it is None.
 
     "item" has an item. "exit" has the reason, and in `was` what the process was to do. The reason is that of the process's
-    own exit. It is NOPROC if an exit signal ended the process, or if it exited while its node was settled.
+    own exit. If an exit signal ended the process, or it exited while its node was settled, it is the one that the desk's
+    loss told (`Crew.next_loss`), or NOPROC if none did.
     """
 
     __slots__ = ()

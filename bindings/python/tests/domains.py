@@ -157,6 +157,20 @@ class Words(Domain):
                 yield good[:place] + (bad,) + good[place + 1:]
 
 
+class Items(Domain):
+    """Tuples of items."""
+
+    def good(self, draw: random.Random) -> tuple[v.Item, ...]:
+        return tuple(ITEM.good(draw) for _ in range(draw.randrange(4)))
+
+    def bounds(self) -> list[Any]:
+        return [()]
+
+    def bad(self, draw: random.Random) -> Iterator[Any]:
+        item = ITEM.good(draw)
+        yield from (None, 0, item, [item], [], "", (item, None), (0,), ((item,),), (v.ANY,), object(), tuple)
+
+
 BYTE, WORD, LONG, SIGNED = Ints(0, 2**8 - 1), Ints(0, 2**32 - 1), Ints(0, 2**64 - 1), Ints(-(2**63), 2**63 - 1)
 SHORT = Ints(0, 2**16 - 1)
 PID, REF, LINK, IDS, REASON, BODY, ITEM, PICK, SIGNAL, NEXT = map(
@@ -202,6 +216,7 @@ SHAPES: dict[type, list[dict[str, Domain]]] = {
     v.LeftOver: [{"from_desk": BYTE, "to_desk": BYTE, "sender": PID, "to": PID, "signal": SIGNAL, "stamp": LONG}],
     v.Turned: [{"posted": LONG, "handled": LONG, "stopped": Codes()}],
     v.Account: [{"ended": A(v.Reason, True), "arrived": LONG, "taken": LONG, "waiting": LONG}],
+    v.Loss: [{"pid": PID, "reason": A(v.Reason, True), "items": Items()}],
     v.Next: [_next("wait", pick=PICK), _next("wait-until", pick=PICK, until=LONG), _next("proceed", "running"),
              _next("stop", reason=REASON)],
     v.Job: [_job("start", "proceed", "timeout"), _job("item", item=ITEM), _job("exit", reason=REASON, was=NEXT)],

@@ -228,7 +228,7 @@ class About(unittest.TestCase):
         return told
 
     def test_fields(self):
-        samples = {"event": p.CEvent, "left_over": p.CLeftOver, "turned": p.CTurned, "account": p.CAccount,
+        samples = {"event": p.CEvent, "left_over": p.CLeftOver, "turned": p.CTurned, "account": p.CAccount, "loss": p.CLoss,
                    "config": p.CConfig, "job": p.CJob, "answer": p.CAnswer}
         for name, kind in samples.items():
             sample = kind()
@@ -238,7 +238,7 @@ class About(unittest.TestCase):
 
     def test_sizes_and_codes(self):
         kinds = [p.CPid, p.CRef, p.CIds, p.CReason, p.CBody, p.CItem, p.CPick, p.CSignal, p.CEvent, p.CLeftOver,
-                 p.CTurned, p.CAccount, p.CConfig, p.CNext, p.CJob, p.CAnswer]
+                 p.CTurned, p.CAccount, p.CConfig, p.CNext, p.CJob, p.CAnswer, p.CLoss]
         sizes = (c.c_size_t * (len(kinds) + 1))()
         p.lib.pt_about_sizes(sizes)
         self.assertEqual(list(sizes)[:-1], [c.sizeof(kind) for kind in kinds])
@@ -311,6 +311,36 @@ class Handles(unittest.TestCase):
         with self.assertRaises(Fault) as caught:
             p.gather(one)
         self.assertEqual(caught.exception.code, Code.EMPTY)
+
+    def test_what_a_desk_loses_is_told_once(self):
+        (desk,) = p.open_node()
+        a, b, d = desk.spawn(), desk.spawn(), desk.spawn()
+        self.assertIsNone(desk.next_loss())
+        desk.keep_losses()
+        desk.send(a, b, p.Body(1, 1))
+        desk.send(a, b, p.Body(1, 2))
+        desk.send(a, d, p.Body(1, 3))
+        desk.turn()
+        desk.send(a, b, p.Body(1, 4))
+        desk.exit(b, Reason("other", 7))
+        desk.exit_signal(a, d, p.KILL)
+        desk.turn()
+        told = [(loss.pid, loss.reason, [item.body.num for item in loss.items]) for loss in iter(desk.next_loss, None)]
+        self.assertEqual(told, [(b, Reason("other", 7), [1, 2]), (b, None, [4]), (d, p.KILLED, [3])])
+
+    def test_a_crew_is_told_why_a_signal_ended_a_process(self):
+        (desk,) = p.open_node()
+        crew, killer = p.Crew(desk), desk.spawn()
+        known, unknown = (crew.spawn(desk, tag, p.Next("wait", p.ANY)) for tag in (1, 2))
+        desk.keep_losses()
+        desk.exit_signal(killer, known, Reason("other", 7))
+        desk.turn()
+        loss = crew.next_loss(desk)
+        assert loss is not None
+        self.assertEqual((loss.pid, loss.reason), (known, Reason("other", 7)))
+        desk.exit_signal(killer, unknown, Reason("other", 8))
+        jobs, _ = crew.step(desk)
+        self.assertEqual({job.tag: job.reason for job in jobs}, {1: Reason("other", 7), 2: p.NOPROC})
 
     def test_a_history_is_read_and_accounts_told(self):
         here, there = p.open_node(2)

@@ -65,10 +65,10 @@ mod values;
 pub use iterators::{Events, Journal, LeftOvers, Links, Living, Monitors, Pids, Waiting, Watchers};
 pub use reading::NotRead;
 pub use values::{
-    Account, Body, Config, Event, Fault, Happened, Ids, Item, LeftOver, LinkId, Pick, Pid, Reason, Ref, Signal, Turned,
+    Account, Body, Config, Event, Fault, Happened, Ids, Item, LeftOver, LinkId, Loss, Pick, Pid, Reason, Ref, Signal, Turned,
 };
 
-use raw::{Handle, RawAccount, RawIds, RawItem, RawRef, RawTurned};
+use raw::{Handle, RawAccount, RawIds, RawItem, RawLoss, RawRef, RawTurned};
 use std::fmt;
 use std::ptr::null_mut;
 use std::sync::atomic::{AtomicU64, Ordering};
@@ -385,6 +385,34 @@ impl Desk {
         let mut was = false;
         told(unsafe { raw::pt_trap(self.handle.own(), p, on, &mut was) })?;
         Ok(was)
+    }
+
+    /// Sets whether what this desk loses from now on is kept until [`Desk::next_loss`] tells of it. It is not at first.
+    ///
+    /// A desk loses what waits in a mailbox as its process exits, and each message that comes to a process that is not
+    /// alive. What was not told takes memory. A resumed desk goes on as it was set, with all that was not told.
+    #[inline]
+    pub fn keep_losses(&mut self, on: bool) {
+        unsafe { raw::pt_keep_losses(self.handle.own(), on) };
+    }
+
+    /// The oldest loss that was not told. Each is told once.
+    pub fn next_loss(&mut self) -> Option<Loss> {
+        let mut out = RawLoss::default();
+        let code = unsafe { raw::pt_loss_at(self.handle.own(), 0, &mut out) };
+        let out = found(code, out)?;
+        let mut items = Vec::with_capacity(out.items);
+        for place in 0..out.items {
+            let mut item = RawItem::default();
+            unsafe { raw::pt_loss_item(self.handle.own(), 0, place, &mut item) };
+            items.push(item.into());
+        }
+        unsafe { raw::pt_next_loss(self.handle.own()) };
+        Some(Loss {
+            pid: out.pid,
+            reason: out.has_exited.then(|| out.reason.into()),
+            items,
+        })
     }
 
     /// Takes the first item that matches out of the mailbox of p, and `None` if none does: Erlang's `receive .. after 0`.

@@ -131,6 +131,15 @@ pub struct RawNext {
 
 #[repr(C)]
 #[derive(Clone, Copy, Debug, Default)]
+pub struct RawLoss {
+    pub has_exited: bool,
+    pub pid: Pid,
+    pub reason: RawReason,
+    pub items: usize,
+}
+
+#[repr(C)]
+#[derive(Clone, Copy, Debug, Default)]
 pub struct RawJob {
     pub code: u32,
     pub pid: Pid,
@@ -198,6 +207,10 @@ unsafe extern "C" {
     pub fn pt_lives_in(h: &mut Handle, slot: u32, out: &mut Pid) -> u32;
     pub fn pt_event_count(h: &mut Handle, out: &mut usize) -> u32;
     pub fn pt_event_at(h: &mut Handle, place: usize, out: &mut RawEvent) -> u32;
+    pub fn pt_keep_losses(h: &mut Handle, on: bool) -> u32;
+    pub fn pt_loss_at(h: &mut Handle, place: usize, out: &mut RawLoss) -> u32;
+    pub fn pt_loss_item(h: &mut Handle, place: usize, item: usize, out: &mut RawItem) -> u32;
+    pub fn pt_next_loss(h: &mut Handle) -> u32;
     pub fn pt_next_woken(h: &mut Handle, at: &mut usize, out: &mut Pid) -> u32;
     pub fn pt_gathered_desks(node: &mut Handle, out: &mut u8) -> u32;
     pub fn pt_gathered_history(node: &mut Handle, out: &mut Handle) -> u32;
@@ -225,6 +238,7 @@ unsafe extern "C" {
         turned: &mut RawTurned,
     ) -> u32;
     pub fn pt_crew_answer(crew: &mut Handle, answers: *const RawAnswer, count: usize, taken: &mut usize) -> u32;
+    pub fn pt_crew_note_loss(crew: &mut Handle, h: &mut Handle, place: usize) -> u32;
     pub fn pt_crew_set_time(crew: &mut Handle, now: u64) -> u32;
     pub fn pt_crew_begin_again(crew: &mut Handle) -> u32;
     pub fn pt_crew_next_time(crew: &mut Handle, out: &mut u64) -> u32;
@@ -241,6 +255,7 @@ unsafe extern "C" {
     pub fn pt_about_turned(out: &mut RawTurned);
     pub fn pt_about_account(out: &mut RawAccount);
     pub fn pt_about_config(out: &mut Config);
+    pub fn pt_about_loss(out: &mut RawLoss);
     pub fn pt_about_job(out: &mut RawJob);
     pub fn pt_about_answer(out: &mut RawAnswer);
 }

@@ -29,7 +29,7 @@ macro_rules! number {
     };
 }
 
-number!(u8 u32 u64 i64);
+number!(u8 u32 u64 i64 usize);
 
 impl Fields for bool {
     fn fields(&self, to: &mut Vec<u64>) {
@@ -53,6 +53,7 @@ fields!(RawTurned: posted handled stopped);
 fields!(RawAccount: has_ended ended arrived taken waiting);
 fields!(Config: slots top_version lane start);
 fields!(RawNext: code reason until pick);
+fields!(RawLoss: has_exited pid reason items);
 fields!(RawJob: code pid tag item reason was);
 fields!(RawAnswer: pid next);
 
@@ -69,6 +70,7 @@ fn each_field_stands_where_the_library_has_it() {
     let mut turned = RawTurned::default();
     let mut account = RawAccount::default();
     let mut config = Config::default();
+    let mut loss = RawLoss::default();
     let mut job = RawJob::default();
     let mut answer = RawAnswer::default();
     unsafe {
@@ -77,6 +79,7 @@ fn each_field_stands_where_the_library_has_it() {
         pt_about_turned(&mut turned);
         pt_about_account(&mut account);
         pt_about_config(&mut config);
+        pt_about_loss(&mut loss);
         pt_about_job(&mut job);
         pt_about_answer(&mut answer);
     }
@@ -85,32 +88,33 @@ fn each_field_stands_where_the_library_has_it() {
     in_order(&turned);
     in_order(&account);
     in_order(&config);
+    in_order(&loss);
     in_order(&job);
     in_order(&answer);
 }
 
 #[test]
 fn each_size_is_the_librarys() {
-    let mut told = [0; 17];
+    let mut told = [0; 18];
     unsafe { pt_about_sizes(told.as_mut_ptr()) };
     let mine = [
         size_of::<Pid>(), size_of::<RawRef>(), size_of::<RawIds>(), size_of::<RawReason>(), size_of::<RawBody>(),
         size_of::<RawItem>(), size_of::<RawPick>(), size_of::<RawSignal>(), size_of::<RawEvent>(),
         size_of::<RawLeftOver>(), size_of::<RawTurned>(), size_of::<RawAccount>(), size_of::<Config>(),
-        size_of::<RawNext>(), size_of::<RawJob>(), size_of::<RawAnswer>(), told[16],
+        size_of::<RawNext>(), size_of::<RawJob>(), size_of::<RawAnswer>(), size_of::<RawLoss>(), told[17],
     ];
     assert_eq!(told, mine);
 }
 
 #[test]
 fn each_code_is_the_librarys() {
-    let mut sizes = [0; 17];
+    let mut sizes = [0; 18];
     unsafe { pt_about_sizes(sizes.as_mut_ptr()) };
     // the answers, and then the codes of reasons, items, picks, signals and events, as `values.rs` reads them, and of what
     // a process of a crew does next and is told
     let table = (0..18).chain(0..6).chain(0..4).chain(0..6).chain(0..10).chain(0..7);
     let wanted: Vec<u32> = table.chain(0..5).chain(0..5).collect();
-    assert_eq!(sizes[16], wanted.len() * size_of::<u32>());
+    assert_eq!(sizes[17], wanted.len() * size_of::<u32>());
     let mut told = vec![0; wanted.len()];
     unsafe { pt_about_codes(told.as_mut_ptr()) };
     assert_eq!(told, wanted);

@@ -100,3 +100,29 @@ fn a_process_that_got_an_item_or_left_is_named() {
     assert_eq!(desk.next_woken(&mut at), None);
     assert_eq!(desk.event_count(), at);
 }
+
+#[test]
+fn a_desk_tells_what_it_lost_once() {
+    let body = |num| pundewo::Body { kind: 1, num, who: None };
+    let mut desks = open(1, CONFIG).unwrap();
+    let desk = &mut desks[0];
+    let (a, b) = (desk.spawn().unwrap(), desk.spawn().unwrap());
+    desk.keep_losses(true);
+    assert_eq!(desk.next_loss(), None);
+    desk.send(a, b, body(1)).unwrap();
+    desk.send(a, b, body(2)).unwrap();
+    desk.turn(9);
+    desk.send(a, b, body(3)).unwrap();
+    desk.exit_signal(a, a, Reason::Other(7)).unwrap();
+    desk.exit(b, Reason::Shutdown).unwrap();
+    let quiet = gather(desks).ok().unwrap().settle().ok().unwrap();
+    let desk = &mut quiet.resume().unwrap()[0];
+    let items = |nums: &[i64]| nums.iter().map(|num| pundewo::Item::User(a, body(*num))).collect::<Vec<_>>();
+    let told = std::iter::from_fn(|| desk.next_loss()).map(|loss| (loss.pid, loss.reason, loss.items));
+    let wanted = [
+        (b, Some(Reason::Shutdown), items(&[1, 2])),
+        (b, None, items(&[3])),
+        (a, Some(Reason::Other(7)), items(&[])),
+    ];
+    assert_eq!(told.collect::<Vec<_>>(), wanted);
+}

@@ -13,6 +13,7 @@ use Rattle.pt_table.specs.declared.types.PtEvent.{PtEvent}
 use Rattle.pt_table.specs.declared.types.PtLeftOver.{PtLeftOver}
 use Rattle.pt_table.specs.declared.types.PtTurned.{PtTurned}
 use Rattle.pt_table.specs.declared.types.PtAccount.{PtAccount}
+use Rattle.pt_table.specs.declared.types.PtLoss.{PtLoss}
 use Rattle.pt_table.specs.declared.types.PtConfig.{PtConfig}
 use Rattle.pt_table.specs.declared.types.PtNext.{PtNext}
 use Rattle.pt_table.specs.declared.types.PtJob.{PtJob}
@@ -199,6 +200,7 @@ all_sizes = record {
   next = 64;
   job = 176;
   answer = 80;
+  loss = 32;
   codes = 244;
 }
 
@@ -304,6 +306,14 @@ sample_account = record {
   arrived = 4;
   taken = 5;
   waiting = 6;
+}
+
+abbrev pub sample_loss : PtLoss
+sample_loss = record {
+  has_exited = true;
+  pid = sample_pid 2;
+  reason = sample_reason 5;
+  items = 7;
 }
 
 abbrev pub sample_config : PtConfig

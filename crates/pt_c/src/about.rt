@@ -1,7 +1,7 @@
 //! What the library reports of itself, so that a header or a wrapper can be compared with it.
 
 ghost use Rattle.std.specs.Prelude.{◌≡◌, ◌<◌};
-ghost use Rattle.pt_c.specs.About.{all_codes, all_sizes, sample_event, sample_left_over, sample_turned, sample_account};
+ghost use Rattle.pt_c.specs.About.{all_codes, all_sizes, sample_event, sample_left_over, sample_turned, sample_account, sample_loss};
 ghost use Rattle.pt_c.specs.About.{sample_config, sample_pid, sample_ref, sample_reason, sample_ids, sample_body};
 ghost use Rattle.pt_c.specs.About.{sample_pick, sample_item, sample_signal, sample_next, sample_job, sample_answer};
 ghost use Rattle.pt_c.specs.About.{with_answers, with_values, with_signals, with_events, with_nexts, with_jobs, nobody};
@@ -18,8 +18,8 @@ use pt_table::codes::{
 use pt_table::crossing::{event_out, item_out, pick_out, reason_out, signal_out};
 use pt_table::crossing_jobs::{job_out, next_out};
 use pt_table::types::{
-    PtAccount, PtAnswer, PtBody, PtConfig, PtEvent, PtIds, PtItem, PtJob, PtLeftOver, PtNext,
-    PtPick, PtPid, PtReason, PtRef, PtSignal, PtTurned,
+    PtAccount, PtAnswer, PtBody, PtConfig, PtEvent, PtIds, PtItem, PtJob, PtLeftOver, PtLoss,
+    PtNext, PtPick, PtPid, PtReason, PtRef, PtSignal, PtTurned,
 };
 use std::mem::size_of;
 
@@ -110,6 +110,7 @@ pub struct PtSizes {
     pub next: usize,
     pub job: usize,
     pub answer: usize,
+    pub loss: usize,
     pub codes: usize,
 }
 
@@ -298,6 +299,7 @@ pub extern "C" fn pt_about_sizes(out: &mut PtSizes)
         next: size_of::<PtNext>(),
         job: size_of::<PtJob>(),
         answer: size_of::<PtAnswer>(),
+        loss: size_of::<PtLoss>(),
         codes: size_of::<PtCodes>(),
     };
 }
@@ -458,6 +460,19 @@ pub extern "C" fn pt_about_account(out: &mut PtAccount)
         arrived: 4,
         taken: 5,
         waiting: 6,
+    };
+}
+
+/// Writes a sample of a loss: its fields have the numbers 1, 2, 3 and so on in order, a bool being true.
+#[unsafe(no_mangle)]
+pub extern "C" fn pt_about_loss(out: &mut PtLoss)
+    ensures { out.new ≡ sample_loss }
+{
+    *out = PtLoss {
+        has_exited: true,
+        pid: sample_pid(2),
+        reason: PtReason { code: 5, number: 6 },
+        items: 7,
     };
 }
 

@@ -7,7 +7,8 @@ ghost use Rattle.std.specs.Prelude.{◌≡◌, length};
 ghost use Rattle.pt_crew.specs.Crews.{crew_size, queue, was_refused};
 ghost use Rattle.pt_hands.specs.Pulling.{crew_of, hand_views};
 ghost use Rattle.pt_table.specs.Answers.{CallsThrough, ReadsThrough, ShowsCode, full, value_behind};
-ghost use Rattle.pt_table.specs.Crewing.{CrewBeginsAgain, CrewSteps, SpawnsChildInCrew, SpawnsInCrew, TakesAnswers, TellsTime};
+ghost use Rattle.pt_table.specs.Losing.{loss_numbered};
+ghost use Rattle.pt_table.specs.Crewing.{CrewBeginsAgain, CrewNotes, CrewSteps, SpawnsChildInCrew, SpawnsInCrew, TakesAnswers, TellsTime};
 ghost use Rattle.pt_table.specs.Crossing.{pid_crossed};
 ghost use Rattle.pt_table.specs.Jobs.{next_out};
 ghost use Rattle.pt_c.specs.Crews.{AnswersInOrder, OpensCrew, SetsCrewTime, TellsIdle};
@@ -17,7 +18,9 @@ use crate::node::end_code;
 use pt_hands::Hands;
 use pt_table::codes::{DONE, EMPTY, FILLED, MEMORY};
 use pt_table::crew_handle::{CrewHandle, claim, filled, hold, is_full, spare};
-use pt_table::crewing::{answer_all, begin_again, next, next_time, spawn, spawn_child, step, tag};
+use pt_table::crewing::{
+    answer_all, begin_again, next, next_time, note_loss, spawn, spawn_child, step, tag,
+};
 use pt_table::crossing::pid_in;
 use pt_table::desk_handle::{DeskHandle, claim as claim_desk, hold as hold_desk};
 use pt_table::types::{PtAnswer, PtJob, PtNext, PtPid, PtTurned};
@@ -248,6 +251,45 @@ pub extern "C" fn pt_crew_set_time(alloc: Global, c: &mut CrewHandle, now: u64) 
         None => EMPTY,
     };
     *c = hold(held);
+    code
+}
+
+/// Notes what the loss with this number of the desk tells, as `Hands::note_loss` does: the reason of an exit. It returns 8
+/// if there is no such loss.
+#[unsafe(no_mangle)]
+pub extern "C" fn pt_crew_note_loss(
+    alloc: Global,
+    c: &mut CrewHandle,
+    h: &mut DeskHandle,
+    place: usize,
+) -> u32
+    ensures { CallsThrough c.old.state c.new.state result (h.new.state ≡ h.old.state)
+        (λ old new. ReadsThrough h.old.state h.new.state result (new ≡ old)
+        (λ d. CrewNotes (loss_numbered d place) result old new)) }
+{
+    let Some(mut held) = claim(alloc, c) else {
+        return EMPTY;
+    };
+    let code = match &mut held.crew {
+        Some(crew) => note_loss_on(alloc, crew, h, place),
+        None => EMPTY,
+    };
+    *c = hold(held);
+    code
+}
+
+fn note_loss_on(alloc: Global, crew: &mut Hands, h: &mut DeskHandle, place: usize) -> u32
+    ensures { ReadsThrough h.old.state h.new.state result (crew.new ≡ crew.old)
+        (λ d. CrewNotes (loss_numbered d place) result crew.old crew.new) }
+{
+    let Some(held) = claim_desk(alloc, h) else {
+        return EMPTY;
+    };
+    let code = match &held.desk {
+        Some(desk) => note_loss(crew, desk, place),
+        None => EMPTY,
+    };
+    *h = hold_desk(held);
     code
 }
 

@@ -27,6 +27,7 @@
 mod about;
 mod calls;
 mod crews;
+mod losses;
 mod node;
 mod reads;
 mod resuming;

@@ -28,7 +28,7 @@ use Rattle.pt_crew.specs.Waking.{pick_of}
 use Rattle.pt_crew.proofs.Handing.{found_fits}
 use Rattle.pt_crew.proofs.Takes.{left_takes, none_taken, one_taken, refused_taken}
 use Rattle.pt_hands.specs.declared.hand.Hand.{Hand}
-use Rattle.pt_hands.specs.Pulling.{hand_answers, exit_in, exit_reason, reason_told}
+use Rattle.pt_hands.specs.Pulling.{hand_answers, exit_in, exit_reason, noted_reason, reason_told}
 
 module _ (time : ℕ) (p : Pid) (b : Hand) (n : Next) (births : List (Role Hand)) (d : ShardState) where
   -- it was handed something, and is running
@@ -51,7 +51,7 @@ module _ (time : ℕ) (p : Pid) (b : Hand) (n : Next) (births : List (Role Hand)
     pub tended : t ≡ Ended
     pub now_is : now ≡ None
     pub takes : takes e.journal ≡ takes d.journal
-    pub told : b.ended ≡ exit_in p d.journal → reason_told (lives d p) n b.ended ≡ exit_reason p e.journal
+    pub told : b.ended ≡ exit_in p d.journal → reason_told (lives d p) n (noted_reason b.ended b.lost) ≡ exit_reason p e.journal b.lost
 
   abbrev pub Comes : Tended → Option (Hand × Next) → ShardState → Type 0
   Comes t now e = WasHanded t now e ⊎ (HasStayed t now e ⊎ HasLeft t now e)
@@ -63,10 +63,10 @@ running_stays (living s) = refl
 running_stays (ended r s) = refl
 
 -- the reason of one that did not live
-dead_told : (alive : Bool) (n : Next) (noted : Option Reason) (p : Pid) (journal : List Stamped) → alive ≡ false → noted ≡ exit_in p journal → reason_told alive n noted ≡ exit_reason p journal
-dead_told true n noted p journal dead is = absurd (cc)
-dead_told false n None p journal dead is = ap (λ (o : Option Reason). unwrap_or o Noproc) is
-dead_told false n (Some r) p journal dead is = ap (λ (o : Option Reason). unwrap_or o Noproc) is
+dead_told : (alive : Bool) (n : Next) (noted lost : Option Reason) (p : Pid) (journal : List Stamped) → alive ≡ false → noted ≡ exit_in p journal
+    → reason_told alive n (noted_reason noted lost) ≡ exit_reason p journal lost
+dead_told true n noted lost p journal dead is = absurd (cc)
+dead_told false n noted lost p journal dead is = ap (λ (o : Option Reason). noted_reason o lost) is
 
 module _ (time : ℕ) (p : Pid) (b : Hand) (n : Next) (d e : ShardState) (t : Tended) (now : Option (Hand × Next)) (births : List (Role Hand)) where
   hands_it : (item : Option Item) (mid : ShardState) → MayBeHanded time n item → takes mid.journal ≡ item_handed p item ++ takes d.journal → HandsTo hand_answers p b item mid t now e births → Comes time p b n births d t now e
@@ -91,7 +91,7 @@ module _ (time : ℕ) (p : Pid) (b : Hand) (n : Next) (d e : ShardState) (t : Te
     tended = h.0;
     now_is = h.1;
     takes = ap (λ (x : ShardState). takes x.journal) (h.2 ∙ same);
-    told = λ noted. dead_told (lives d p) n b.ended p d.journal dead noted ∙ ap (λ (x : ShardState). exit_reason p x.journal) (sym (h.2 ∙ same));
+    told = λ noted. dead_told (lives d p) n b.ended b.lost p d.journal dead noted ∙ ap (λ (x : ShardState). exit_reason p x.journal b.lost) (sym (h.2 ∙ same));
   }))
 
   asked : (r : Reason) → n ≡ Stop r → (result : Result (Unit {0}) Fault) → Calls p (Some (Left p r)) (tt {0}) d result e → EndsAs (b, n) result t now → Comes time p b n births d t now e
@@ -100,14 +100,14 @@ module _ (time : ℕ) (p : Pid) (b : Hand) (n : Next) (d e : ShardState) (t : Te
     now_is = ends.1;
     takes = left_takes p r d e (Ok x) calls;
     told = λ noted.
-        (λ j. reason_told (calls.0 j) (is j) b.ended)
-        ∙ sym (ap (λ (o : Option Reason). unwrap_or o Noproc) (ap (λ (x : ShardState). exit_in p x.journal) calls.3 ∙ ap (λ c. cond c (Some r) (exit_in p d.journal)) (same_pid_refl p)));
+        (λ j. reason_told (calls.0 j) (is j) (noted_reason b.ended b.lost))
+        ∙ sym (ap (λ (o : Option Reason). noted_reason o b.lost) (ap (λ (x : ShardState). exit_in p x.journal) calls.3 ∙ ap (λ c. cond c (Some r) (exit_in p d.journal)) (same_pid_refl p)));
   }))
   asked r is (Err Gone) calls ends = inr (inr (record {
     tended = ends.0;
     now_is = ends.1;
     takes = left_takes p r d e (Err Gone) calls;
-    told = λ noted. dead_told (lives d p) n b.ended p d.journal calls.0 noted ∙ ap (λ (x : ShardState). exit_reason p x.journal) (sym calls.1);
+    told = λ noted. dead_told (lives d p) n b.ended b.lost p d.journal calls.0 noted ∙ ap (λ (x : ShardState). exit_reason p x.journal b.lost) (sym calls.1);
   }))
   asked r is (Err Memory) calls ends = inr (inl (record { now_is = ends.1; desk = calls.3; tended = inr ends.0 }))
   asked r is (Err Worn) calls ends = inr (inl (record { now_is = ends.1; desk = calls.3; tended = inr ends.0 }))

@@ -30,7 +30,7 @@ use Rattle.pt_crew.proofs.Waking.{by_cases, elsewhere, knows_later, there, same_
 use Rattle.pt_hands.specs.declared.hand.Hand.{Hand}
 use Rattle.pt_hands.specs.declared.hand.Job.{Job}
 use Rattle.pt_hands.specs.declared.hands.Hands.{Hands}
-use Rattle.pt_hands.specs.Pulling.{AttendsHands, HandView, NoneNoted, Noted, SameViews, exit_by, exit_in, hand_view, hand_views, new_hand, what_of}
+use Rattle.pt_hands.specs.Pulling.{AttendsHands, HandView, NoneNoted, Noted, NotesLost, SameViews, exit_by, exit_in, hand_view, hand_views, new_hand, what_of}
 use Rattle.pt_hands.specs.Taking.{NotesExit, TakesHeld, TakesJob, TakesOf}
 
 -- what is seen of a hand ------------------------------------------------------------------------
@@ -292,6 +292,59 @@ set_noted old new p r seen put looked put_is (Ok was) done back reads stands res
     }
 set_noted old new p r seen put looked put_is (Err x) done back reads stands rest attends =
     let has = its_role (roles old.crew p) seen looked in some_none (roles old.crew p) (seen, has.0) back.1 has.1
+
+-- the reason that a loss told was set, where the hand was put back
+module _ (old new : Hands) (p : Pid) (r : Reason) (b : Hand) (n : Next) (was : roles old.crew p ≡ Some (b, n)) (now : AreWith p (Some (record b { lost = Some r }, n)) (roles old.crew) (roles new.crew)) where
+  abbrev with_reason : Hand × Next
+  with_reason = (record b { lost = Some r }, n)
+
+  lost_views : (q : Pid) → hand_views new q ≡ cond (same_pid p q) (option_map (λ (v : HandView). record v { lost = Some r }) (hand_views old q)) (hand_views old q)
+  lost_views q = by_cases (same_pid p q)
+      (λ same.
+      let at : roles old.crew q ≡ Some (b, n) = ap (roles old.crew) (sym (same_pid_is p q same)) ∙ was in
+      ap (option_map hand_view) (there (roles old.crew) (roles new.crew) p (Some with_reason) now q same)
+      ∙ rw (same, at) refl)
+      (λ other. ap (option_map hand_view) (elsewhere (roles old.crew) (roles new.crew) p (Some with_reason) now q other) ∙ rw other refl)
+
+  lost_comes : (d : ShardState) → AttendsHands old d → ComesOf old new
+  lost_comes d a q x k is = by_cases (same_pid p q)
+      (λ same.
+      let here : roles old.crew q ≡ Some (b, n) = ap (roles old.crew) (sym (same_pid_is p q same)) ∙ was in
+      let x_is : with_reason.0 ≡ x = ap (λ (y : Hand × Next). y.0) (same_some with_reason (x, k) (sym (there (roles old.crew) (roles new.crew) p (Some with_reason) now q same) ∙ is)) in
+      (b, n, here, ap (λ (h : Hand). h.ended) (sym x_is), ap (λ (h : Hand). h.handed) (sym x_is) ∙ a.empty q b n here))
+      (λ other.
+      let here : roles old.crew q ≡ Some (x, k) = sym (elsewhere (roles old.crew) (roles new.crew) p (Some with_reason) now q other) ∙ is in
+      (x, k, here, refl, a.empty q x k here))
+
+-- what was said of p, and that the hands are those of their desk
+abbrev pub HasLost : Pid → Reason → Hands → Hands → Type 0
+HasLost p r old new = NotesLost p r old new × ((d : ShardState) → AttendsHands old d → AttendsHands new d)
+
+pub lost_set : (old new : Hands) (p : Pid) (r : Reason) (seen put : Hand) → Some seen ≡ option_map (λ (x : Hand × Next). x.0) (roles old.crew p) → put ≡ record seen { lost = Some r } → (result : Result Hand Hand)
+    → IfOk result (λ was. (n : Next) × (roles old.crew p ≡ Some (was, n)) × AreWith p (Some (put, n)) (roles old.crew) (roles new.crew))
+    → IfErr result (λ back. (back ≡ put) × (roles old.crew p ≡ None) × IsSame old.crew new.crew)
+    → new.read ≡ old.read → queue new.crew ≡ queue old.crew → KeepsRest old.crew new.crew → ((d : ShardState) → Attends old.crew d → Attends new.crew d) → HasLost p r old new
+lost_set old new p r seen put looked put_is (Ok was) done back reads stands rest attends =
+    let has = its_role (roles old.crew p) seen looked in
+    let same : (was, done.0) ≡ (seen, has.0) = same_some (was, done.0) (seen, has.0) (sym done.1 ∙ has.1) in
+    let now : AreWith p (Some (record seen { lost = Some r }, has.0)) (roles old.crew) (roles new.crew) = λ q. done.2 q ∙ (λ j. cond (same_pid p q) (Some (put_is j, ap (λ (x : Hand × Next). x.1) same j)) (roles old.crew q)) in (
+      record { views = lost_views old new p r seen has.0 has.1 now; queue = stands; rest = rest },
+      λ d a. attends_then old new d d a (extends d) (attends d a.crew) (rest.left ∙ a.left) (rest.waiting ∙ a.born) reads (lost_comes old new p r seen has.0 has.1 now d a),
+    )
+lost_set old new p r seen put looked put_is (Err x) done back reads stands rest attends =
+    let has = its_role (roles old.crew p) seen looked in some_none (roles old.crew p) (seen, has.0) back.1 has.1
+
+-- of one that is none of these nothing is noted
+pub none_lost : (h : Hands) (p : Pid) (r : Reason) → roles h.crew p ≡ None → NotesLost p r h h
+none_lost h p r none = record {
+  views = λ q. by_cases (same_pid p q)
+      (λ same.
+      let at : roles h.crew q ≡ None = ap (roles h.crew) (sym (same_pid_is p q same)) ∙ none in
+      rw (same, at) refl)
+      (λ other. rw other refl);
+  queue = refl;
+  rest = record { waiting = refl; left = refl; refused = refl; rounds = refl; time = refl };
+}
 
 -- what a hand holds was taken, where it was put back empty
 pub job_taken : (old new : Hands) (p : Pid) (before : Option Next) (seen put : Hand) (item : Option Item) (job : Job) → Some seen ≡ option_map (λ (x : Hand × Next). x.0) (roles old.crew p) → seen.handed ≡ Some item

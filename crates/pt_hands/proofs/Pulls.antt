@@ -246,7 +246,7 @@ module _ (old noted : Hands) (d e : ShardState) (run : Crew Hand) (p : Pid) (w :
               item = h.item;
               may = h.may;
               says = ap (λ (o : Option Next). given_job p w.hand.tag (what_of w.hand.begun o h.item)) before_was;
-              now = viewed new (Some (record { tag = w.hand.tag; begun = true; next = Running })) others (ap (option_map hand_view) here);
+              now = viewed new (Some (record { tag = w.hand.tag; begun = true; next = Running; lost = w.hand.lost })) others (ap (option_map hand_view) here);
               takes = h.takes;
             }),
             w.back,

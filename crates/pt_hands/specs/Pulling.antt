@@ -1,5 +1,5 @@
 -- What is handed out of a crew whose handlers are outside, and what is told of those that left it.
-use Rattle.std.specs.Prelude.{◌≡◌, ◌⊎◌, ℕ, cond, Bool, true, false, List, [], ◌∷◌, ◌++◌, length, drop, Option, Some, None, unwrap_or}
+use Rattle.std.specs.Prelude.{◌≡◌, ◌⊎◌, ℕ, cond, Bool, true, false, List, [], ◌∷◌, ◌++◌, length, drop, Option, Some, None}
 use Rattle.std.specs.List.{IsDistinct}
 use Rattle.std.specs.Option.{option_map}
 use Rattle.pt_signal.specs.declared.pid.Pid.{Pid}
@@ -10,6 +10,8 @@ use Rattle.pt_signal.specs.Values.{same_pid}
 use Rattle.pt_events.specs.declared.event.Event.{Event}
 use Rattle.pt_events.specs.declared.event.Event.TheVariants.{Left}
 use Rattle.pt_events.specs.declared.event.Stamped.{Stamped}
+use Rattle.pt_shard.specs.declared.loss.Loss.{Loss}
+use Rattle.pt_shard.specs.declared.loss.Loss.TheVariants.{Exited, Stray}
 use Rattle.pt_shard.specs.ShardState.{ShardState}
 use Rattle.pt_crew.specs.declared.behaviour.Next.{Next}
 use Rattle.pt_crew.specs.declared.behaviour.Next.TheVariants.{Proceed, Running, Stop}
@@ -19,7 +21,7 @@ use Rattle.pt_crew.specs.declared.crew.Member.{Member}
 use Rattle.pt_crew.specs.Visiting.{Answers, takes}
 use Rattle.pt_crew.specs.Handing.{MayBeHanded, item_handed}
 use Rattle.pt_crew.specs.Waking.{is_queued}
-use Rattle.pt_crew.specs.Crews.{Attends, left, members, queue, roles, time_of, waiting, was_refused}
+use Rattle.pt_crew.specs.Crews.{Attends, KeepsRest, left, members, queue, roles, time_of, waiting, was_refused}
 use Rattle.pt_hands.specs.declared.hand.Hand.{Hand}
 use Rattle.pt_hands.specs.declared.hand.Job.{Job}
 use Rattle.pt_hands.specs.declared.hand.What.{What}
@@ -33,7 +35,7 @@ hand_answers old d me item next new e bore =
 
 -- the hand of a process that begins
 abbrev pub new_hand : ℕ → Hand
-new_hand tag = record { tag = tag; begun = false; handed = None; ended = None }
+new_hand tag = record { tag = tag; begun = false; handed = None; ended = None; lost = None }
 
 -- what a process is told that was handed this, by whether it has begun and what it was to do
 abbrev pub what_of : Bool → Option Next → Option Item → What
@@ -41,15 +43,24 @@ what_of begun before (Some item) = Gets item
 what_of begun (Some Proceed) None = cond begun Proceeds Start
 what_of begun before None = Timeout
 
+-- the reason that was noted of an exit: by the journal, or else by a loss
+abbrev pub noted_reason : Option Reason → Option Reason → Reason
+noted_reason (Some r) lost = r
+noted_reason None (Some r) = r
+noted_reason None None = Noproc
+
 -- of a process that left, and was alive or not as it was come to
-abbrev pub reason_told : Bool → Next → Option Reason → Reason
-reason_told true (Stop r) ended = r
-reason_told alive next (Some r) = r
-reason_told alive next None = Noproc
+abbrev pub reason_told : Bool → Next → Reason → Reason
+reason_told true (Stop r) noted = r
+reason_told alive next noted = noted
 
 abbrev pub job_of_exit : Bool → Role Hand → Job
 job_of_exit alive l =
-    record { pid = l.pid; tag = l.behaviour.tag; what = Exit (reason_told alive l.next l.behaviour.ended) l.next }
+    record {
+      pid = l.pid;
+      tag = l.behaviour.tag;
+      what = Exit (reason_told alive l.next (noted_reason l.behaviour.ended l.behaviour.lost)) l.next;
+    }
 
 -- the reason with which a process left by the journal, whose newest event is in front
 abbrev pub exit_by : Pid → Event → Option Reason → Option Reason
@@ -60,22 +71,24 @@ abbrev pub exit_in : Pid → List Stamped → Option Reason
 exit_in p [] = None
 exit_in p (s ∷ journal) = exit_by p s.event (exit_in p journal)
 
--- of one that left without such an event, as one that a signal ended, it is Noproc
-abbrev pub exit_reason : Pid → List Stamped → Reason
-exit_reason p journal = unwrap_or (exit_in p journal) Noproc
+-- of one that left without such an event, as one that a signal ended, it is the one that a loss told, or Noproc
+abbrev pub exit_reason : Pid → List Stamped → Option Reason → Reason
+exit_reason p journal lost = noted_reason (exit_in p journal) lost
 
 -- the crew of the hands
 abbrev pub crew_of : Hands → Crew Hand
 crew_of h = h.crew
 
--- what is known of a process: its tag, whether it was told anything, and what it does next
+-- what is known of a process: its tag, whether it was told anything, what it does next, and the reason of its exit that
+-- a loss told
 pub record HandView : Type 0 where
   pub tag : ℕ
   pub begun : Bool
   pub next : Next
+  pub lost : Option Reason
 
 abbrev pub hand_view : Hand × Next → HandView
-hand_view r = record { tag = r.0.tag; begun = r.0.begun; next = r.1 }
+hand_view r = record { tag = r.0.tag; begun = r.0.begun; next = r.1; lost = r.0.lost }
 
 abbrev pub hand_views : Hands → Pid → Option HandView
 hand_views h p = option_map hand_view (roles h.crew p)
@@ -86,6 +99,19 @@ SameViews old new = (q : Pid) → hand_views new q ≡ hand_views old q
 -- p is so, or gone, and all others stay
 abbrev pub AreViewed : Pid → Option HandView → Hands → Hands → Type 0
 AreViewed p view old new = (q : Pid) → hand_views new q ≡ cond (same_pid p q) view (hand_views old q)
+
+-- a loss told that p exited with this reason; if p is none of these, nothing has changed
+pub record NotesLost (p : Pid) (r : Reason) (old new : Hands) : Type 0 where
+  pub views : (q : Pid)
+      → hand_views new q
+      ≡ cond (same_pid p q) (option_map (λ (v : HandView). record v { lost = Some r }) (hand_views old q)) (hand_views old q)
+  pub queue : queue new.crew ≡ queue old.crew
+  pub rest : KeepsRest old.crew new.crew
+
+-- a message that came too late says nothing of an exit
+abbrev pub NotesLoss : Loss → Hands → Hands → Type 0
+NotesLoss (Exited p r items) old new = NotesLost p r old new
+NotesLoss (Stray p item) old new = new ≡ old
 
 -- Of the journal, `seen` was read. Each hand has the reason with which its process left in it.
 pub record Noted (h : Hands) (d : ShardState) : Type 0 where
@@ -118,14 +144,14 @@ pub record HandsOut (p : Pid) (old : Hands) (d : ShardState) (job : Job) (new : 
   pub item : Option Item
   pub may : MayBeHanded (time_of old.crew) view.next item
   pub says : job ≡ record { pid = p; tag = view.tag; what = what_of view.begun (Some view.next) item }
-  pub now : AreViewed p (Some (record { tag = view.tag; begun = true; next = Running })) old new
+  pub now : AreViewed p (Some (record view { begun = true; next = Running })) old new
   pub takes : takes e.journal ≡ item_handed p item ++ takes d.journal
 
 -- p has exited, and is none of the crew then
 pub record TellsExit (p : Pid) (old : Hands) (d : ShardState) (job : Job) (new : Hands) (e : ShardState) : Type 0 where
   pub view : HandView
   pub was : hand_views old p ≡ Some view
-  pub says : job ≡ record { pid = p; tag = view.tag; what = Exit (exit_reason p e.journal) view.next }
+  pub says : job ≡ record { pid = p; tag = view.tag; what = Exit (exit_reason p e.journal view.lost) view.next }
   pub now : AreViewed p None old new
   pub takes : takes e.journal ≡ takes d.journal
 

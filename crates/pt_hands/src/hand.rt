@@ -1,8 +1,8 @@
 //! A process whose handler is outside, and what it is told.
 
-ghost use Rattle.std.specs.Prelude.{◌≡◌, [], Some, None, false, true, unwrap_or};
+ghost use Rattle.std.specs.Prelude.{◌≡◌, [], Some, None, false, true};
 ghost use Rattle.pt_crew.specs.declared.behaviour.Next.TheVariants.{Running};
-ghost use Rattle.pt_hands.specs.Pulling.{hand_answers, job_of_exit, reason_told, what_of};
+ghost use Rattle.pt_hands.specs.Pulling.{hand_answers, job_of_exit, noted_reason, reason_told, what_of};
 
 use pt_crew::{Behaviour, Births, Next, Role};
 use pt_workers::{Desk, Item, Pid, Reason};
@@ -22,7 +22,8 @@ pub enum What {
     /// been told something that nobody answered. It is told nothing after this.
     ///
     /// The reason is that of its own exit in the desk's journal: the one that it stopped with, or that a call of `exit`
-    /// gave. It is `Noproc` if an exit signal ended the process, or if it exited while its node was settled.
+    /// gave. If an exit signal ended the process, or it exited while its node was settled, it is the reason that
+    /// [`Hands::note_loss`](crate::Hands::note_loss) was told, or `Noproc` if it was told none.
     Exit(Reason, Next),
 }
 
@@ -45,19 +46,22 @@ pub struct Hand {
     handed: Option<Option<Item>>,
     /// The reason with which it exited, once that was read in the journal.
     ended: Option<Reason>,
+    /// The reason with which it exited, once a loss told it.
+    lost: Option<Reason>,
 }
 
 impl Hand {
     /// One that begins.
     #[inline(always)]
     pub(crate) fn new(tag: u64) -> Hand
-        ensures { result ≡ record { tag = tag; begun = false; handed = None; ended = None } }
+        ensures { result ≡ record { tag = tag; begun = false; handed = None; ended = None; lost = None } }
     {
         Hand {
             tag,
             begun: false,
             handed: None,
             ended: None,
+            lost: None,
         }
     }
 
@@ -79,6 +83,21 @@ impl Hand {
             begun: self.begun,
             handed: self.handed,
             ended: Some(reason),
+            lost: self.lost,
+        }
+    }
+
+    /// The same hand, of whose process a loss told that it exited with this reason.
+    #[inline(always)]
+    pub(crate) fn with_loss(&self, reason: Reason) -> Hand
+        ensures { result ≡ record self.now { lost = Some reason } }
+    {
+        Hand {
+            tag: self.tag,
+            begun: self.begun,
+            handed: self.handed,
+            ended: self.ended,
+            lost: Some(reason),
         }
     }
 
@@ -93,6 +112,7 @@ impl Hand {
             begun: true,
             handed,
             ended: self.ended,
+            lost: self.lost,
         }
     }
 
@@ -125,24 +145,23 @@ impl Hand {
 
 /// The reason of a process that left, and was alive or not as it was come to: that with which it stopped, or the one that
 /// was noted.
-fn reason_of(next: Next, alive: bool, ended: Option<Reason>) -> Reason
-    ensures { result ≡ reason_told alive next ended }
+fn reason_of(next: Next, alive: bool, noted: Reason) -> Reason
+    ensures { result ≡ reason_told alive next noted }
 {
     match next {
-        Next::Stop(reason) => { if alive { reason } else { noted_reason(ended) } }
-        Next::Wait(_) | Next::WaitUntil(_, _) | Next::Proceed | Next::Running => noted_reason(
-            ended,
-        ),
+        Next::Stop(reason) => { if alive { reason } else { noted } }
+        Next::Wait(_) | Next::WaitUntil(_, _) | Next::Proceed | Next::Running => noted,
     }
 }
 
-/// The reason that was noted, or `Noproc` if none was.
-fn noted_reason(ended: Option<Reason>) -> Reason
-    ensures { result ≡ unwrap_or ended Reason.Noproc }
+/// The reason that was noted: by the journal, or else by a loss, or `Noproc` if none was.
+fn noted_reason(ended: Option<Reason>, lost: Option<Reason>) -> Reason
+    ensures { result ≡ noted_reason ended lost }
 {
-    match ended {
-        Some(reason) => reason,
-        None => Reason::Noproc,
+    match (ended, lost) {
+        (Some(reason), _) => reason,
+        (None, Some(reason)) => reason,
+        (None, None) => Reason::Noproc,
     }
 }
 
@@ -150,7 +169,8 @@ fn noted_reason(ended: Option<Reason>) -> Reason
 pub(crate) fn job_of_exit(left: Role<Hand>, alive: bool) -> Job
     ensures { result ≡ job_of_exit alive left }
 {
-    let reason = reason_of(left.next, alive, left.behaviour.ended);
+    let noted = noted_reason(left.behaviour.ended, left.behaviour.lost);
+    let reason = reason_of(left.next, alive, noted);
     Job {
         pid: left.pid,
         tag: left.behaviour.tag,

@@ -11,14 +11,15 @@ ghost use Rattle.pt_crew.specs.Crews.{AreBorn, Enters, IsNextTime, IsSame, Keeps
 ghost use Rattle.pt_crew.specs.Crews.{left, waiting, was_refused};
 ghost use Rattle.pt_crew.specs.Running.{is_idle};
 ghost use Rattle.pt_crew.specs.Stepping.{BeginsStep, EndsStep, EntersChild, IsAnswered, QueueIsLonger, first_of, is_running};
-ghost use Rattle.pt_hands.specs.Pulling.{AreAllQueued, AttendsHands, Fills, HandView, NoneNoted, Pulls, SameViews, crew_of, hand_views};
+ghost use Rattle.pt_hands.specs.Pulling.{AreAllQueued, AttendsHands, Fills, HandView, NoneNoted, NotesLoss};
+ghost use Rattle.pt_hands.specs.Pulling.{NotesLost, Pulls, SameViews, crew_of, hand_views};
 ghost use Rattle.pt_events.specs.declared.event.Event.TheVariants.{Left};
 ghost use Rattle.pt_hands.specs.Pulling.{new_hand};
 ghost use Rattle.pt_hands.specs.Taking.{IsAllNoted, NotesExit, PullsInto, TakesJob};
 
 use crate::hand::{Hand, Job, job_of_exit};
 use pt_crew::{Crew, Next};
-use pt_workers::{Desk, Event, Fault, Pid, Reason};
+use pt_workers::{Desk, Event, Fault, Loss, Pid, Reason};
 use std::alloc::{AllocError, Global};
 
 /// The processes of one desk whose handlers are outside.
@@ -265,6 +266,33 @@ impl Hands {
             }
             None => place,
         }
+    }
+
+    /// Notes what a loss of the desk tells: the reason of the exit of its process. That is told then, if an exit signal
+    /// ended the process, or if it exited while its node was settled. A message that came too late tells of no exit.
+    ///
+    /// A program that wants to know each reason keeps the losses of its desk ([`Desk::keep_losses`]), and notes each
+    /// before it is pulled.
+    pub fn note_loss(&mut self, loss: &Loss)
+        ensures notes { NotesLoss loss.now self.old self.new }
+        ensures attends { (d : ShardState) → AttendsHands self.old d → AttendsHands self.new d }
+        ensures time { time_of (crew_of self.new) ≡ time_of (crew_of self.old) }
+    {
+        if let Loss::Exited(p, reason, _) = loss {
+            self.set_lost(*p, *reason);
+        }
+    }
+
+    /// Notes that a loss told of the exit of p, if it is one of these processes.
+    fn set_lost(&mut self, p: Pid, reason: Reason)
+        ensures notes { NotesLost p reason self.old self.new }
+        ensures attends { (d : ShardState) → AttendsHands self.old d → AttendsHands self.new d }
+    {
+        let Some(hand) = self.crew.behaviour(p) else {
+            return;
+        };
+        let told = hand.with_loss(reason);
+        let _ = self.crew.replace(p, told);
     }
 
     /// Notes the exits that are new in the desk's journal.

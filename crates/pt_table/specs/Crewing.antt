@@ -2,6 +2,7 @@
 use Rattle.std.specs.Prelude.{◌≡◌, ◌≢◌, ◌⊎◌, ℕ, ◌+◌, Bool, false, List, [], ◌∷◌, ◌++◌, length, map, take, drop, slice_set}
 use Rattle.std.specs.Prelude.{Option, Some, None}
 use Rattle.pt_signal.specs.declared.pid.Pid.{Pid}
+use Rattle.pt_shard.specs.declared.loss.Loss.{Loss}
 use Rattle.pt_shard.specs.ShardState.{ShardState}
 use Rattle.pt_desk.specs.declared.turned.Turned.{Turned}
 use Rattle.pt_desk.specs.DeskState.{DeskState, GoesOn}
@@ -13,13 +14,13 @@ use Rattle.pt_crew.specs.Crews.{AreBorn, Enters, IsNextTime, IsSame, KeepsRest, 
 use Rattle.pt_crew.specs.Stepping.{BeginsStep, EndsStep, EntersChild, IsAnswered, QueueIsLonger, is_running}
 use Rattle.pt_hands.specs.declared.hand.Job.{Job}
 use Rattle.pt_hands.specs.declared.hands.Hands.{Hands}
-use Rattle.pt_hands.specs.Pulling.{AreAllQueued, AttendsHands, Fills, NoneNoted, Pulls, crew_of, new_hand}
+use Rattle.pt_hands.specs.Pulling.{AreAllQueued, AttendsHands, Fills, NoneNoted, NotesLoss, Pulls, crew_of, new_hand}
 use Rattle.pt_table.specs.declared.types.PtAnswer.{PtAnswer}
 use Rattle.pt_table.specs.declared.types.PtJob.{PtJob}
 use Rattle.pt_table.specs.declared.types.PtNext.{PtNext}
 use Rattle.pt_table.specs.declared.types.PtPid.{PtPid}
 use Rattle.pt_table.specs.declared.types.PtTurned.{PtTurned}
-use Rattle.pt_table.specs.Codes.{not_running}
+use Rattle.pt_table.specs.Codes.{not_running, some_code}
 use Rattle.pt_table.specs.Crossing.{pid_crossed, pid_out}
 use Rattle.pt_table.specs.Jobs.{job_out, next_in}
 use Rattle.pt_table.specs.Answers.{GivesCode, IfCrosses, ShowsCode, turned_out}
@@ -115,6 +116,18 @@ pub record TakesAnswers (answers : List PtAnswer) (code taken : ℕ) (old new : 
   pub mid : Hands
   pub took : AnswersAll done old mid
   pub refused : RefusesFirst rest code mid new
+
+-- losses ---------------------------------------------------------------------------------
+
+-- what a loss tells is noted, if there is one
+abbrev pub NotesIfAny : Option Loss → Hands → Hands → Type 0
+NotesIfAny None old new = new ≡ old
+NotesIfAny (Some l) old new = NotesLoss l old new
+
+pub record CrewNotes (loss : Option Loss) (code : ℕ) (old new : Hands) : Type 0 where
+  pub told : code ≡ some_code loss
+  pub notes : NotesIfAny loss old new
+  pub attends : (d : ShardState) → AttendsHands old d → AttendsHands new d
 
 -- going on, and what is read -------------------------------------------------------------
 

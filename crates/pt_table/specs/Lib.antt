@@ -5,4 +5,5 @@ pub mod Crewing
 pub mod Codes
 pub mod Answers
 pub mod Reading
+pub mod Losing
 pub mod Waking

@@ -11,6 +11,8 @@ ghost use Rattle.pt_crew.specs.Crews.{IsNextTime, time_of};
 ghost use Rattle.pt_hands.specs.Pulling.{AttendsHands, crew_of, hand_views};
 ghost use Rattle.pt_table.specs.Answers.{ShowsCode};
 ghost use Rattle.pt_table.specs.Crewing.{AnswersOne, CrewBeginsAgain, CrewSteps, HandsOutRow, PullsRow, SpawnsChildInCrew};
+ghost use Rattle.pt_table.specs.Crewing.{CrewNotes};
+ghost use Rattle.pt_table.specs.Losing.{loss_numbered};
 ghost use Rattle.pt_table.specs.Crewing.{SpawnsInCrew, TakesAnswers, TellsTime};
 ghost use Rattle.pt_table.specs.Jobs.{next_out};
 
@@ -148,6 +150,19 @@ fn answer(crew: &mut Hands, answer: PtAnswer) -> u32
         Ok(true) => DONE,
         Ok(false) => NOT_RUNNING,
         Err(_) => MEMORY,
+    }
+}
+
+/// Notes what the loss with this number of the desk tells.
+pub fn note_loss(crew: &mut Hands, desk: &Desk, place: usize) -> u32
+    ensures { CrewNotes (loss_numbered desk.now place) result crew.old crew.new }
+{
+    match desk.loss(place) {
+        Some(loss) => {
+            crew.note_loss(loss);
+            DONE
+        }
+        None => NOTHING,
     }
 }
 

@@ -14,6 +14,7 @@
 //!   and nothing has changed. (`IfCrosses`)
 //! - **Crews.** A step hands out what `Hands` hands out, each job as its struct, and an answer is that of `Hands`. Of a row
 //!   of answers each is taken up to the first that is refused. (`CrewSteps`, `TakesAnswers`)
+//! - **Losses.** What a desk lost is read item by item, and each loss is passed once. (`Losing`)
 //! - **Wake-ups.** `Woken` says which process is returned next. No event gives an item to any other process, or makes
 //!   it exit. (`NobodyIsMissed`)
 #![tactic(auto)]
@@ -30,6 +31,7 @@ pub mod held;
 pub mod history_handle;
 pub mod looking;
 mod loose;
+pub mod losing;
 pub mod quiet_handle;
 pub mod rows;
 pub mod settled_handle;

@@ -174,6 +174,17 @@ pub struct PtAccount {
     pub waiting: u64,
 }
 
+/// What a desk lost by one event: how many items of this process. Either it exited with this reason, and they waited in
+/// its mailbox; or it was not alive as a message came.
+#[repr(C)]
+#[derive(Clone, Copy)]
+pub struct PtLoss {
+    pub has_exited: bool,
+    pub pid: PtPid,
+    pub reason: PtReason,
+    pub items: usize,
+}
+
 /// The settings of a node. It has as many desks as handles were passed.
 #[repr(C)]
 #[derive(Clone, Copy)]
