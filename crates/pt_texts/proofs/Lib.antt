@@ -6,3 +6,4 @@ pub mod Signed
 pub mod Printed
 pub mod Told
 pub mod Parsed
+pub mod Recorded

@@ -1,5 +1,6 @@
 -- Each kind of value is read as it is printed.
-use Rattle.std.proofs.Common.{◌≡◌, ℕ, ℤ, ◌-◌, ◌^◌, ◌<◌, Bool, true, false, Option, Some, None, Ok, List, [], ◌∷◌, ◌++◌, decimal, codes, refl, append_assoc, arith}
+use Rattle.std.proofs.Common.{◌≡◌, ℕ, ℤ, ◌-◌, ◌^◌, ◌<◌, ◌==◌, Bool, true, false, ◌||◌, ◌⊎◌, inl, inr, Option, Some, None, Ok, List, [], ◌∷◌, ◌++◌, decimal, codes, refl, append_assoc, eqb-true, arith}
+use Rattle.std.proofs.lemmas.Bool.{or_cases}
 use Rattle.std.specs.Fmt.{signed_decimal}
 use Rattle.pt_signal.specs.declared.pid.Pid.{Pid}
 use Rattle.pt_signal.specs.declared.ids.Ref.{Ref}
@@ -15,7 +16,7 @@ use Rattle.pt_signal.specs.declared.item.Item.TheVariants.{User}
 use Rattle.pt_signal.specs.declared.signal.Signal.{Signal}
 use Rattle.pt_signal.specs.declared.signal.Signal.TheVariants.{Message, Link, Unlink, LinkExit, Monitor, Demonitor, AliveAsk, AliveSay}
 use Rattle.pt_texts.specs.Steps.{Reader, behind, before, pair}
-use Rattle.pt_texts.specs.Numbers.{u8_at, u32_at, u64_at}
+use Rattle.pt_texts.specs.Numbers.{u8_at, u16_at, u32_at, u64_at}
 use Rattle.pt_texts.specs.Readers.{pid_at, ref_at, link_id_at, ids_at, body_at, reason_at, yes_or_no_at, item_at, pick_at, signal_at, route_at, letter_at}
 use Rattle.pt_texts.specs.Fits.{FitsPid, FitsRef, FitsLinkId, FitsIds, FitsBody, FitsReason, FitsItem, FitsPick, FitsSignal, FitsLetter}
 use Rattle.pt_texts.proofs.Pieces.{Reads, Takes, Anything, before_reads, closed_reads, mapped_reads, fit_as, print_as, stop_as, text_if_any, mapped_again, again_behind, optional_reads, pair_reads, none_takes, given_takes, or_takes}
@@ -24,6 +25,9 @@ use Rattle.pt_texts.proofs.Signed.{signed_reads}
 
 pub u8_reads : Reads (λ n. n < 2 ^ 8) NoDigit decimal u8_at
 u8_reads = fit_as _ _ _ _ (number_reads (2 ^ 8 - 1) (omega arith) (omega arith)) (λ n. n < 2 ^ 8) (λ n h. omega (arith, h)) (λ n h. omega (arith, h))
+
+pub u16_reads : Reads (λ n. n < 2 ^ 16) NoDigit decimal u16_at
+u16_reads = fit_as _ _ _ _ (number_reads (2 ^ 16 - 1) (omega arith) (omega arith)) (λ n. n < 2 ^ 16) (λ n h. omega (arith, h)) (λ n h. omega (arith, h))
 
 pub u32_reads : Reads (λ n. n < 2 ^ 32) NoDigit decimal u32_at
 u32_reads = fit_as _ _ _ _ (number_reads (2 ^ 32 - 1) (omega arith) (omega arith)) (λ n. n < 2 ^ 32) (λ n h. omega (arith, h)) (λ n h. omega (arith, h))
@@ -56,18 +60,33 @@ link_id_reads =
     mapped_reads _ _ _ _ all FitsLinkId link_id_text (λ x. record { desk = x.0; number = x.1 }) (λ m. (m.desk, m.number)) (λ m. refl)
     (λ x. simp (append_assoc) refl) (λ x f. f) (λ m f. f)
 
--- a blank follows, or nothing
+-- a blank or a line feed follows, or nothing
 abbrev pub Blank : List ℕ → Type 0
 Blank [] = Unit {0}
-Blank (c ∷ r) = c ≡ 32
+Blank (c ∷ r) = (c == 32 || c == 10) ≡ true
+
+blank_is : (c : ℕ) → (c == 32 || c == 10) ≡ true → (c ≡ 32) ⊎ (c ≡ 10)
+blank_is c s = go (or_cases (c == 32) (c == 10) s)
+  where
+    go : ((c == 32) ≡ true) ⊎ ((c == 10) ≡ true) → (c ≡ 32) ⊎ (c ≡ 10)
+    go (inl h) = inl (eqb-true c 32 h)
+    go (inr h) = inr (eqb-true c 10 h)
 
 pub no_digit : (r : List ℕ) → Blank r → NoDigit r
 no_digit [] s = tt
-no_digit (c ∷ r) s = rw s refl
+no_digit (c ∷ r) s = go (blank_is c s)
+  where
+    go : (c ≡ 32) ⊎ (c ≡ 10) → NoDigit (c ∷ r)
+    go (inl h) = rw h refl
+    go (inr h) = rw h refl
 
 pub no_plus : (r : List ℕ) → Blank r → behind (codes "+") r ≡ None
 no_plus [] s = refl
-no_plus (c ∷ r) s = rw s refl
+no_plus (c ∷ r) s = go (blank_is c s)
+  where
+    go : (c ≡ 32) ⊎ (c ≡ 10) → behind (codes "+") (c ∷ r) ≡ None
+    go (inl h) = rw h refl
+    go (inr h) = rw h refl
 
 -- and it is not of one more word of a message
 abbrev pub Ends : List ℕ → Type 0
@@ -118,11 +137,15 @@ reason_reads = record { takes = took; again = back }
         (or_takes _ _ _ _ _ u32_reads.takes (codes "other:") Other _ (λ n. refl) (λ n f. f)
         (none_takes _ _))))))
 
+    killed : (c : ℕ) (r : List ℕ) → (c ≡ 32) ⊎ (c ≡ 10) → reason_at (reason_text Kill ++ c ∷ r) ≡ Ok (Kill, c ∷ r)
+    killed c r (inl h) = rw h refl
+    killed c r (inr h) = rw h refl
+
     back : (v : Reason) (r : List ℕ) → FitsReason v → Blank r → reason_at (reason_text v ++ r) ≡ Ok (v, r)
     back Normal r f s = refl
     back Killed r f s = refl
     back Kill [] f s = refl
-    back Kill (c ∷ r) f s = rw s refl
+    back Kill (c ∷ r) f s = killed c r (blank_is c s)
     back Noproc r f s = refl
     back Shutdown r f s = refl
     back (Other n) r f s = mapped_again Other u32_at n (decimal n ++ r) r (u32_reads.again n r f (no_digit r s))

@@ -17,10 +17,10 @@ use Rattle.pt_texts.proofs.Pieces.{Reads, Takes, Anything, before_reads, mapped_
 use Rattle.pt_texts.proofs.Decimals.{NoDigit}
 use Rattle.pt_texts.proofs.Printed.{Fine, Blank, Ends, spaced, u8_reads, u64_reads, pid_reads, link_id_reads, pid_reason, item_reads, pick_reads, signal_reads, route_reads, letter_reads}
 
--- nothing follows
+-- a line feed follows, or nothing
 abbrev pub AtEnd : List ℕ → Type 0
 AtEnd [] = Unit {0}
-AtEnd (c ∷ r) = ⊥
+AtEnd (c ∷ r) = c ≡ 10
 
 pub switch_reads : Reads Fine Anything switch_text switch_at
 unfolding switch_text switch_at
@@ -47,7 +47,7 @@ birth_link_reads = print_as _ _ _ _ (stop_as _ _ _ _ (optional_reads _ _ _ _ lin
   where
     stop : (r : List ℕ) → AtEnd r → NoDigit r × (behind (codes " link ") r ≡ None)
     stop [] s = (tt, refl)
-    stop (c ∷ r) s = absurd s
+    stop (c ∷ r) s = (rw s refl, rw s refl)
 
     same : (v : Option LinkId) → text_if_any link_id_text (codes " link ") v ≡ link_text v
     same None = refl
@@ -63,16 +63,16 @@ birth_parts = pair_reads _ _ _ _ pid_reads _ _ _ _ (pair_reads _ _ _ _ parent_re
   where
     stop : (y : Option LinkId) (r : List ℕ) → AtEnd r → behind (codes " by ") (link_text y ++ r) ≡ None
     stop None [] s = refl
-    stop None (c ∷ r) s = absurd s
+    stop None (c ∷ r) s = rw s refl
     stop (Some i) r s = refl
 
-ends : (r : List ℕ) → AtEnd r → Ends r
+pub ends : (r : List ℕ) → AtEnd r → Ends r
 ends [] s = (tt, refl)
-ends (c ∷ r) s = absurd s
+ends (c ∷ r) s = (rw s refl, rw s refl)
 
-blank : (r : List ℕ) → AtEnd r → Blank r
+pub blank : (r : List ℕ) → AtEnd r → Blank r
 blank [] s = tt
-blank (c ∷ r) s = absurd s
+blank (c ∷ r) s = rw s refl
 
 route_signal : Reads (λ (x : (Pid × Pid) × Signal). (FitsPid x.0.0 × FitsPid x.0.1) × FitsSignal x.1) AtEnd (λ x. route_text x.0.0 x.0.1 ++ (codes " " ++ signal_text x.1)) (pair route_at (before (codes " ") signal_at))
 route_signal = spaced _ _ _ _ route_reads _ _ _ _ (stop_as _ _ _ _ signal_reads AtEnd ends) (λ y. tt)

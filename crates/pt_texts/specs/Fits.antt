@@ -19,6 +19,9 @@ use Rattle.pt_events.specs.declared.event.Event.{Event}
 use Rattle.pt_events.specs.declared.event.Event.TheVariants.{Born, Said, Came, Took, Flag, Left, Refused}
 use Rattle.pt_events.specs.declared.event.Stamped.{Stamped}
 use Rattle.pt_texts.specs.declared.left_over.LeftOver.{LeftOver}
+use Rattle.pt_texts.specs.declared.records.Record.{Record}
+use Rattle.pt_texts.specs.declared.records.Record.TheVariants.{Head, Last, Clock, Lives, Waits, Linked, Watches, Watched}
+use Rattle.pt_texts.specs.declared.records.Record.TheVariants.{Ended, End}
 
 abbrev pub FitsIfAny : {A : Type 0} → (A → Type 0) → Option A → Type 0
 FitsIfAny Fits None = Unit {0}
@@ -90,3 +93,15 @@ FitsStamped s = (s.stamp < 2 ^ 64) × (s.desk < 2 ^ 8) × FitsEvent s.event
 
 abbrev pub FitsLeftOver : LeftOver → Type 0
 FitsLeftOver l = (l.from_desk < 2 ^ 8) × (l.to_desk < 2 ^ 8) × FitsLetter l.letter
+
+abbrev pub FitsRecord : Record → Type 0
+FitsRecord (Head events desks begun) = (events < 2 ^ 64) × (desks < 2 ^ 16)
+FitsRecord (Last s) = FitsStamped s
+FitsRecord (Clock desk stamp) = (desk < 2 ^ 8) × (stamp < 2 ^ 64)
+FitsRecord (Lives p traps) = FitsPid p
+FitsRecord (Waits i) = FitsItem i
+FitsRecord (Linked p ids) = FitsPid p × FitsIds ids
+FitsRecord (Watches m p) = FitsRef m × FitsPid p
+FitsRecord (Watched m p) = FitsRef m × FitsPid p
+FitsRecord (Ended p last r) = FitsPid p × (last < 2 ^ 32) × FitsReason r
+FitsRecord (End sum) = sum < 2 ^ 64

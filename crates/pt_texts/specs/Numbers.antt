@@ -23,9 +23,12 @@ number_at most (c ∷ text) =
     then Ok (0, text)
     else (if is_digit c then digits_at most (c - 48) text else Err (length (c ∷ text)))
 
--- numbers of 8, 32 and 64 bits
+-- numbers of 8, 16, 32 and 64 bits
 abbrev pub u8_at : Reader ℕ
 u8_at = number_at (2 ^ 8 - 1)
+
+abbrev pub u16_at : Reader ℕ
+u16_at = number_at (2 ^ 16 - 1)
 
 abbrev pub u32_at : Reader ℕ
 u32_at = number_at (2 ^ 32 - 1)

@@ -1,5 +1,5 @@
 -- A reader for each kind of value.
-use Rattle.std.specs.Prelude.{Bool, true, false, codes, Option}
+use Rattle.std.specs.Prelude.{Bool, true, false, [], ◌∷◌, codes, Option}
 use Rattle.pt_signal.specs.declared.pid.Pid.{Pid}
 use Rattle.pt_signal.specs.declared.ids.Ref.{Ref}
 use Rattle.pt_signal.specs.declared.ids.LinkId.{LinkId}
@@ -18,8 +18,11 @@ use Rattle.pt_events.specs.declared.event.Event.{Event}
 use Rattle.pt_events.specs.declared.event.Event.TheVariants.{Born, Said, Came, Took, Flag, Left, Refused}
 use Rattle.pt_events.specs.declared.event.Stamped.{Stamped}
 use Rattle.pt_texts.specs.declared.left_over.LeftOver.{LeftOver}
+use Rattle.pt_texts.specs.declared.records.Record.{Record}
+use Rattle.pt_texts.specs.declared.records.Record.TheVariants.{Head, Last, Clock, Lives, Waits, Linked, Watches, Watched}
+use Rattle.pt_texts.specs.declared.records.Record.TheVariants.{Ended, End}
 use Rattle.pt_texts.specs.Steps.{Reader, or_reader, none_of_these, given_value, before, closed, pair, mapped, optional}
-use Rattle.pt_texts.specs.Numbers.{u8_at, u32_at, u64_at, i64_at}
+use Rattle.pt_texts.specs.Numbers.{u8_at, u16_at, u32_at, u64_at, i64_at}
 
 unfoldable pub pid_at : Reader Pid
 pid_at = mapped (λ x. record { shard = x.0; slot = x.1.0; version = x.1.1 })
@@ -147,3 +150,30 @@ unfoldable pub left_over_at : Reader LeftOver
 left_over_at =
     mapped (λ x. record { from_desk = x.0; to_desk = x.1.0; letter = x.1.1 })
     (before (codes "left-over ") (pair u8_at (before (codes " -> ") (pair u8_at (before (codes " ") letter_at)))))
+
+-- a line of a state that says what a process holds, or why others ended
+abbrev pub holding_at : Reader Record
+holding_at =
+    or_reader (codes "waits ") (mapped Waits item_at)
+    (or_reader (codes "linked ") (mapped (λ x. Linked x.0 x.1) (pair pid_at (before (codes " ") ids_at)))
+    (or_reader (codes "watches ") (mapped (λ x. Watches x.0 x.1) (pair ref_at (before (codes " ") pid_at)))
+    (or_reader (codes "watched ") (mapped (λ x. Watched x.0 x.1) (pair ref_at (before (codes " ") pid_at)))
+    (or_reader (codes "ended ")
+    (mapped (λ x. Ended x.0 x.1.0 x.1.1)
+    (pair pid_at (before (codes " to ") (pair u32_at (before (codes " ") reason_at)))))
+    none_of_these))))
+
+unfoldable pub record_at : Reader Record
+record_at =
+    or_reader (codes "state of ")
+    (mapped (λ x. Head x.0 x.1.0 x.1.1)
+    (pair u64_at (before (codes " events on ") (pair u16_at (before (codes " desks begun ") yes_or_no_at)))))
+    (or_reader (codes "last ") (mapped Last stamped_at)
+    (or_reader (codes "clock ") (mapped (λ x. Clock x.0 x.1) (pair u8_at (before (codes " ") u64_at)))
+    (or_reader (codes "end ") (mapped End u64_at)
+    (or_reader (codes "lives ") (mapped (λ x. Lives x.0 x.1) (pair pid_at (before (codes " traps ") yes_or_no_at)))
+    holding_at))))
+
+-- a line of a state, with its line feed
+abbrev pub line_at : Reader Record
+line_at = closed record_at (10 ∷ [])

@@ -1,9 +1,35 @@
--- The printed text of a letter left over.
-use Rattle.std.specs.Prelude.{ℕ, List, ◌++◌, codes, decimal}
-use Rattle.pt_signal.specs.Text.{letter_text}
+-- The printed texts of a letter left over, and of a line of a state.
+use Rattle.std.specs.Prelude.{ℕ, List, [], ◌∷◌, ◌++◌, codes, decimal}
+use Rattle.pt_signal.specs.Text.{pid_text, ref_text, ids_text, reason_text, yes_or_no_text, item_text, letter_text}
+use Rattle.pt_events.specs.Text.{stamped_text}
 use Rattle.pt_texts.specs.declared.left_over.LeftOver.{LeftOver}
+use Rattle.pt_texts.specs.declared.records.Record.{Record}
+use Rattle.pt_texts.specs.declared.records.Record.TheVariants.{Head, Last, Clock, Lives, Waits, Linked, Watches, Watched}
+use Rattle.pt_texts.specs.declared.records.Record.TheVariants.{Ended, End}
 
 -- `left-over DESK -> DESK LETTER`
 unfoldable pub left_over_line : LeftOver → List ℕ
 left_over_line l =
     codes "left-over " ++ decimal l.from_desk ++ codes " -> " ++ decimal l.to_desk ++ codes " " ++ letter_text l.letter
+
+-- a line of a state, without its line feed
+unfoldable pub record_text : Record → List ℕ
+record_text (Head events desks begun) =
+    codes "state of "
+    ++ decimal events
+    ++ codes " events on "
+    ++ decimal desks
+    ++ codes " desks begun "
+    ++ yes_or_no_text begun
+record_text (Last s) = codes "last " ++ stamped_text s
+record_text (Clock desk stamp) = codes "clock " ++ decimal desk ++ codes " " ++ decimal stamp
+record_text (Lives p traps) = codes "lives " ++ pid_text p ++ codes " traps " ++ yes_or_no_text traps
+record_text (Waits i) = codes "waits " ++ item_text i
+record_text (Linked p ids) = codes "linked " ++ pid_text p ++ codes " " ++ ids_text ids
+record_text (Watches m p) = codes "watches " ++ ref_text m ++ codes " " ++ pid_text p
+record_text (Watched m p) = codes "watched " ++ ref_text m ++ codes " " ++ pid_text p
+record_text (Ended p last r) = codes "ended " ++ pid_text p ++ codes " to " ++ decimal last ++ codes " " ++ reason_text r
+record_text (End sum) = codes "end " ++ decimal sum
+
+abbrev pub record_line : Record → List ℕ
+record_line r = record_text r ++ 10 ∷ []

@@ -7,6 +7,8 @@
 //! - **Reading back.** A value, an event or a line of a printed history is parsed from its printed text, and from no
 //!   other text. (`parse_pid` to `parse_left_over`)
 //! - **No two alike.** No two values of a type print alike. (`no_two_print_alike`)
+//! - **Lines of a state.** The first line of a text is read as a line of a state exactly where it is what such a line
+//!   prints. So lines are read back one after the other as they were printed. (`read_record`)
 //! - **Columns.** If a text cannot be parsed, the error has the column that the readers reach. (`Readers`)
 #![tactic(auto)]
 
@@ -15,6 +17,7 @@ mod laws;
 mod left_over;
 mod numbers;
 mod parse;
+mod records;
 mod signals;
 mod steps;
 mod values;
@@ -24,4 +27,6 @@ pub use left_over::LeftOver;
 pub use parse::{
     Refused, parse_body, parse_event, parse_ids, parse_item, parse_left_over, parse_letter,
     parse_link_id, parse_pick, parse_pid, parse_reason, parse_ref, parse_signal, parse_stamped,
+    read_record,
 };
+pub use records::Record;

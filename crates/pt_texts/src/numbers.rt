@@ -1,7 +1,7 @@
 //! Decimal numbers without zeros in front.
 
 ghost use Rattle.std.specs.Prelude.{◌≡◌, ◌<◌, ◌≤◌, ◌-◌, ◌^◌, IfOk};
-ghost use Rattle.pt_texts.specs.Numbers.{is_digit, digits_at, number_at, u8_at, u32_at, u64_at, i64_at};
+ghost use Rattle.pt_texts.specs.Numbers.{is_digit, digits_at, number_at, u8_at, u16_at, u32_at, u64_at, i64_at};
 ghost use Rattle.pt_texts.specs.Steps.{ReaderGives};
 
 use crate::steps::{Read, behind};
@@ -58,6 +58,14 @@ pub(crate) fn u8_at(text: &[u8]) -> Read<'_, u8>
 {
     let (number, rest) = number_at(255, text)?;
     Ok((number as u8, rest))
+}
+
+/// A number of 16 bits.
+pub(crate) fn u16_at(text: &[u8]) -> Read<'_, u16>
+    ensures { ReaderGives (λ read. (read.0, read.1.now)) result (u16_at text.now) }
+{
+    let (number, rest) = number_at(65_535, text)?;
+    Ok((number as u16, rest))
 }
 
 /// A number of 32 bits.

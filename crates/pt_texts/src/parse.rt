@@ -10,10 +10,11 @@ ghost use Rattle.pt_texts.specs.Readers.{pid_at, ref_at, link_id_at, ids_at, bod
 ghost use Rattle.pt_texts.specs.Readers.{signal_at, letter_at, event_at, stamped_at, left_over_at};
 ghost use Rattle.pt_texts.specs.Fits.{FitsPid, FitsRef, FitsLinkId, FitsIds, FitsBody, FitsReason, FitsItem, FitsPick};
 ghost use Rattle.pt_texts.specs.Fits.{FitsSignal, FitsLetter, FitsEvent, FitsStamped, FitsLeftOver};
-ghost use Rattle.pt_texts.specs.Parsing.{Parses, finished};
+ghost use Rattle.pt_texts.specs.Parsing.{Parses, ReadsRecord, finished, viewed};
 
 use crate::events::{event_at, stamped_at};
 use crate::left_over::{LeftOver, left_over_at};
+use crate::records::{Record, line_at};
 use crate::signals::{item_at, letter_at, pick_at, signal_at};
 use crate::steps::Read;
 use crate::values::{body_at, ids_at, link_id_at, pid_at, reason_at, ref_at};
@@ -137,4 +138,17 @@ pub fn parse_left_over(text: &[u8]) -> Result<LeftOver, Refused>
     ensures { Parses FitsLeftOver left_over_line left_over_at text.now result }
 {
     finish(text, left_over_at(text))
+}
+
+/// The first line of the text, read as a line of a state, and the text behind it. Fails if the text does not begin with
+/// such a line and its line feed.
+pub fn read_record(text: &[u8]) -> Result<(Record, &[u8]), Refused>
+    ensures { ReadsRecord text.now (viewed (λ read. (read.0, read.1.now)) result) }
+{
+    match line_at(text) {
+        Ok((record, rest)) => Ok((record, rest)),
+        Err(left) => Err(Refused {
+            column: text.len().saturating_sub(left) + 1,
+        }),
+    }
 }

@@ -3,6 +3,7 @@ use Rattle.std.proofs.Common.{refl}
 use Rattle.pt_texts.proofs.Parsed.{apart}
 use Rattle.pt_texts.proofs.Printed.{pid_reads, ref_reads, link_id_reads, ids_reads, reason_reads, body_reads, item_reads, pick_reads, signal_reads, letter_reads}
 use Rattle.pt_texts.proofs.Told.{event_reads, stamped_reads, left_over_reads}
+use Rattle.pt_texts.proofs.Recorded.{record_reads}
 use Rattle.pt_texts.proofs.laws.no_two_print_alike.Goals as goal
 
 pub returns : goal.returns
@@ -20,4 +21,5 @@ returns c = record {
   events = apart _ _ _ _ event_reads tt;
   lines = apart _ _ _ _ stamped_reads tt;
   left_overs = apart _ _ _ _ left_over_reads tt;
+  records = apart _ _ _ _ record_reads tt;
 }
