@@ -1,5 +1,5 @@
 -- Lanes of letters on their way: after what came has been taken off, and after more was sent.
-use Rattle.std.proofs.Common.{◌≡◌, ℕ, ◌==◌, Bool, true, false, cond, ◌&&◌, Some, None, Result, Ok, Err, OnOk, List, length, [], ◌∷◌, ◌++◌, map, drop, refl, ap, sym, subst, ◌∙◌, append-nil, append_assoc}
+use Rattle.std.proofs.Common.{◌≡◌, ℕ, ◌==◌, Bool, true, false, cond, ◌&&◌, Some, None, Result, Ok, Err, OnOk, List, length, [], ◌∷◌, ◌++◌, map, drop, refl, ap, sym, ◌∙◌, append-nil, append_assoc}
 use Rattle.std.specs.Prelude.{slice_get}
 use Rattle.std.proofs.lemmas.Bool.{and_parts, both_ways, eq-eqb}
 use Rattle.std.proofs.lemmas.List.Elements.{filter-append}

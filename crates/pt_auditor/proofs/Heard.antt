@@ -15,7 +15,7 @@ use Rattle.pt_events.specs.History.{Past, is_between, sent_by}
 use Rattle.pt_events.specs.Leaving.{outcome}
 use Rattle.pt_judge.specs.declared.cause.Cause.{Cause}
 use Rattle.pt_judge.specs.declared.cause.Cause.TheVariants.{NotFront}
-use Rattle.pt_judge.specs.Judging.{JudgeState, now_is, known_state, known_after, cause, is_signal}
+use Rattle.pt_judge.specs.Judging.{JudgeState, now_is, known_state, cause, is_signal}
 use Rattle.pt_judge.proofs.Judged.{front_found, front_not_found}
 use Rattle.pt_texts.specs.declared.left_over.LeftOver.{LeftOver}
 use Rattle.pt_auditor.specs.declared.objection.Contradiction.{Contradiction}

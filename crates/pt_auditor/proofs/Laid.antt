@@ -1,5 +1,5 @@
 -- Lanes, after one of them has changed.
-use Rattle.std.proofs.Common.{◌≡◌, ℕ, ◌==◌, Bool, true, false, cond, Option, Some, None, IsSome, Result, Ok, Err, OnOk, List, [], ◌∷◌, drop, unwrap_or, refl, ap, sym, ◌∙◌}
+use Rattle.std.proofs.Common.{◌≡◌, ℕ, ◌==◌, Bool, true, false, cond, Option, Some, None, IsSome, Result, Ok, Err, OnOk, List, [], drop, unwrap_or, refl, ap, sym, ◌∙◌}
 use Rattle.std.specs.Map.{lookup}
 use Rattle.std.proofs.lemmas.Bool.{and_parts, eqb-true}
 use Rattle.pt_signal.specs.declared.letter.Letter.{Letter}

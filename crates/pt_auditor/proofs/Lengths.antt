@@ -1,6 +1,6 @@
 -- How long the texts of events and of letters are at most.
-use Rattle.std.proofs.Common.{◌≡◌, ℕ, ◌+◌, ◌^◌, ◌<◌, ◌≤◌, Bool, true, false, Option, Some, None, List, ◌++◌, length, codes, length-append, arith}
-use Rattle.std.specs.Fmt.{decimal, signed_decimal}
+use Rattle.std.proofs.Common.{ℕ, ◌^◌, ◌<◌, ◌≤◌, Bool, true, false, Option, Some, None, length, length-append, arith}
+use Rattle.std.specs.Fmt.{decimal}
 use Rattle.std.proofs.lemmas.Fmt.{length-decimal-le, length_signed_le}
 use Rattle.pt_signal.specs.declared.pid.Pid.{Pid}
 use Rattle.pt_signal.specs.declared.ids.Ref.{Ref}
@@ -23,7 +23,7 @@ use Rattle.pt_events.specs.declared.event.Stamped.{Stamped}
 use Rattle.pt_events.specs.Text.{parent_text, link_text, switch_text, event_text, stamped_text}
 use Rattle.pt_texts.specs.declared.left_over.LeftOver.{LeftOver}
 use Rattle.pt_texts.specs.Text.{left_over_line}
-use Rattle.pt_texts.specs.Fits.{FitsIfAny, FitsPid, FitsRef, FitsLinkId, FitsIds, FitsNumber, FitsBody, FitsReason, FitsItem, FitsPick, FitsSignal, FitsLetter, FitsEvent, FitsStamped, FitsLeftOver}
+use Rattle.pt_texts.specs.Fits.{FitsIfAny, FitsPid, FitsRef, FitsLinkId, FitsIds, FitsBody, FitsReason, FitsItem, FitsPick, FitsSignal, FitsLetter, FitsEvent, FitsStamped, FitsLeftOver}
 
 byte : (n : ℕ) → n < 2 ^ 8 → length (decimal n) ≤ 3
 byte n h = length-decimal-le 3 n (omega arith) (omega (arith, h)) (omega (arith, h))

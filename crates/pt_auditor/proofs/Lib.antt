@@ -7,3 +7,4 @@ pub mod Lengths
 pub mod Read
 pub mod Rested
 pub mod Resting
+pub mod Reread

@@ -19,7 +19,7 @@ use Rattle.pt_auditor.specs.declared.rest.Restless.TheVariants.{Line, Letters, O
 use Rattle.pt_auditor.specs.declared.rest.Restless.TheVariants as restless
 use Rattle.pt_auditor.specs.Rests.{IsTextOf, LeavesRest, RestsText}
 use Rattle.pt_auditor.specs.Hearings.{Heard, IsHeard, MayHear, with_event, with_letter, capped_count}
-use Rattle.pt_auditor.specs.Reading.{without_return, IsEventLine, EventLines, ArePlain, HistoryLines, IsPlain, joined_lines, OneMore, IsFault, IsRead, LineIsOver, LineGoesOn, IsWhy, IsFaulty, IsWholeText, Concludes, ClosesText, Grows}
+use Rattle.pt_auditor.specs.Reading.{without_return, IsEventLine, EventLines, HistoryLines, IsPlain, joined_lines, OneMore, IsFault, IsRead, LineIsOver, LineGoesOn, IsWhy, IsFaulty, IsWholeText, Concludes, ClosesText, Grows}
 
 -- the line tells an event, or a letter ----------------------------------------------------
 

@@ -1,9 +1,9 @@
 -- What a judge finds that knows of a history what its rest tells.
-use Rattle.std.proofs.Common.{◌≡◌, ℕ, ◌+◌, ◌<◌, ◌≤◌, ◌==◌, nat_lt, Bool, true, false, not, cond, ◌&&◌, ◌||◌, ◌⊎◌, inl, inr, Option, Some, None, is_some, is_none, List, [], ◌∷◌, ◌++◌, map, refl, ap, ap₂, sym, ◌∙◌, subst, arith}
+use Rattle.std.proofs.Common.{◌≡◌, ℕ, Bool, true, false, not, cond, ◌&&◌, ◌||◌, Option, Some, None, is_some, is_none, [], ◌∷◌, ◌++◌, refl, ap, ap₂, sym, ◌∙◌, subst}
 use Rattle.std.specs.List.{find, list_any}
 use Rattle.std.specs.Map.{lookup}
 use Rattle.std.specs.Option.{option_map}
-use Rattle.std.proofs.lemmas.Bool.{both_ways, and_parts, or_cases, eqb-true, ltb-true, lt-ltb, eq-eqb}
+use Rattle.std.proofs.lemmas.Bool.{both_ways}
 use Rattle.pt_signal.specs.declared.pid.Pid.{Pid}
 use Rattle.pt_signal.specs.declared.ids.LinkId.{LinkId}
 use Rattle.pt_signal.specs.declared.ids.Ref.{Ref}
@@ -19,8 +19,8 @@ use Rattle.pt_signal.proofs.Handling.{living_answer, handle_answer}
 use Rattle.pt_events.specs.declared.event.Event.{Event}
 use Rattle.pt_events.specs.declared.event.Event.TheVariants.{Born, Said, Came, Took, Flag, Left, Refused}
 use Rattle.pt_events.specs.declared.event.Stamped.{Stamped}
-use Rattle.pt_events.specs.History.{Past, Start, Phase, unborn, living, ended, is_living, is_unborn, is_ended, is_the, is_between, at_start, after, touches, change, linked, newborn, while_living, gets, leaves, live_or_end, reason_of, state_of, end_sends, got_sends, left_sends, landed, life, flying, sent_by, makes_link, makes_ref, made_link, made_ref, May}
-use Rattle.pt_events.specs.Journal.{events, IsNewAt}
+use Rattle.pt_events.specs.History.{Past, Phase, unborn, living, ended, is_living, is_unborn, is_ended, is_the, is_between, after, touches, linked, newborn, while_living, live_or_end, reason_of, state_of, end_sends, got_sends, left_sends, landed, life, flying, sent_by, makes_link, makes_ref, made_link, made_ref, May}
+use Rattle.pt_events.specs.Journal.{IsNewAt}
 use Rattle.pt_events.specs.Leaving.{outcome}
 use Rattle.pt_judge.specs.declared.cause.Cause.{Cause}
 use Rattle.pt_judge.specs.declared.cause.Cause.TheVariants.{BornTwice, NotAlive, NotFront, NotFirstMatch, Unlawful}
@@ -30,8 +30,7 @@ use Rattle.pt_judge.proofs.Judged.{judged}
 use Rattle.pt_auditor.specs.declared.objection.Contradiction.{Contradiction}
 use Rattle.pt_auditor.specs.Standings.{standing_of, waiting_of}
 use Rattle.pt_auditor.specs.Objecting.{contradiction, dead, actor_of_event}
-use Rattle.pt_auditor.specs.Foreigners.{AllFromNode, IsFromNode}
-use Rattle.pt_auditor.specs.Hearings.{IsAfterRest, is_late, is_above, newest, follows, EventsAreRising}
+use Rattle.pt_auditor.specs.Hearings.{IsAfterRest, is_late}
 
 -- phases that differ by no more than what an ended process held ------------------------------
 

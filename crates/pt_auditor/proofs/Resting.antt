@@ -1,26 +1,29 @@
 -- What is known of a history at rest, and that a hearing over it goes on from the history.
-use Rattle.std.proofs.Common.{◌≡◌, ℕ, zero, suc, add-one, ◌+◌, ◌<◌, ◌≤◌, ◌==◌, nat_lt, Bool, true, false, not, cond, ◌&&◌, ◌||◌, ◌⊎◌, inl, inr, Option, Some, None, is_some, List, [], ◌∷◌, ◌++◌, length, take, drop, map, slice_get, get_or, refl, ap, ap₂, sym, ◌∙◌, subst, arith, append-nil, append_assoc}
+use Rattle.std.proofs.Common.{◌≡◌, ℕ, zero, suc, add-one, ◌+◌, ◌<◌, ◌≤◌, ◌==◌, ◌-◌, nat_le, nat_lt, Bool, true, false, cond, ◌&&◌, ◌||◌, ◌⊎◌, inl, inr, Option, Some, None, is_some, List, [], ◌∷◌, ◌++◌, length, take, drop, map, slice_get, refl, ap, ap₂, sym, ◌∙◌, subst, arith, append-nil, append_assoc}
 use Rattle.std.specs.List.{list_any}
+use Rattle.std.specs.List.Sorted.{IsPermutation}
 use Rattle.std.specs.Map.{lookup, keys_of}
-use Rattle.std.proofs.lemmas.Bool.{both_ways, and_parts, or_cases, eqb-true, ltb-true, lt-ltb, ltb-false, eq-eqb}
+use Rattle.std.proofs.lemmas.Bool.{both_ways, and_parts, or_cases, eqb-true, ltb-true, leb-true}
+use Rattle.std.proofs.lemmas.Grind.{common_steps, flat_map-append}
+use Rattle.std.proofs.lemmas.List.Sorted.{list_any-IsPermutation}
 use Rattle.std.proofs.lemmas.Map.Made.{is_some-lookup}
 use Rattle.pt_signal.specs.declared.pid.Pid.{Pid}
 use Rattle.pt_signal.specs.declared.ids.LinkId.{LinkId}
 use Rattle.pt_signal.specs.declared.ids.Ref.{Ref}
 use Rattle.pt_signal.specs.declared.ids.Ids.{Ids}
-use Rattle.pt_signal.specs.declared.item.Item.{Item}
 use Rattle.pt_signal.specs.declared.letter.Letter.{Letter}
 use Rattle.pt_signal.specs.declared.reason.Reason.{Reason}
 use Rattle.pt_signal.specs.declared.reason.Reason.TheVariants.{Normal}
+use Rattle.pt_signal.specs.contracts.reason.ReasonPartialEq.TheImpl.{ghosts as of_reason}
 use Rattle.pt_signal.specs.declared.signal.Signal.{Signal}
-use Rattle.pt_signal.specs.declared.signal.Signal.TheVariants.{Message, Link, Unlink, LinkExit, Monitor, Demonitor, AliveAsk, AliveSay}
+use Rattle.pt_signal.specs.declared.signal.Signal.TheVariants.{Link, LinkExit, Monitor, Demonitor, AliveAsk}
 use Rattle.pt_signal.specs.Process.{ProcessState, Sent, sent, fresh, estate}
 use Rattle.pt_signal.specs.Values.{same_pid, same_ref, same_link, without_first}
 use Rattle.pt_signal.proofs.Same.{same_pid_refl, same_pid_is, same_link_is, same_ref_is}
 use Rattle.pt_events.specs.declared.event.Event.{Event}
 use Rattle.pt_events.specs.declared.event.Event.TheVariants.{Born, Said, Came, Took, Flag, Left, Refused}
 use Rattle.pt_events.specs.declared.event.Stamped.{Stamped}
-use Rattle.pt_events.specs.History.{Past, Start, Phase, unborn, living, ended, is_living, is_unborn, is_this, is_between, phase_or_unborn, at_start, after, reason_of, state_of, end_sends, landed, life, flying, sent_by, makes_link, makes_ref, made_link, made_ref}
+use Rattle.pt_events.specs.History.{Start, Phase, unborn, living, ended, is_living, is_unborn, is_between, phase_or_unborn, at_start, after, reason_of, state_of, end_sends, landed, life, flying, sent_by, makes_link, makes_ref, made_link, made_ref}
 use Rattle.pt_events.specs.Journal.{events, clock, letter, content, IsNewAt}
 use Rattle.pt_events.specs.Leaving.{outcome}
 use Rattle.pt_judge.specs.declared.judging.resumed.Holding.{Holding}
@@ -34,8 +37,8 @@ use Rattle.pt_auditor.specs.declared.rest.Resident.TheVariants.{Lives, Ended}
 use Rattle.pt_auditor.specs.declared.rest.Rest.{Rest}
 use Rattle.pt_auditor.specs.Lanes.{letters_flying, letters_landed, goes_between, lane, stamp_noted}
 use Rattle.pt_auditor.specs.Foreigners.{AllFromNode, IsFirstForeign, IsOrigin}
-use Rattle.pt_auditor.specs.Hearings.{Heard, IsHeard, IsNodeAfter, TellsBegin, is_late, is_above, newest, follows, left_flying, EventsAreRising, IsAfterRest, still, capped_count}
-use Rattle.pt_auditor.specs.Rests.{holds_so, life_of, AreResidents, IsRestOf, IsAtRest, IsRestless, stamp_of, link_in, kept_in, watch_in, links_in, kepts_in, watches_in, IsDrained, IsTakenOut, IsListed}
+use Rattle.pt_auditor.specs.Hearings.{Heard, IsHeard, IsNodeAfter, TellsBegin, is_late, is_above, newest, left_flying, EventsAreRising, still}
+use Rattle.pt_auditor.specs.Rests.{ended_run, resident_lives, lives_in, run_with, AreResidents, IsRestOf, IsAtRest, IsRestless, stamp_of, link_in, kept_in, watch_in, links_in, kepts_in, watches_in, IsDrained, IsTakenOut, IsListed}
 use Rattle.pt_auditor.proofs.Heard.{later, no_letters, some_letters, all_of_node}
 
 pub taken_more : {X : Type 0} (xs : List X) (n : ℕ) (x : X) → Some x ≡ slice_get xs n → take (n + 1) xs ≡ take n xs ++ x ∷ []
@@ -49,19 +52,19 @@ taken_more {X} xs n x h = ap (λ m. take m xs) (add-one n) ∙ go xs n h
 -- the processes that are in the state, and those that come after them
 pub record IsRebuilding (all : List Resident) (s : JudgeState) (left : List Resident) : Type 0 where
   pub state : s ≡ record { links = []; refs = []; lives = s.lives; flights = [] }
-  pub lives : s.lives ++ map life_of left ≡ map life_of all
+  pub lives : s.lives ++ lives_in left ≡ lives_in all
 
-pub rebuilding_one : (all : List Resident) (s new : JudgeState) (left rest : List Resident) (r : Resident) → IsRebuilding all s left → left ≡ r ∷ rest → new ≡ record s { lives = s.lives ++ life_of r ∷ [] } → IsRebuilding all new rest
+pub rebuilding_one : (all : List Resident) (s new : JudgeState) (left rest : List Resident) (r : Resident) → IsRebuilding all s left → left ≡ r ∷ rest → new ≡ record s { lives = s.lives ++ resident_lives r } → IsRebuilding all new rest
 rebuilding_one all s new left rest r k e n =
-    let lives : new.lives ≡ s.lives ++ life_of r ∷ [] = ap (λ (z : JudgeState). z.lives) n in
+    let lives : new.lives ≡ s.lives ++ resident_lives r = ap (λ (z : JudgeState). z.lives) n in
     record {
-      state = n ∙ ap (λ (z : JudgeState). record z { lives = s.lives ++ life_of r ∷ [] }) k.state ∙ ap (λ z. record { links = []; refs = []; lives = z; flights = [] }) (sym lives);
-      lives = ap (λ z. z ++ map life_of rest) lives ∙ append_assoc s.lives (life_of r ∷ []) (map life_of rest) ∙ ap (λ z. s.lives ++ map life_of z) (sym e) ∙ k.lives;
+      state = n ∙ ap (λ (z : JudgeState). record z { lives = s.lives ++ resident_lives r }) k.state ∙ ap (λ z. record { links = []; refs = []; lives = z; flights = [] }) (sym lives);
+      lives = ap (λ z. z ++ lives_in rest) lives ∙ append_assoc s.lives (resident_lives r) (lives_in rest) ∙ ap (λ z. s.lives ++ lives_in z) (sym e) ∙ k.lives;
     }
 
-pub rebuilt_all : (all : List Resident) (s : JudgeState) (left : List Resident) → IsRebuilding all s left → left ≡ [] → s ≡ record { links = []; refs = []; lives = map life_of all; flights = [] }
+pub rebuilt_all : (all : List Resident) (s : JudgeState) (left : List Resident) → IsRebuilding all s left → left ≡ [] → s ≡ record { links = []; refs = []; lives = lives_in all; flights = [] }
 rebuilt_all all s left k e =
-    k.state ∙ ap (λ z. record { links = []; refs = []; lives = z; flights = [] }) (sym (append-nil s.lives) ∙ ap (λ z. s.lives ++ map life_of z) (sym e) ∙ k.lives)
+    k.state ∙ ap (λ z. record { links = []; refs = []; lives = z; flights = [] }) (sym (append-nil s.lives) ∙ ap (λ z. s.lives ++ lives_in z) (sym e) ∙ k.lives)
 
 -- what a process would leave --------------------------------------------------------------------
 
@@ -190,29 +193,43 @@ waiting_none false ys h k = absurd (cc)
 -- the list of processes ---------------------------------------------------------------------------
 
 abbrev pub phase_in : List Resident → Pid → Phase
-phase_in residents q = at_start (map life_of residents) q
+phase_in residents q = at_start (lives_in residents) q
 
 is_nobody : (f : Phase) → is_unborn f ≡ true → f ≡ unborn
 is_nobody unborn h = refl
 is_nobody (living s) h = absurd (cc)
 is_nobody (ended r s) h = absurd (cc)
 
+-- no process that is listed is unborn
+abbrev NoneUnborn : Start → Type 0
+NoneUnborn [] = Unit {0}
+NoneUnborn (x ∷ xs) = (is_unborn x.1 ≡ false) × NoneUnborn xs
+
+both_born : (xs ys : Start) → NoneUnborn xs → NoneUnborn ys → NoneUnborn (xs ++ ys)
+both_born [] ys h k = k
+both_born (x ∷ xs) ys h k = (h.0, both_born xs ys h.1 k)
+
+run_born : (p : Pid) (r : Reason) (n : ℕ) → NoneUnborn (ended_run p r n)
+run_born p r zero = tt
+run_born p r (suc n) = both_born (ended_run p r n) _ (run_born p r n) (refl, tt)
+
+one_born : (r : Resident) → NoneUnborn (resident_lives r)
+one_born (Lives p h) = (refl, tt)
+one_born (Ended p last r) = run_born p r (last + 1 - p.version)
+
+all_born : (rs : List Resident) → NoneUnborn (lives_in rs)
+all_born [] = tt
+all_born (r ∷ rs) = both_born (resident_lives r) (lives_in rs) (one_born r) (all_born rs)
+
 -- a process more, behind all others
-pushed : (rs : List Resident) (r : Resident) (q : Pid) → phase_in (rs ++ r ∷ []) q ≡ cond (is_unborn (phase_in rs q)) (phase_in (r ∷ []) q) (phase_in rs q)
-pushed [] r q = refl
-pushed (Lives p h ∷ rs) r q = go (same_pid q p) (pushed rs r q)
+pushed : (xs : Start) (x : Pid × Phase) (q : Pid) → NoneUnborn xs → at_start (xs ++ x ∷ []) q ≡ cond (is_unborn (at_start xs q)) (at_start (x ∷ []) q) (at_start xs q)
+pushed [] x q h = refl
+pushed ((p, f) ∷ xs) x q h = go (same_pid q p) (pushed xs x q h.1)
   where
-    go : (b : Bool) → phase_in (rs ++ r ∷ []) q ≡ cond (is_unborn (phase_in rs q)) (phase_in (r ∷ []) q) (phase_in rs q)
-        → phase_or_unborn (cond b (Some (living (holds_so h))) (lookup (same_pid q) (map life_of (rs ++ r ∷ []))))
-        ≡ cond (is_unborn (phase_or_unborn (cond b (Some (living (holds_so h))) (lookup (same_pid q) (map life_of rs))))) (phase_in (r ∷ []) q) (phase_or_unborn (cond b (Some (living (holds_so h))) (lookup (same_pid q) (map life_of rs))))
-    go true ih = refl
-    go false ih = ih
-pushed (Ended p w ∷ rs) r q = go (same_pid q p) (pushed rs r q)
-  where
-    go : (b : Bool) → phase_in (rs ++ r ∷ []) q ≡ cond (is_unborn (phase_in rs q)) (phase_in (r ∷ []) q) (phase_in rs q)
-        → phase_or_unborn (cond b (Some (ended w fresh)) (lookup (same_pid q) (map life_of (rs ++ r ∷ []))))
-        ≡ cond (is_unborn (phase_or_unborn (cond b (Some (ended w fresh)) (lookup (same_pid q) (map life_of rs))))) (phase_in (r ∷ []) q) (phase_or_unborn (cond b (Some (ended w fresh)) (lookup (same_pid q) (map life_of rs))))
-    go true ih = refl
+    go : (b : Bool) → at_start (xs ++ x ∷ []) q ≡ cond (is_unborn (at_start xs q)) (at_start (x ∷ []) q) (at_start xs q)
+        → phase_or_unborn (cond b (Some f) (lookup (same_pid q) (xs ++ x ∷ [])))
+        ≡ cond (is_unborn (phase_or_unborn (cond b (Some f) (lookup (same_pid q) xs)))) (at_start (x ∷ []) q) (phase_or_unborn (cond b (Some f) (lookup (same_pid q) xs)))
+    go true ih = ap (λ b. cond b (at_start (x ∷ []) q) f) (sym h.0)
     go false ih = ih
 
 one_other : (x : Pid × Phase) (q : Pid) → same_pid q x.0 ≡ false → at_start (x ∷ []) q ≡ unborn
@@ -231,21 +248,77 @@ own_pushed unborn g h = h
 own_pushed (living s) g h = refl
 own_pushed (ended r s) g h = refl
 
-module _ (p : Pid) (f : Phase) (old new : JudgeState) (rs : List Resident) (r : Resident) (own : (life_of r).0 ≡ p) (phase : (life_of r).1 ≡ f) where
-  more_is : phase_in (r ∷ []) p ≡ f
-  more_is = subst (λ z. phase_in (r ∷ []) z ≡ (life_of r).1) own (one_own (life_of r)) ∙ phase
+module _ (p : Pid) (f : Phase) (old new : JudgeState) (rs more : List Resident) (is : lives_in more ≡ lives_in rs ++ (p, f) ∷ []) where
+  abbrev one : Pid → Phase
+  one q = at_start ((p, f) ∷ []) q
+
+  more_at : (q : Pid) → phase_in more q ≡ cond (is_unborn (phase_in rs q)) (one q) (phase_in rs q)
+  more_at q = ap (λ z. at_start z q) is ∙ pushed (lives_in rs) (p, f) q (all_born rs)
 
   -- the process is listed with what became of it
-  pub listed : outcome (now_is old p) ≡ f → is_unborn f ≡ false → ((q : Pid) → same_pid q p ≡ false → now_is new q ≡ now_is old q) → new.flights ≡ [] → IsListed p old rs new (rs ++ r ∷ [])
+  pub listed : outcome (now_is old p) ≡ f → is_unborn f ≡ false → ((q : Pid) → same_pid q p ≡ false → now_is new q ≡ now_is old q) → new.flights ≡ [] → IsListed p old rs new more
   listed h b others none = record {
-    kept = λ q k. pushed rs r q ∙ ap (λ c. cond c (phase_in (r ∷ []) q) (phase_in rs q)) k;
-    others = λ q a.
-        pushed rs r q ∙ ap (λ z. cond (is_unborn (phase_in rs q)) z (phase_in rs q)) (one_other (life_of r) q (ap (same_pid q) own ∙ a)) ∙ unborn_both (phase_in rs q);
+    kept = λ q k. more_at q ∙ ap (λ c. cond c (one q) (phase_in rs q)) k;
+    others = λ q a. more_at q ∙ ap (λ z. cond (is_unborn (phase_in rs q)) z (phase_in rs q)) (one_other (p, f) q a) ∙ unborn_both (phase_in rs q);
     other_lives = others;
-    told = λ k. pushed rs r p ∙ ap (λ c. cond c (phase_in (r ∷ []) p) (phase_in rs p)) k ∙ more_is ∙ sym h;
-    none = λ k. absurd (both_ways (is_unborn (phase_in (rs ++ r ∷ []) p)) (ap is_unborn (pushed rs r p) ∙ own_pushed (phase_in rs p) (phase_in (r ∷ []) p) (ap is_unborn more_is ∙ b)) k);
+    told = λ k. more_at p ∙ ap (λ c. cond c (one p) (phase_in rs p)) k ∙ one_own (p, f) ∙ sym h;
+    none = λ k. absurd (both_ways (is_unborn (phase_in more p)) (ap is_unborn (more_at p) ∙ own_pushed (phase_in rs p) (one p) (ap is_unborn (one_own (p, f)) ∙ b)) k);
     still = none;
   }
+
+-- a process more, behind the last run or as a run of its own
+version_is : (q p : Pid) (n : ℕ) → q.shard ≡ p.shard → q.slot ≡ p.slot → q.version + n ≡ p.version → record q { version = q.version + n } ≡ p
+version_is q p n a b c = rw (a, b, c) refl
+
+reason_is : (a b : Reason) → of_reason.eq a b ≡ true → a ≡ b
+reason_is a b h = grind (arith, common_steps)
+
+run_longer : (q p : Pid) (r w : Reason) (last : ℕ) (b : Bool) (run : Resident)
+    → ((q.shard == p.shard) && (q.slot == p.slot) && nat_le q.version last && (last + 1 == p.version) && of_reason.eq w r) ≡ b
+    → cond b (Some (Ended q p.version r)) None ≡ Some run → resident_lives run ≡ ended_run q w (last + 1 - q.version) ++ (p, ended r fresh) ∷ []
+run_longer q p r w last false run e h = absurd (cc)
+run_longer q p r w last true run e h =
+    let one = and_parts ((q.shard == p.shard) && (q.slot == p.slot) && nat_le q.version last && (last + 1 == p.version)) (of_reason.eq w r) e in
+    let two = and_parts ((q.shard == p.shard) && (q.slot == p.slot) && nat_le q.version last) (last + 1 == p.version) one.0 in
+    let three = and_parts ((q.shard == p.shard) && (q.slot == p.slot)) (nat_le q.version last) two.0 in
+    let four = and_parts (q.shard == p.shard) (q.slot == p.slot) three.0 in
+    let shard = eqb-true q.shard p.shard four.0 in
+    let slot = eqb-true q.slot p.slot four.1 in
+    let low = leb-true q.version last three.1 in
+    let next = eqb-true (last + 1) p.version two.1 in
+    let why = reason_is w r one.1 in
+    let n = last + 1 - q.version in
+    let count : p.version + 1 - q.version ≡ suc n = omega (arith, low, next) in
+    let version : q.version + n ≡ p.version = omega (arith, low, next) in
+    let is : Ended q p.version r ≡ run = cc in
+    ap resident_lives (sym is) ∙ ap (ended_run q r) count
+    ∙ ap (λ z. ended_run q r n ++ (z, ended r fresh) ∷ []) (version_is q p n shard slot version)
+    ∙ ap (λ z. ended_run q z n ++ (p, ended r fresh) ∷ []) (sym why)
+
+run_joined : (last run : Resident) (p : Pid) (r : Reason) → run_with last p r ≡ Some run → resident_lives run ≡ resident_lives last ++ (p, ended r fresh) ∷ []
+run_joined (Lives q h) run p r e = absurd (cc)
+run_joined (Ended q last w) run p r e = run_longer q p r w last _ run refl e
+
+one_more_in : (rs : List Resident) (r : Resident) → lives_in (rs ++ r ∷ []) ≡ lives_in rs ++ resident_lives r
+one_more_in rs r = flat_map-append resident_lives rs (r ∷ []) ∙ ap (λ z. lives_in rs ++ z) (append-nil (resident_lives r))
+
+pub end_joined : (old rs : List Resident) (last run : Resident) (p : Pid) (r : Reason) → old ≡ rs ++ last ∷ [] → run_with last p r ≡ Some run → lives_in (rs ++ run ∷ []) ≡ lives_in old ++ (p, ended r fresh) ∷ []
+end_joined old rs last run p r e k =
+    one_more_in rs run ∙ ap (λ z. lives_in rs ++ z) (run_joined last run p r k) ∙ sym (append_assoc (lives_in rs) (resident_lives last) _)
+    ∙ ap (λ z. z ++ (p, ended r fresh) ∷ []) (sym (one_more_in rs last) ∙ ap lives_in (sym e))
+
+pub end_added : (old : List Resident) (p : Pid) (r : Reason) → lives_in (old ++ Ended p p.version r ∷ []) ≡ lives_in old ++ (p, ended r fresh) ∷ []
+end_added old p r =
+    let count : p.version + 1 - p.version ≡ suc zero = omega arith in
+    let version : p.version + zero ≡ p.version = omega arith in
+    one_more_in old (Ended p p.version r) ∙ ap (λ n. lives_in old ++ ended_run p r n) count
+    ∙ ap (λ z. lives_in old ++ (z, ended r fresh) ∷ []) (version_is p p zero refl refl version)
+
+-- one more of a run that is taken in
+pub run_one_more : (p next : Pid) (r : Reason) (n m : ℕ) → next.shard ≡ p.shard → next.slot ≡ p.slot → next.version ≡ p.version + n → m ≡ n + 1
+    → ended_run p r n ++ (next, ended r fresh) ∷ [] ≡ ended_run p r m
+run_one_more p next r n m a b c e =
+    ap (λ z. ended_run p r n ++ (z, ended r fresh) ∷ []) (sym (version_is p next n (sym a) (sym b) (sym c))) ∙ ap (ended_run p r) (sym (e ∙ add-one n))
 
 pub reason_outcome : (f : Phase) (r : Reason) → Some r ≡ reason_of f → outcome f ≡ ended r fresh
 reason_outcome unborn r h = absurd (cc)
@@ -349,21 +422,21 @@ listing_all first now seen rs i same q = go (list_any (same_pid q) seen) refl
 -- the pids that are left to be looked at
 pub record IsLeftToList (first now : JudgeState) (left : List Pid) (rs : List Resident) : Type 0 where
   pub seen : List Pid
-  pub splits : keys_of first.lives ≡ seen ++ left
+  pub splits : (q : Pid) → list_any (same_pid q) (keys_of first.lives) ≡ list_any (same_pid q) (seen ++ left)
   pub listing : IsListing first now seen rs
 
-pub left_begin : (first : JudgeState) (pids : List Pid) → first.flights ≡ [] → pids ≡ keys_of first.lives → IsLeftToList first first pids []
-left_begin first pids h e = record { seen = []; splits = sym e; listing = listing_none first h }
+pub left_begin : (first : JudgeState) (pids : List Pid) → first.flights ≡ [] → IsPermutation (keys_of first.lives) pids → IsLeftToList first first pids []
+left_begin first pids h e = record { seen = []; splits = λ q. list_any-IsPermutation (same_pid q) (keys_of first.lives) pids e; listing = listing_none first h }
 
 pub left_less : (first now new : JudgeState) (left rest : List Pid) (p : Pid) (rs more : List Resident) → IsLeftToList first now left rs → left ≡ p ∷ rest → IsListed p now rs new more → IsLeftToList first new rest more
 left_less first now new left rest p rs more k e l = record {
   seen = k.seen ++ p ∷ [];
-  splits = k.splits ∙ ap (λ z. k.seen ++ z) e ∙ sym (append_assoc k.seen (p ∷ []) rest);
+  splits = λ q. k.splits q ∙ ap (λ z. list_any (same_pid q) (k.seen ++ z)) e ∙ ap (list_any (same_pid q)) (sym (append_assoc k.seen (p ∷ []) rest));
   listing = listing_more first now new k.seen p rs more k.listing l;
 }
 
 pub left_none : (first now : JudgeState) (left : List Pid) (rs : List Resident) → IsLeftToList first now left rs → left ≡ [] → AreResidents first rs
-left_none first now left rs k e = listing_all first now k.seen rs k.listing (λ q. ap (list_any (same_pid q)) (k.splits ∙ ap (λ z. k.seen ++ z) e ∙ append-nil k.seen))
+left_none first now left rs k e = listing_all first now k.seen rs k.listing (λ q. k.splits q ∙ ap (λ z. list_any (same_pid q) (k.seen ++ z)) e ∙ ap (list_any (same_pid q)) (append-nil k.seen))
 
 -- at rest -----------------------------------------------------------------------------------------
 
@@ -514,7 +587,7 @@ newest_clock [] = refl
 newest_clock (s ∷ past) = refl
 
 abbrev state_over : Rest → JudgeState
-state_over r = record { links = []; refs = []; lives = map life_of r.residents.items; flights = [] }
+state_over r = record { links = []; refs = []; lives = lives_in r.residents.items; flights = [] }
 
 abbrev node_over : Rest → Desks
 node_over r = record { lanes = []; clocks = r.clocks; newest = stamp_of r.last; begun = r.begun }
@@ -523,7 +596,7 @@ abbrev hearing_over : Rest → JudgeState → Desks → Hearing
 hearing_over r s n = record { state = s; last = r.last; events = r.events; desks = r.desks; letters = 0; node = n; foreign = None; since = r.last }
 
 -- a hearing over the rest has heard the history
-pub heard_over : (past : List Stamped) (r : Rest) (h : Hearing) (state : JudgeState) (node : Desks) → IsRestOf past r → state ≡ record { links = []; refs = []; lives = map life_of r.residents.items; flights = [] }
+pub heard_over : (past : List Stamped) (r : Rest) (h : Hearing) (state : JudgeState) (node : Desks) → IsRestOf past r → state ≡ record { links = []; refs = []; lives = lives_in r.residents.items; flights = [] }
     → node ≡ record { lanes = []; clocks = r.clocks; newest = stamp_of r.last; begun = r.begun }
     → h ≡ hearing_over r state node
     → IsHeard (record { events = past; left = []; since = r.last }) h

@@ -22,7 +22,6 @@ use Rattle.pt_auditor.specs.declared.hearing.Hearing.{Hearing}
 use Rattle.pt_auditor.specs.declared.hearing.Verdict.{Verdict}
 use Rattle.pt_auditor.specs.Objecting.{contradiction}
 use Rattle.pt_auditor.specs.declared.desks.Desks.{Desks}
-use Rattle.pt_auditor.specs.declared.foreign.Foreign.{Foreign}
 use Rattle.pt_auditor.specs.declared.foreign.NoNode.{NoNode}
 use Rattle.pt_auditor.specs.Lanes.{IsLaid, letters_laid, letters_flying, letters_still, lane, clock_of, stamp_noted}
 use Rattle.pt_auditor.specs.Foreigners.{IsOrigin, IsNoNode, MayBegin, Decides, IsMovedOn, first_foreign, no_node, no_left, may_begin}

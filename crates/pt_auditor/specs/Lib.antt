@@ -8,3 +8,4 @@ pub mod Selecting
 pub mod Standings
 pub mod Text
 pub mod Rests
+pub mod Saving

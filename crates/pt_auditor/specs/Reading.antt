@@ -1,5 +1,5 @@
 -- A text read as the lines of a history.
-use Rattle.std.specs.Prelude.{◌≡◌, ℕ, ◌+◌, ◌-◌, ◌==◌, ◌^◌, min, max, false, cond, ◌⊎◌, List, [], ◌∷◌}
+use Rattle.std.specs.Prelude.{◌≡◌, ℕ, ◌+◌, ◌-◌, ◌==◌, ◌^◌, min, max, false, cond, ◌⊎◌, Option, Some, None, List, [], ◌∷◌}
 use Rattle.std.specs.Prelude.{◌++◌, length, take, slice_index, Result, Ok, Err, ⊤}
 use Rattle.pt_events.specs.declared.event.Stamped.{Stamped}
 use Rattle.pt_events.specs.Text.{stamped_text}
@@ -92,6 +92,12 @@ pub record IsRead (text : List ℕ) (t : Heard) (h : Hearing) (line : List ℕ) 
   pub count_is : count ≡ capped_count (length lines)
   pub tells : HistoryLines lines t.left t.events
   pub heard : IsHeard t h
+
+-- the text ends behind the line feed of its last line, or in the line with this number
+abbrev pub IsTorn : List ℕ → Option ℕ → Type 0
+IsTorn text None = (lines : List (List ℕ)) × (text ≡ joined_lines lines) × ArePlain lines
+IsTorn text (Some n) = (lines : List (List ℕ)) × (line : List ℕ) × (text ≡ joined_lines lines ++ line) × ArePlain lines × IsPlain line
+    × (¬ (line ≡ [])) × (n ≡ capped_count (length lines + 1))
 
 -- the line feed of the line stands there, or the text is over
 abbrev pub LineIsOver : List ℕ → Type 0

@@ -1,5 +1,7 @@
 -- A history at rest: what is known of it, from which another one goes on.
-use Rattle.std.specs.Prelude.{◌≡◌, ℕ, ◌+◌, ◌^◌, min, true, false, Bool, Option, Some, None, List, [], ◌∷◌, ◌++◌, length, map, Result, Ok, Err, ⊤}
+use Rattle.std.specs.Prelude.{◌≡◌, ℕ, zero, suc, ◌+◌, ◌-◌, ◌==◌, nat_le, true, false, ◌&&◌, cond, Option}
+use Rattle.std.specs.Prelude.{Some, None, List, [], ◌∷◌, ◌++◌, length, Result, Ok, Err}
+use Rattle.std.specs.List.{flat_map}
 use Rattle.pt_signal.specs.declared.pid.Pid.{Pid}
 use Rattle.pt_signal.specs.declared.ids.Ref.{Ref}
 use Rattle.pt_signal.specs.declared.ids.Ids.{Ids}
@@ -7,8 +9,10 @@ use Rattle.pt_signal.specs.declared.signal.Signal.{Signal}
 use Rattle.pt_signal.specs.declared.signal.Signal.TheVariants.{LinkExit, Down, Demonitor}
 use Rattle.pt_signal.specs.Process.{ProcessState, Sent, fresh}
 use Rattle.pt_signal.specs.Values.{same_pid}
+use Rattle.pt_signal.specs.contracts.reason.ReasonPartialEq.TheImpl.{ghosts as of_reason}
+use Rattle.pt_signal.specs.declared.reason.Reason.{Reason}
 use Rattle.pt_events.specs.declared.event.Stamped.{Stamped}
-use Rattle.pt_events.specs.History.{Start, Phase, living, ended, unborn, is_unborn, at_start, life, flying, IsLegal}
+use Rattle.pt_events.specs.History.{Phase, living, ended, is_unborn, at_start, life, IsLegal}
 use Rattle.pt_events.specs.Journal.{events}
 use Rattle.pt_events.specs.Leaving.{outcome}
 use Rattle.pt_judge.specs.declared.judging.resumed.Holding.{Holding}
@@ -34,13 +38,21 @@ holds_so h = record {
   traps = h.traps;
 }
 
-abbrev pub life_of : Resident → Pid × Phase
-life_of (Lives p h) = (p, living (holds_so h))
-life_of (Ended p r) = (p, ended r fresh)
+-- so many processes of its slot, from this one on, have ended for this reason
+abbrev pub ended_run : Pid → Reason → ℕ → List (Pid × Phase)
+ended_run p r zero = []
+ended_run p r (suc n) = ended_run p r n ++ (record p { version = p.version + n }, ended r fresh) ∷ []
+
+abbrev pub resident_lives : Resident → List (Pid × Phase)
+resident_lives (Lives p h) = (p, living (holds_so h)) ∷ []
+resident_lives (Ended p last r) = ended_run p r (last + 1 - p.version)
+
+abbrev pub lives_in : List Resident → List (Pid × Phase)
+lives_in residents = flat_map resident_lives residents
 
 -- the processes are those of the state: of one that has ended why, and nothing that it held
 abbrev pub AreResidents : JudgeState → List Resident → Type 0
-AreResidents s residents = (p : Pid) → at_start (map life_of residents) p ≡ outcome (now_is s p)
+AreResidents s residents = (p : Pid) → at_start (lives_in residents) p ≡ outcome (now_is s p)
 
 -- this is known of the history, the newest event first, which a node can print, and in which nothing is on its way
 pub record IsRestOf (past : List Stamped) (r : Rest) : Type 0 where
@@ -48,7 +60,7 @@ pub record IsRestOf (past : List Stamped) (r : Rest) : Type 0 where
   pub rising : EventsAreRising past
   pub of_node : AllFromNode past
   pub still : left_flying past ≡ []
-  pub alike : (p : Pid) → at_start (map life_of r.residents.items) p ≡ outcome (life [] (events past) p)
+  pub alike : (p : Pid) → at_start (lives_in r.residents.items) p ≡ outcome (life [] (events past) p)
   pub clocks : (d : ℕ) → stamp_noted r.clocks d ≡ clock_of d past
   pub last : r.last ≡ newest past
   pub begun : TellsBegin past r.begun
@@ -136,10 +148,21 @@ pub record IsTakenOut (p : Pid) (old new : JudgeState) (h : Holding) : Type 0 wh
 -- the process is listed, unless it was listed before, or was never born
 pub record IsListed (p : Pid) (old : JudgeState) (residents : List Resident) (new : JudgeState) (more : List Resident)
     : Type 0 where
-  pub kept : (q : Pid) → is_unborn (at_start (map life_of residents) q) ≡ false
-      → at_start (map life_of more) q ≡ at_start (map life_of residents) q
-  pub others : (q : Pid) → same_pid q p ≡ false → at_start (map life_of more) q ≡ at_start (map life_of residents) q
+  pub kept : (q : Pid) → is_unborn (at_start (lives_in residents) q) ≡ false
+      → at_start (lives_in more) q ≡ at_start (lives_in residents) q
+  pub others : (q : Pid) → same_pid q p ≡ false → at_start (lives_in more) q ≡ at_start (lives_in residents) q
   pub other_lives : (q : Pid) → same_pid q p ≡ false → now_is new q ≡ now_is old q
-  pub told : is_unborn (at_start (map life_of residents) p) ≡ true → at_start (map life_of more) p ≡ outcome (now_is old p)
-  pub none : is_unborn (at_start (map life_of more) p) ≡ true → now_is new p ≡ now_is old p
+  pub told : is_unborn (at_start (lives_in residents) p) ≡ true → at_start (lives_in more) p ≡ outcome (now_is old p)
+  pub none : is_unborn (at_start (lives_in more) p) ≡ true → now_is new p ≡ now_is old p
   pub still : new.flights ≡ []
+
+-- the run with the process behind it, where that is the next of the slot and ended alike
+abbrev pub run_with : Resident → Pid → Reason → Option Resident
+run_with (Ended q last w) p r =
+    cond ((q.shard == p.shard)
+    && (q.slot == p.slot)
+    && nat_le q.version last
+    && (last + 1 == p.version)
+    && of_reason.eq w r)
+    (Some (Ended q p.version r)) None
+run_with (Lives q h) p r = None

@@ -7,6 +7,8 @@ use Rattle.pt_signal.specs.Text.{pid_text, reason_text, item_text, signal_text, 
 use Rattle.pt_events.specs.Text.{stamped_text}
 use Rattle.pt_judge.specs.Text.{cause_text}
 use Rattle.pt_auditor.specs.declared.hearing.Verdict.{Verdict}
+use Rattle.pt_auditor.specs.declared.saved.Damage.{Damage}
+use Rattle.pt_auditor.specs.declared.saved.Flaw.{Flaw}
 use Rattle.pt_auditor.specs.declared.standing.Standing.{Standing}
 use Rattle.pt_auditor.specs.declared.objection.Contradiction.{Contradiction}
 use Rattle.pt_auditor.specs.declared.objection.Contradiction.TheVariants.{Oldest, First, Dead, Nothing}
@@ -94,3 +96,15 @@ line_fault_text why.Memory = codes "memory refused"
 
 unfoldable pub fault_text : Fault → List ℕ
 fault_text f = codes "line " ++ decimal f.line ++ codes ": " ++ line_fault_text f.why
+
+-- why a line of a state is refused
+unfoldable pub flaw_text : Flaw → List ℕ
+flaw_text Flaw.Unread = codes "no line of a state"
+flaw_text Flaw.Misplaced = codes "a line that may not come here"
+flaw_text Flaw.Sum = codes "the sum is not that of the lines before it"
+flaw_text Flaw.Behind = codes "more comes after the end"
+flaw_text Flaw.Memory = codes "memory refused"
+
+unfoldable pub damage_text : Damage → List ℕ
+damage_text d =
+    codes "line " ++ decimal d.line ++ codes ": column " ++ decimal d.column ++ codes ": " ++ flaw_text d.flaw

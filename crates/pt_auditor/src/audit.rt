@@ -3,7 +3,7 @@
 ghost use Rattle.std.specs.Prelude.{◌≡◌, ℕ, ◌+◌, ◌-◌, ◌^◌, [], List, min, IfOk};
 ghost use Rattle.pt_auditor.specs.Hearings.{Heard, IsHeard};
 ghost use Rattle.pt_events.specs.declared.event.Stamped.{Stamped};
-ghost use Rattle.pt_auditor.specs.Reading.{IsRead, AuditReads, ClosesText, Concludes, Grows};
+ghost use Rattle.pt_auditor.specs.Reading.{IsRead, AuditReads, ClosesText, Concludes, Grows, IsTorn};
 ghost use Rattle.pt_auditor.specs.Rests.{IsRestOf, IsTextOf, RestsText};
 
 use crate::line::hear_line;
@@ -93,6 +93,17 @@ impl Audit {
             }),
             Err(unfit) => Err(unfit),
         }
+    }
+
+    /// The number of the line that has no line feed yet, if there is one.
+    pub fn torn(&self) -> Option<u64>
+        ensures { (text : List ℕ) (heard : Heard) → IsRead text heard self.now.hearing self.now.line.items self.now.lines
+            → IsTorn text result }
+    {
+        if self.line.len() == 0 {
+            return None;
+        }
+        Some(one_more(self.lines))
     }
 
     /// What is known of the history, if it is at rest, so that the next one can go on from it. Fails with

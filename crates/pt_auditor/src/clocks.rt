@@ -1,9 +1,15 @@
 //! The clocks of the desks.
 
-ghost use Rattle.std.specs.Prelude.{◌≡◌, ◌==◌, ℕ, [], cond, OnOk};
+ghost use Rattle.std.specs.Prelude.{◌≡◌, ◌==◌, ◌∷◌, ◌++◌, ℕ, [], true, cond, is_none, string_bytes, OnOk};
+ghost use Rattle.std.specs.List.{flat_map};
+ghost use Rattle.std.specs.Map.{lookup};
+ghost use Rattle.pt_texts.specs.Text.{record_line};
 ghost use Rattle.pt_auditor.specs.Lanes.{stamp_noted};
+ghost use Rattle.pt_auditor.specs.Saving.{clock_record, is_nil};
 
+use crate::saved::write_line;
 use indexmap::IndexMap;
+use pt_texts::Record;
 use std::alloc::{AllocError, Global};
 use std::marker::Model;
 
@@ -38,6 +44,43 @@ impl Clocks {
             Some(stamp) => *stamp,
             None => 0,
         }
+    }
+
+    /// Whether no desk has an event.
+    pub(crate) fn is_empty(&self) -> bool
+        ensures { result ≡ is_nil self.now }
+    {
+        self.stamps.len() == 0
+    }
+
+    /// Whether the desk has no event.
+    pub(crate) fn lacks(&self, desk: u8) -> bool
+        ensures { result ≡ is_none (lookup (λ d. desk == d) self.now) }
+    {
+        self.stamps.get(&desk).is_none()
+    }
+
+    /// The stamp of the newest event of one more desk.
+    pub(crate) fn add(&mut self, desk: u8, stamp: u64) -> Result<(), AllocError>
+        requires { is_none (lookup (λ d. desk == d) self.old) ≡ true }
+        ensures { OnOk result (self.new ≡ self.old ++ (desk, stamp) ∷ []) }
+    {
+        self.stamps.insert(desk, stamp)?;
+        Ok(())
+    }
+
+    /// Writes a line for each desk.
+    pub(crate) fn write(&self, text: &mut String) -> Result<(), AllocError>
+        ensures { OnOk result
+            (string_bytes text.new ≡ string_bytes text.old ++ flat_map (λ c. record_line (clock_record c)) self.now) }
+    {
+        for place in 0..self.stamps.len() {
+            let Some((desk, stamp)) = self.stamps.get_index(place) else {
+                return Ok(());
+            };
+            write_line(Record::Clock(*desk, *stamp), text)?;
+        }
+        Ok(())
     }
 
     pub(crate) fn set(&mut self, desk: u8, stamp: u64) -> Result<(), AllocError>

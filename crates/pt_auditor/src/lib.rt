@@ -8,7 +8,8 @@
 //! letter left over. It takes the bytes in pieces of any size, keeps one line of them, and returns the first line at
 //! fault by its number.
 //!
-//! A [`Rest`] is what is known of a history at rest, so that the history of a node's next epoch can be judged over it.
+//! A [`Rest`] is what is known of a history at rest, so that the history of a node's next epoch can be judged over it. Its
+//! text can be kept in a file until then.
 //!
 //! Tests: `checks/audit` and `checks/tried/test_calls/auditor.rt.txt`.
 //!
@@ -32,6 +33,11 @@
 //!   that no node prints. (`Audit::rest`, `over`, `Hearing::rest`, `over`)
 //! - **A rest.** It has the clocks of the desks, each process that lives with all that it holds, and why each other one
 //!   exited. There is none only if letters are on their way, no node prints the history, or memory is wanting. (`Rest`)
+//! - **Its text.** The text of a rest is read back as that rest, and no other text is read as one. What is read is known of
+//!   each history of which the rest was known. (`Rest::text`, `parse`)
+//! - **A damaged text.** It is refused at its first line that may not stand there, or that is none, and at a column.
+//!   (`IsDamaged`)
+//! - **Torn lines.** `Audit::torn` returns the number of the line that has no line feed yet, if there is one.
 //! - **Faults.** A fault names the first line at fault.
 //! - **Short lines.** Each event and each letter left over prints fewer bytes than a line may have.
 //!   (`lines_are_short`)
@@ -52,6 +58,7 @@ mod laws;
 mod line;
 mod objection;
 mod rest;
+mod saved;
 mod selection;
 mod standing;
 mod text;
@@ -63,5 +70,6 @@ pub use hearing::{Hearing, Verdict};
 pub use laws::lines_are_short;
 pub use objection::{Contradiction, Objection};
 pub use rest::{Resident, Rest, Restless, Unfit};
+pub use saved::{Damage, Flaw};
 pub use selection::Selection;
 pub use standing::Standing;

@@ -1,12 +1,14 @@
 //! A history at rest, from which another one goes on.
 
-ghost use Rattle.std.specs.Prelude.{◌≡◌, ◌∷◌, ◌++◌, [], List, None, true, map, IfOk, OnOk};
+ghost use Rattle.std.specs.Prelude.{◌≡◌, ◌+◌, ◌-◌, ◌∷◌, ◌++◌, [], List, None, true, IfOk, OnOk, IsPermutation};
 ghost use Rattle.std.specs.Map.{keys_of};
 ghost use Rattle.pt_events.specs.declared.event.Stamped.{Stamped};
-ghost use Rattle.pt_events.specs.History.{is_living, state_of};
+ghost use Rattle.pt_signal.specs.Process.{fresh};
+ghost use Rattle.pt_events.specs.History.{ended, is_living, living, state_of};
 ghost use Rattle.pt_judge.specs.Judging.{now_is};
 ghost use Rattle.pt_auditor.specs.Hearings.{Heard, IsHeard};
-ghost use Rattle.pt_auditor.specs.Rests.{AreResidents, IsAdded, IsDrained, IsListed, IsRestOf, IsRestless, IsTakenOut, LeavesRest, life_of};
+ghost use Rattle.pt_auditor.specs.Rests.{AreResidents, IsAdded, IsDrained, IsListed, IsRestOf, IsRestless, IsTakenOut, LeavesRest};
+ghost use Rattle.pt_auditor.specs.Rests.{ended_run, holds_so, lives_in, run_with};
 ghost use Rattle.pt_auditor.specs.Rests.{stamp_of};
 
 use crate::clocks::Clocks;
@@ -18,13 +20,13 @@ use pt_signal::{Ids, Item, Pid, Reason, Ref, Signal};
 use std::alloc::{AllocError, Global};
 use std::collections::VecDeque;
 
-/// What became of a process of a history at rest.
+/// What became of a process of a history at rest, or of several that ended alike.
 #[derive(Drop)]
 pub enum Resident {
     /// It lives, and holds this.
     Lives(Pid, Holding),
-    /// It has exited, for this reason.
-    Ended(Pid, Reason),
+    /// The processes of its slot, from this one up to the one with this version, have exited for this reason.
+    Ended(Pid, u32, Reason),
 }
 
 /// What is known of a history at rest, so that another one can go on from it: what became of its processes, and the
@@ -43,7 +45,7 @@ pub struct Rest {
     pub(crate) begun: bool,
     /// The stamp of each desk's newest event.
     pub(crate) clocks: Clocks,
-    /// The processes, in the order in which they were spawned.
+    /// The processes, in the order of their pids.
     pub(crate) residents: VecDeque<Resident>,
 }
 
@@ -61,17 +63,26 @@ pub enum Restless {
 }
 
 /// The pids of all processes that were born.
-fn born(alloc: Global, state: &State) -> Result<VecDeque<Pid>, AllocError>
+fn born(alloc: Global, state: &State) -> Result<Vec<Pid>, AllocError>
     ensures { IfOk result (λ pids. pids.items ≡ keys_of state.now.lives) }
 {
-    let mut pids = VecDeque::new(alloc);
+    let mut pids = Vec::new(alloc);
     for number in 0..usize::MAX {
         match state.born(number) {
-            Some(pid) => pids.push_back(pid)?,
+            Some(pid) => pids.push(pid)?,
             None => return Ok(pids),
         }
     }
     Err(AllocError)
+}
+
+/// The same, in order.
+fn sorted(alloc: Global, state: &State) -> Result<VecDeque<Pid>, AllocError>
+    ensures { IfOk result (λ pids. IsPermutation (keys_of state.now.lives) pids.items) }
+{
+    let mut pids = born(alloc, state)?;
+    pids.sort_unstable();
+    Ok(VecDeque::from_vec(pids))
 }
 
 /// A copy of the items.
@@ -169,6 +180,44 @@ fn take_out(alloc: Global, state: State, pid: Pid) -> Result<(State, Holding), A
     Ok((state, holding))
 }
 
+/// The run with the process behind it, if that is the next of the slot and ended alike.
+fn run_with(run: &Resident, pid: Pid, reason: Reason) -> Option<Resident>
+    ensures { result ≡ run_with run.now pid reason }
+{
+    let Resident::Ended(first, last, why) = run else {
+        return None;
+    };
+    let is_next = first.shard == pid.shard
+        && first.slot == pid.slot
+        && first.version <= *last
+        && *last < pid.version
+        && pid.version - *last == 1;
+    if is_next && *why == reason {
+        Some(Resident::Ended(*first, pid.version, reason))
+    } else {
+        None
+    }
+}
+
+/// Adds a process that ended for this reason.
+fn add_end(residents: &mut VecDeque<Resident>, pid: Pid, reason: Reason) -> Result<(), AllocError>
+    ensures { OnOk result
+        (lives_in residents.new.items ≡ lives_in residents.old.items ++ (pid, ended reason fresh) ∷ []) }
+{
+    let Some(last) = residents.pop_back() else {
+        residents.push_back(Resident::Ended(pid, pid.version, reason))?;
+        return Ok(());
+    };
+    match run_with(&last, pid, reason) {
+        Some(run) => residents.push_back(run)?,
+        None => {
+            residents.push_back(last)?;
+            residents.push_back(Resident::Ended(pid, pid.version, reason))?;
+        }
+    }
+    Ok(())
+}
+
 /// Adds what became of the process. If it lives, it is taken out of the state.
 fn list(
     alloc: Global,
@@ -181,7 +230,7 @@ fn list(
 {
     let mut residents = residents;
     if let Some(reason) = state.ended(pid) {
-        residents.push_back(Resident::Ended(pid, reason))?;
+        add_end(&mut residents, pid, reason)?;
         return Ok((state, residents));
     }
     if !state.alive(pid) {
@@ -192,12 +241,12 @@ fn list(
     Ok((state, residents))
 }
 
-/// What became of all processes of a state at rest, in the order in which they were spawned.
+/// What became of all processes of a state at rest, in the order of their pids.
 fn residents_of(alloc: Global, state: State) -> Result<VecDeque<Resident>, AllocError>
     requires { state.flights ≡ [] }
     ensures { IfOk result (λ residents. AreResidents state residents.items) }
 {
-    let mut pids = born(alloc, &state)?;
+    let mut pids = sorted(alloc, &state)?;
     let mut state = state;
     let mut residents = VecDeque::new(alloc);
     while let Some(pid) = pids.pop_front() {
@@ -307,36 +356,68 @@ pub enum Unfit {
     Memory,
 }
 
-/// The state with one process more.
-fn with(alloc: Global, state: State, resident: Resident) -> Result<State, Unfit>
-    ensures { IfOk result (λ new. new ≡ record state { lives = state.lives ++ life_of resident ∷ [] }) }
+/// The state with one process more, which lives.
+fn with_living(state: State, pid: Pid, holding: Holding) -> Result<State, Unfit>
+    ensures { IfOk result
+        (λ new. new ≡ record state { lives = state.lives ++ (pid, living (holds_so holding)) ∷ [] }) }
 {
-    let pid = match &resident {
-        Resident::Lives(pid, _) => *pid,
-        Resident::Ended(pid, _) => *pid,
-    };
     if state.alive(pid) || state.ended(pid).is_some() {
         return Err(Unfit::Twice(pid));
     }
-    let made = match resident {
-        Resident::Lives(pid, holding) => state.with_living(pid, holding),
-        Resident::Ended(pid, reason) => state.with_ended(alloc, pid, reason),
-    };
-    match made {
+    match state.with_living(pid, holding) {
         Ok(state) => Ok(state),
         Err(_) => Err(Unfit::Memory),
     }
 }
 
+/// The state with one process more, which has ended.
+fn with_ended(alloc: Global, state: State, pid: Pid, reason: Reason) -> Result<State, Unfit>
+    ensures { IfOk result (λ new. new ≡ record state { lives = state.lives ++ (pid, ended reason fresh) ∷ [] }) }
+{
+    if state.alive(pid) || state.ended(pid).is_some() {
+        return Err(Unfit::Twice(pid));
+    }
+    match state.with_ended(alloc, pid, reason) {
+        Ok(state) => Ok(state),
+        Err(_) => Err(Unfit::Memory),
+    }
+}
+
+/// The state with the processes more that ended for this reason: this one, and those of its slot up to this version.
+fn with_run(
+    alloc: Global,
+    state: State,
+    pid: Pid,
+    last: u32,
+    reason: Reason,
+) -> Result<State, Unfit>
+    ensures { IfOk result
+        (λ new. new ≡ record state { lives = state.lives ++ ended_run pid reason (last + 1 - pid.version) }) }
+{
+    let mut state = state;
+    for version in pid.version as u64..last as u64 + 1 {
+        let next = Pid {
+            shard: pid.shard,
+            slot: pid.slot,
+            version: version as u32,
+        };
+        state = with_ended(alloc, state, next, reason)?;
+    }
+    Ok(state)
+}
+
 /// The state that has these processes.
 fn rebuilt(alloc: Global, residents: VecDeque<Resident>) -> Result<State, Unfit>
     ensures { IfOk result
-        (λ state. state ≡ record { links = []; refs = []; lives = map life_of residents.items; flights = [] }) }
+        (λ state. state ≡ record { links = []; refs = []; lives = lives_in residents.items; flights = [] }) }
 {
     let mut residents = residents;
     let mut state = State::new(alloc);
     while let Some(resident) = residents.pop_front() {
-        state = with(alloc, state, resident)?;
+        state = match resident {
+            Resident::Lives(pid, holding) => with_living(state, pid, holding)?,
+            Resident::Ended(pid, last, reason) => with_run(alloc, state, pid, last, reason)?,
+        };
     }
     Ok(state)
 }

@@ -1,8 +1,10 @@
 //! The texts of verdicts, processes and faults.
 
-#![tactic(auto, unfolding(crate::specs::Text::verdict_text, crate::specs::Text::verdict_text_of, crate::specs::Text::verdict_counts_text, crate::specs::Text::no_node_text, crate::specs::Text::foreign_text, crate::specs::Text::fate_text, crate::specs::Text::standing_text, crate::specs::Text::any_signal_text, crate::specs::Text::any_item_text, crate::specs::Text::absence_text, crate::specs::Text::contradiction_text, crate::specs::Text::objection_text, crate::specs::Text::line_fault_text, crate::specs::Text::fault_text,))]
+#![tactic(auto, unfolding(crate::specs::Text::verdict_text, crate::specs::Text::verdict_text_of, crate::specs::Text::verdict_counts_text, crate::specs::Text::no_node_text, crate::specs::Text::foreign_text, crate::specs::Text::fate_text, crate::specs::Text::standing_text, crate::specs::Text::any_signal_text, crate::specs::Text::any_item_text, crate::specs::Text::absence_text, crate::specs::Text::contradiction_text, crate::specs::Text::objection_text, crate::specs::Text::line_fault_text, crate::specs::Text::fault_text, crate::specs::Text::flaw_text, crate::specs::Text::damage_text,))]
 
-use crate::{Contradiction, Fault, Foreign, NoNode, Objection, Standing, Verdict, Why};
+use crate::{
+    Contradiction, Damage, Fault, Flaw, Foreign, NoNode, Objection, Standing, Verdict, Why,
+};
 use pt_signal::{Item, Reason, Signal};
 use std::fmt;
 
@@ -243,5 +245,34 @@ impl fmt::Display for Fault {
     fn fmt<W: fmt::Write>(&self, f: &mut fmt::Formatter<W>) -> fmt::Result {
         let Fault { line, why } = *self;
         write!(f, "line {line}: {why}")
+    }
+}
+
+impl fmt::Display for Flaw {
+    ghost use Rattle.std.specs.Prelude.{Some};
+    ghost use Rattle.pt_auditor.specs.Text.{flaw_text};
+
+    ghost output = { λ f. Some (flaw_text f) };
+
+    fn fmt<W: fmt::Write>(&self, f: &mut fmt::Formatter<W>) -> fmt::Result {
+        f.write_str(match *self {
+            Flaw::Unread => "no line of a state",
+            Flaw::Misplaced => "a line that may not come here",
+            Flaw::Sum => "the sum is not that of the lines before it",
+            Flaw::Behind => "more comes after the end",
+            Flaw::Memory => "memory refused",
+        })
+    }
+}
+
+impl fmt::Display for Damage {
+    ghost use Rattle.std.specs.Prelude.{Some};
+    ghost use Rattle.pt_auditor.specs.Text.{damage_text};
+
+    ghost output = { λ d. Some (damage_text d) };
+
+    fn fmt<W: fmt::Write>(&self, f: &mut fmt::Formatter<W>) -> fmt::Result {
+        let Damage { line, column, flaw } = *self;
+        write!(f, "line {line}: column {column}: {flaw}")
     }
 }

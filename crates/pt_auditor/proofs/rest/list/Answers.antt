@@ -1,11 +1,12 @@
 -- `list`: its contract.
-use Rattle.std.proofs.Common.{refl, ap, sym, subst, ◌∙◌}
+use Rattle.std.proofs.Common.{[], ◌∷◌, ◌++◌, refl, ap, sym, subst, ◌∙◌}
+use Rattle.std.proofs.lemmas.Grind.{flat_map-append}
 use Rattle.pt_signal.specs.Process.{fresh}
 use Rattle.pt_events.specs.History.{living, ended}
 use Rattle.pt_events.specs.Leaving.{outcome}
 use Rattle.pt_judge.specs.Judging.{now_is}
-use Rattle.pt_auditor.specs.declared.rest.Resident.TheVariants.{Lives, Ended}
-use Rattle.pt_auditor.specs.Rests.{IsListed, holds_so}
+use Rattle.pt_auditor.specs.declared.rest.Resident.TheVariants.{Lives}
+use Rattle.pt_auditor.specs.Rests.{IsListed, holds_so, resident_lives}
 use Rattle.pt_auditor.proofs.Resting.{listed, not_listed, reason_outcome}
 use Rattle.pt_auditor.proofs.rest.list.Goals as goal
 
@@ -13,10 +14,8 @@ pub returns-in-Some : goal.returns-in-Some
 returns-in-Some c =
     let p = c.args.pid in
     let s = c.args.state in
-    let rs = c.args.residents.items in
     let r = c.in-Some.reason in
-    subst (IsListed p s rs s) (sym c.in_ok-push_back.ensures.items)
-    (listed p (ended r fresh) s s rs (Ended p r) refl refl (reason_outcome (now_is s p) r c.in-Some.ensures) refl (λ q a. refl) c.requires)
+    listed p (ended r fresh) s s c.args.residents.items _ c.in_ok-add_end.ensures (reason_outcome (now_is s p) r c.in-Some.ensures) refl (λ q a. refl) c.requires
 
 pub returns-then-not-alive : goal.returns-then-not-alive
 returns-then-not-alive c =
@@ -30,5 +29,5 @@ returns c =
     let new = c.in_ok-state.state in
     let h = c.in_ok-state.holding in
     let out = c.in_ok-state.ensures in
-    subst (IsListed p s rs new) (sym c.in_ok-push_back-2.ensures.items)
-    (listed p (living (holds_so h)) s new rs (Lives p h) refl refl (ap outcome out.held) refl out.others out.still)
+    subst (IsListed p s rs new) (sym c.in_ok-push_back.ensures.items)
+    (listed p (living (holds_so h)) s new rs (rs ++ Lives p h ∷ []) (flat_map-append resident_lives rs (Lives p h ∷ [])) (ap outcome out.held) refl out.others out.still)

@@ -1,5 +1,5 @@
 -- `Audit::read`: its contract, and its loop over `place`.
-use Rattle.std.proofs.Common.{◌+◌, ◌-◌, ◌^◌, ◌++◌, ◌∙◌, min, take, drop, get_or, refl, sym, subst}
+use Rattle.std.proofs.Common.{◌+◌, ◌-◌, ◌^◌, ◌++◌, min, take, drop, get_or, refl, sym, subst}
 use Rattle.std.proofs.lemmas.List.{take_all}
 use Rattle.pt_auditor.specs.declared.fault.Fault.{Fault}
 use Rattle.pt_auditor.specs.Reading.{without_return, OneMore, IsFault, IsRead, IsFaulty}

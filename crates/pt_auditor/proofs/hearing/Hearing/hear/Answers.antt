@@ -1,5 +1,5 @@
 -- `Hearing::hear`: what was heard after one event more.
-use Rattle.std.proofs.Common.{[], refl, subst}
+use Rattle.std.proofs.Common.{refl, subst}
 use Rattle.pt_events.specs.Journal.{events}
 use Rattle.pt_auditor.specs.Hearings.{MayHear, Objects}
 use Rattle.pt_auditor.proofs.Rested.{after_next}

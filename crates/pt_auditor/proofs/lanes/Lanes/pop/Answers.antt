@@ -1,7 +1,7 @@
 -- `Lanes::pop`: its contract.
 use Rattle.std.proofs.Common.{◌≡◌, Some, [], drop, unwrap_or, ap, ◌∙◌, subst}
 use Rattle.pt_auditor.specs.Lanes.{Laid, IsLaid, letters_laid}
-use Rattle.pt_auditor.proofs.Laid.{updated, is_there, none_laid}
+use Rattle.pt_auditor.proofs.Laid.{updated, is_there}
 use Rattle.pt_auditor.proofs.lanes.Lanes.pop.Goals as goal
 
 pub returns : goal.returns

@@ -1,0 +1,18 @@
+-- `add`: its contract.
+use Rattle.std.proofs.Common.{◌≡◌, ℕ, ◌==◌, true, Option, Some, None, ◌∷◌, ◌++◌, [], refl, ap, ◌∙◌}
+use Rattle.std.specs.Prelude.{is_none}
+use Rattle.std.specs.Map.{lookup}
+use Rattle.indexmap.proofs.CallerLemmas.{insert_entry-new}
+use Rattle.pt_auditor.proofs.clocks.Clocks.add.Goals as goal
+
+absent : (o : Option ℕ) → is_none o ≡ true → o ≡ None
+absent None h = refl
+absent (Some n) h = absurd (cc)
+
+pub returns : goal.returns
+returns c =
+    let d = c.args.desk in
+    let none = absent (lookup (λ k. d == k) c.args.self.now) c.requires in
+    c.in_ok-insert.ensures.entries
+    ∙ insert_entry-new _ c.self.inside.stamps d c.args.stamp (ap (lookup (λ k. d == k)) c.self.view_is ∙ none)
+    ∙ ap (λ z. z ++ (d, c.args.stamp) ∷ []) c.self.view_is
