@@ -183,6 +183,13 @@ echo "c: examples passed"
 )
 echo "rust: tests, pages and examples passed"
 
+# The chat server under its load: nothing lost or out of order, each crash one DOWN, idle it rests, and its history is legal
+"$here/../.ci/build" pt_audit >"$work/printed"
+chat=$CARGO_TARGET_DIR/debug/examples
+timeout 120 "$chat/chat_load" "$chat/chat" "$work/chat.history" 40 10 3 10
+"$here/../bin/pt_audit" "$work/chat.history"
+echo "rust: the chat server passed"
+
 # Python: tests beside the sources, and the package as pip installs it, without a network
 (
     cd "$here/python"

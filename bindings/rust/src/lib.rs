@@ -25,6 +25,9 @@
 //! # Ok::<(), pundewo::Fault>(())
 //! ```
 //!
+//! A program whose processes run code takes [`runtime`]: typed messages, and a thread for each desk. A program with threads
+//! of its own takes a [`Crew`] for each desk, which says which process is told what.
+//!
 //! # Errors
 //!
 //! A call that fails has changed nothing, but the journal notes one that fails with [`Fault::NoProc`]. Two errors may come
@@ -38,7 +41,7 @@
 //! Nothing checks a Rust call against that contract: each function here meets what the one that it calls asks of its
 //! caller. Handles begin empty, are never copied, and are lent to one call at a time: they are private, a call that
 //! changes has `&mut`, and a reader locks the handle while it reads. [`gather`] tests that it has all desks of one
-//! [`open`] or one [`resume`](Quiet::resume), each once and in order.
+//! [`open`] or one [`resume`](Quiet::resume), each once and in order, and a [`Crew`] that it is used with its own desk.
 //!
 //! So all types are `Send` and `Sync`, errors too. Two threads cannot change one desk at the same time:
 //!
@@ -56,12 +59,20 @@
 #[doc = include_str!("../README.md")]
 struct Readme;
 
+#[cfg(doctest)]
+#[doc = include_str!("../../../docs/RUNTIME_RUST.md")]
+struct Page;
+
+mod crew;
 mod iterators;
 #[doc(hidden)]
 pub mod raw;
 mod reading;
+#[forbid(unsafe_code)]
+pub mod runtime;
 mod values;
 
+pub use crew::{Crew, Job, Next, NotTaken, What};
 pub use iterators::{Events, Journal, LeftOvers, Links, Living, Monitors, Pids, Waiting, Watchers};
 pub use reading::NotRead;
 pub use values::{
@@ -131,7 +142,16 @@ fn fault_of(code: u32) -> Fault {
         14 => Fault::BadLane,
         15 => Fault::BadStart,
         16 => Fault::BadCode,
+        17 => Fault::NotRunning,
         _ => unreachable!("the library answered {code}"),
+    }
+}
+
+impl From<RawTurned> for Turned {
+    #[inline]
+    fn from(raw: RawTurned) -> Turned {
+        let stopped = (raw.stopped != OK).then(|| fault_of(raw.stopped));
+        Turned { posted: raw.posted, handled: raw.handled, stopped }
     }
 }
 
@@ -150,6 +170,19 @@ fn found<T>(code: u32, value: T) -> Option<T> {
     }
 }
 
+/// What a node keeps through all that is made of it: which `open` it comes from, and how many slots a desk has.
+#[derive(Clone, Copy)]
+struct Origin {
+    opened: u64,
+    slots: u32,
+}
+
+/// A number that no other call gives.
+fn fresh() -> u64 {
+    static NUMBERS: AtomicU64 = AtomicU64::new(0);
+    NUMBERS.fetch_add(1, Ordering::Relaxed)
+}
+
 /// A desk of a node. Dropped, it is given up, with its processes and its journal.
 pub struct Desk {
     // from `open` on it has a desk, until it is dropped or gathered
@@ -157,7 +190,7 @@ pub struct Desk {
     node: u64,
     number: u8,
     count: usize,
-    slots: u32,
+    origin: Origin,
 }
 
 impl Drop for Desk {
@@ -174,10 +207,9 @@ impl fmt::Debug for Desk {
 }
 
 /// The desks of a new node, each with one of these handles.
-fn desks_of(handles: Vec<Handle>, slots: u32) -> Vec<Desk> {
-    static NODES: AtomicU64 = AtomicU64::new(0);
-    let (node, count) = (NODES.fetch_add(1, Ordering::Relaxed), handles.len());
-    let desk_of = |(handle, number)| Desk { handle: Held::new(handle), node, number, count, slots };
+fn desks_of(handles: Vec<Handle>, origin: Origin) -> Vec<Desk> {
+    let (node, count) = (fresh(), handles.len());
+    let desk_of = |(handle, number)| Desk { handle: Held::new(handle), node, number, count, origin };
     handles.into_iter().zip(0..).map(desk_of).collect()
 }
 
@@ -195,7 +227,7 @@ pub fn open(count: usize, config: Config) -> Result<Vec<Desk>, Fault> {
     let mut handles: Vec<Handle> = (0..count).map(|_| NONE).collect();
     // SAFETY: the handles are empty, and as many as are told.
     told(unsafe { raw::pt_open(handles.as_mut_ptr(), count, config) })?;
-    Ok(desks_of(handles, config.slots))
+    Ok(desks_of(handles, Origin { opened: fresh(), slots: config.slots }))
 }
 
 /// The desks that were not gathered, as they were, and why.
@@ -240,7 +272,7 @@ pub fn gather(mut desks: Vec<Desk>) -> Result<Gathered, DesksBack> {
     // SAFETY: these are all desks of one node, each once and in order, and the handle of the node is empty.
     let code = unsafe { raw::pt_gather(handles.as_mut_ptr(), handles.len(), &mut handle) };
     if code == OK {
-        return Ok(Gathered { handle: Held::new(handle), slots: desks[0].slots });
+        return Ok(Gathered { handle: Held::new(handle), origin: desks[0].origin });
     }
     for (desk, handle) in desks.iter_mut().zip(handles) {
         *desk.handle.own() = handle;
@@ -446,8 +478,7 @@ impl Desk {
     pub fn turn(&mut self, budget: u32) -> Turned {
         let mut out = RawTurned::default();
         unsafe { raw::pt_turn(self.handle.own(), budget, &mut out) };
-        let stopped = (out.stopped != OK).then(|| fault_of(out.stopped));
-        Turned { posted: out.posted, handled: out.handled, stopped }
+        out.into()
     }
 
     /// The stamp of the newest event, or the start of the clock.
@@ -557,7 +588,7 @@ impl Desk {
     /// The live processes of the desk, by slot: Erlang's `processes/0`. It looks into each slot.
     #[inline]
     pub fn pids(&self) -> Living<'_> {
-        Living::new(self, 0..self.slots)
+        Living::new(self, 0..self.origin.slots)
     }
 
     /// The ids under which p is linked with another process, or `None` if there is no link, or p is not alive here. This is p's
@@ -601,7 +632,7 @@ impl Desk {
 /// The desks of a node at rest, and the letters left over. Dropped, it is given up.
 pub struct Gathered {
     handle: Held,
-    slots: u32,
+    origin: Origin,
 }
 
 impl fmt::Debug for Gathered {
@@ -669,7 +700,7 @@ impl Gathered {
     pub fn settle(mut self) -> Result<Quiet, Unsettled> {
         let mut handle = NONE;
         match unsafe { raw::pt_settle(self.handle.own(), &mut handle) } {
-            OK => Ok(Quiet { handle: Held::new(handle), slots: self.slots }),
+            OK => Ok(Quiet { handle: Held::new(handle), origin: self.origin }),
             code => Err(Unsettled { fault: fault_of(code), gathered: self }),
         }
     }
@@ -683,7 +714,7 @@ impl Gathered {
     pub fn settle_unlisted(mut self) -> Result<Settled, Unsettled> {
         let mut handle = NONE;
         match unsafe { raw::pt_settle_unlisted(self.handle.own(), &mut handle) } {
-            OK => Ok(Settled { handle: Held::new(handle), slots: self.slots }),
+            OK => Ok(Settled { handle: Held::new(handle), origin: self.origin }),
             code => Err(Unsettled { fault: fault_of(code), gathered: self }),
         }
     }
@@ -692,7 +723,7 @@ impl Gathered {
 /// A settled node without the list of its pids. Dropped, it is given up.
 pub struct Settled {
     handle: Held,
-    slots: u32,
+    origin: Origin,
 }
 
 impl fmt::Debug for Settled {
@@ -783,7 +814,7 @@ impl Settled {
         let mut handles: Vec<Handle> = (0..count).map(|_| NONE).collect();
         // SAFETY: the handles are empty, and as many as are told.
         match unsafe { raw::pt_resume_settled(self.handle.own(), handles.as_mut_ptr(), count) } {
-            OK => Ok(desks_of(handles, self.slots)),
+            OK => Ok(desks_of(handles, self.origin)),
             code => Err(SettledBack { fault: fault_of(code), settled: self }),
         }
     }
@@ -796,7 +827,7 @@ impl Settled {
     pub fn into_quiet(mut self) -> Result<Quiet, SettledBack> {
         let mut handle = NONE;
         match unsafe { raw::pt_settled_into_quiet(self.handle.own(), &mut handle) } {
-            OK => Ok(Quiet { handle: Held::new(handle), slots: self.slots }),
+            OK => Ok(Quiet { handle: Held::new(handle), origin: self.origin }),
             code => Err(SettledBack { fault: fault_of(code), settled: self }),
         }
     }
@@ -805,7 +836,7 @@ impl Settled {
 /// A node in which no letter is left over. Dropped, it is given up.
 pub struct Quiet {
     handle: Held,
-    slots: u32,
+    origin: Origin,
 }
 
 impl fmt::Debug for Quiet {
@@ -891,7 +922,7 @@ impl Quiet {
         let mut handles: Vec<Handle> = (0..count).map(|_| NONE).collect();
         // SAFETY: the handles are empty, and as many as are told.
         match unsafe { raw::pt_resume(self.handle.own(), handles.as_mut_ptr(), count) } {
-            OK => Ok(desks_of(handles, self.slots)),
+            OK => Ok(desks_of(handles, self.origin)),
             code => Err(Resting { fault: fault_of(code), quiet: self }),
         }
     }

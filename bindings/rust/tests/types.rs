@@ -1,8 +1,8 @@
 //! What the types promise: errors go to other threads and say why, printed texts read back, and readers take `&self`.
 
 use pundewo::{
-    Account, Body, Config, Desk, DesksBack, Event, Fault, Gathered, Happened, History, Ids, Item, LeftOver, LinkId,
-    NotRead, Pick, Pid, Quiet, Reason, Ref, Resting, Signal, Turned, Unsettled, gather, open,
+    Account, Body, Config, Crew, Desk, DesksBack, Event, Fault, Gathered, Happened, History, Ids, Item, Job, LeftOver,
+    LinkId, Next, NotRead, NotTaken, Pick, Pid, Quiet, Reason, Ref, Resting, Signal, Turned, Unsettled, gather, open, runtime,
 };
 use std::collections::{BTreeSet, HashSet};
 use std::error::Error;
@@ -19,6 +19,11 @@ fn errors_go_to_other_threads() {
     goes::<Unsettled>();
     goes::<Resting>();
     goes::<NotRead>();
+    goes::<NotTaken>();
+    goes::<runtime::StartFault>();
+    goes::<runtime::SpawnFault>();
+    goes::<runtime::StopFault>();
+    goes::<runtime::CallFault>();
 }
 
 #[test]
@@ -29,6 +34,13 @@ fn types_go_to_other_threads_and_are_printed() {
     goes::<Quiet>();
     goes::<History>();
     goes::<Config>();
+    goes::<Crew>();
+    goes::<runtime::Runtime>();
+    goes::<runtime::Handle>();
+    goes::<runtime::Address<Vec<u8>>>();
+    goes::<runtime::Call<u8>>();
+    goes::<runtime::Timer>();
+    goes::<runtime::Halted>();
 }
 
 #[test]
@@ -46,6 +58,9 @@ fn values_are_keys() {
     key::<Account>();
     key::<Turned>();
     key::<Fault>();
+    key::<Next>();
+    key::<Job>();
+    key::<NotTaken>();
     in_order::<Pid>();
     in_order::<Ref>();
     in_order::<LinkId>();

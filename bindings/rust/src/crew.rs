@@ -1,0 +1,337 @@
+//! The processes of one desk whose handlers are the program's own.
+
+use crate::raw::{self, RawAnswer, RawJob, RawNext, RawTurned};
+use crate::{Desk, Fault, Held, Item, NONE, OK, Pick, Pid, Reason, Turned, fault_of, found, told};
+use std::fmt;
+
+/// What a process of a [`Crew`] does next.
+#[derive(Clone, Copy, Debug, PartialEq, Eq, PartialOrd, Ord, Hash)]
+pub enum Next {
+    /// It waits for an item that the pick takes.
+    Wait(Pick),
+    /// The same, but no longer than until this time ([`Crew::set_time`]).
+    WaitUntil(Pick, u64),
+    /// It is told to proceed as soon as its turn comes.
+    Proceed,
+    /// It exits with this reason, and is told so.
+    Stop(Reason),
+    /// It was told something, and is told nothing until it is answered.
+    Running,
+}
+
+/// What the handler of a process is told.
+#[derive(Clone, Copy, Debug, PartialEq, Eq, PartialOrd, Ord, Hash)]
+pub enum What {
+    /// It begins: it was to proceed, and has been told nothing before.
+    Start,
+    /// It proceeds, as it was answered.
+    Proceed,
+    /// It gets this item, which it waited for and which is out of its mailbox.
+    Item(Item),
+    /// The time until which it waited has come, and no item fits.
+    Timeout,
+    /// It has exited with this reason, and this is what it was to do: [`Next::Running`], if it was told something that
+    /// nobody answered. It is told once, and the process is none of the crew then: it gets no answer.
+    ///
+    /// The reason is that of its own exit, by [`Next::Stop`] or [`Desk::exit`]. It is [`Reason::Noproc`] if an exit signal
+    /// ended the process, or if it exited while its node was settled.
+    Exit(Reason, Next),
+}
+
+/// What a process is told, and which process it is.
+#[derive(Clone, Copy, Debug, PartialEq, Eq, PartialOrd, Ord, Hash)]
+pub struct Job {
+    /// The process.
+    pub pid: Pid,
+    /// What it was spawned with.
+    pub tag: u64,
+    /// What it is told.
+    pub what: What,
+}
+
+/// An answer that was refused. All before it were taken, and it has changed nothing.
+#[derive(Clone, Copy, Debug, PartialEq, Eq, Hash)]
+pub struct NotTaken {
+    /// How many answers were taken.
+    pub taken: usize,
+    /// Why the next one was not.
+    pub fault: Fault,
+}
+
+impl fmt::Display for NotTaken {
+    fn fmt(&self, f: &mut fmt::Formatter<'_>) -> fmt::Result {
+        write!(f, "the answer at place {} is refused: {}", self.taken, self.fault)
+    }
+}
+
+impl std::error::Error for NotTaken {}
+
+/// The processes of one desk whose handlers are the program's own: it says which is to run, and with what.
+///
+/// A loop is: [`step`](Crew::step); for each job its handler, which makes calls of the desk as it likes; and for each job
+/// but [`What::Exit`] an answer, then or later, by [`answer`](Crew::answer). A handler takes no item from the mailbox of
+/// a process of the crew by itself. What the handlers sent is on its way by the next step, whose turn posts it first.
+///
+/// No wake-up is lost: a process of the crew that has something to do is in the queue, or the next step finds it. If the
+/// crew is idle ([`is_idle`](Crew::is_idle)) and no letter waits ([`Desk::pending`]), nothing is to be done before the
+/// time that [`next_time`](Crew::next_time) returns, unless another desk sends something.
+///
+/// ```
+/// use pundewo::{Config, Crew, Job, Next, Pick, Reason, What, open};
+///
+/// let mut desks = open(1, Config::default())?;
+/// let mut crew = Crew::new(&desks[0])?;
+/// let pid = crew.spawn(&mut desks[0], 7, Next::Proceed)?;
+/// let mut jobs = Vec::new();
+/// crew.step(&mut desks[0], 64, 64, &mut jobs)?;
+/// assert_eq!(jobs, [Job { pid, tag: 7, what: What::Start }]);
+/// crew.answer(&[(pid, Next::Stop(Reason::Normal))]).unwrap();
+/// crew.step(&mut desks[0], 64, 64, &mut jobs)?;
+/// assert_eq!(jobs[0].what, What::Exit(Reason::Normal, Next::Stop(Reason::Normal)));
+/// # Ok::<(), pundewo::Fault>(())
+/// ```
+pub struct Crew {
+    handle: Held,
+    // the desk that it is of: the node's `open`, the node as it was opened or resumed, and the number
+    opened: u64,
+    node: u64,
+    number: u8,
+    told: Vec<RawJob>,
+    answers: Vec<RawAnswer>,
+}
+
+impl fmt::Debug for Crew {
+    fn fmt(&self, f: &mut fmt::Formatter<'_>) -> fmt::Result {
+        write!(f, "Crew {{ desk: {}, .. }}", self.number)
+    }
+}
+
+impl Drop for Crew {
+    fn drop(&mut self) {
+        // SAFETY: the handle is the only one of its crew, or empty, which is answered by a code.
+        unsafe { raw::pt_crew_give_up(self.handle.own()) };
+    }
+}
+
+// SAFETY of the calls below: the handle is the only one of its crew, and this call alone has it, by `&mut self` or by its
+// lock; the crew is used with its own desk alone (`is_of`); the references are to separate values.
+impl Crew {
+    /// Begins the crew of this desk, with no process and at the time 0.
+    ///
+    /// # Errors
+    ///
+    /// [`Fault::Memory`], if there is none.
+    pub fn new(desk: &Desk) -> Result<Crew, Fault> {
+        let mut handle = NONE;
+        told(unsafe { raw::pt_crew_open(&mut handle) })?;
+        let Desk { origin, node, number, .. } = *desk;
+        Ok(Crew { handle: Held::new(handle), opened: origin.opened, node, number, told: vec![], answers: vec![] })
+    }
+
+    fn is_of(&self, desk: &Desk) -> Result<(), Fault> {
+        if (self.node, self.number) == (desk.node, desk.number) { Ok(()) } else { Err(Fault::WrongDesk) }
+    }
+
+    /// Spawns a process on the desk as [`Desk::spawn`] does. It is of the crew then, with this tag, and does `first` next:
+    /// if that is [`Next::Proceed`], it is told [`What::Start`] first.
+    ///
+    /// # Errors
+    ///
+    /// [`Fault::WrongDesk`], else as [`Desk::spawn`].
+    #[inline]
+    pub fn spawn(&mut self, desk: &mut Desk, tag: u64, first: Next) -> Result<Pid, Fault> {
+        self.is_of(desk)?;
+        let mut out = Pid::default();
+        let code = unsafe { raw::pt_crew_spawn(self.handle.own(), desk.handle.own(), tag, first.into(), &mut out) };
+        told(code)?;
+        Ok(out)
+    }
+
+    /// Spawns a child of the parent as [`Desk::spawn_child`] does, else as [`spawn`](Crew::spawn).
+    ///
+    /// # Errors
+    ///
+    /// [`Fault::WrongDesk`], else as [`Desk::spawn_child`].
+    #[inline]
+    pub fn spawn_child(
+        &mut self,
+        desk: &mut Desk,
+        parent: Pid,
+        linked: bool,
+        tag: u64,
+        first: Next,
+    ) -> Result<Pid, Fault> {
+        self.is_of(desk)?;
+        let (mut out, first) = (Pid::default(), first.into());
+        let (crew, desk) = (self.handle.own(), desk.handle.own());
+        told(unsafe { raw::pt_crew_spawn_child(crew, desk, parent, linked, tag, first, &mut out) })?;
+        Ok(out)
+    }
+
+    /// Does a step: a turn of the desk with this budget; then it reads what is new, wakes whose time has come, and runs
+    /// the processes that are in the queue, in order, until there are `most` jobs or each was come to once. `jobs` holds
+    /// these jobs then, and no others. No process is in it twice. A process that was told anything but [`What::Exit`] is
+    /// running.
+    ///
+    /// If there was no memory or no stamp for a process, it stays in the queue, and [`refused`](Crew::refused) is true.
+    ///
+    /// # Errors
+    ///
+    /// [`Fault::WrongDesk`], and then `jobs` is as it was.
+    pub fn step(&mut self, desk: &mut Desk, budget: u32, most: usize, jobs: &mut Vec<Job>) -> Result<Turned, Fault> {
+        self.is_of(desk)?;
+        self.told.resize(most, RawJob::default());
+        let (mut count, mut turned, buffer) = (0, RawTurned::default(), self.told.as_mut_ptr());
+        let (crew, desk) = (self.handle.own(), desk.handle.own());
+        told(unsafe { raw::pt_crew_step(crew, desk, budget, buffer, most, &mut count, &mut turned) })?;
+        jobs.clear();
+        jobs.extend(self.told[..count].iter().map(|&job| Job::from(job)));
+        Ok(turned.into())
+    }
+
+    /// Says what running processes do next. The answers are taken in order, up to the first that is refused.
+    ///
+    /// # Errors
+    ///
+    /// [`Fault::NotRunning`], if the process of an answer is not running or none of the crew. By that answer nothing has
+    /// changed.
+    pub fn answer(&mut self, answers: &[(Pid, Next)]) -> Result<(), NotTaken> {
+        let raw_of = |&(pid, next): &(Pid, Next)| RawAnswer { pid, next: next.into() };
+        self.answers.clear();
+        self.answers.extend(answers.iter().map(raw_of));
+        let (mut taken, buffer) = (0, self.answers.as_ptr());
+        match unsafe { raw::pt_crew_answer(self.handle.own(), buffer, answers.len(), &mut taken) } {
+            OK => Ok(()),
+            code => Err(NotTaken { taken, fault: fault_of(code) }),
+        }
+    }
+
+    /// Says what time it is in the calls that follow, in a unit of the program's own.
+    #[inline]
+    pub fn set_time(&mut self, now: u64) {
+        unsafe { raw::pt_crew_set_time(self.handle.own(), now) };
+    }
+
+    /// Goes on over a desk of the resumed node, the one of the same number. Each process is in the queue then, does next
+    /// what it was to do, and is told by the next steps that it has exited, if it did in settling.
+    ///
+    /// # Errors
+    ///
+    /// [`Fault::WrongDesk`], else [`Fault::Memory`], and then it may be called again.
+    pub fn begin_again(&mut self, desk: &Desk) -> Result<(), Fault> {
+        if (self.opened, self.number) != (desk.origin.opened, desk.number) {
+            return Err(Fault::WrongDesk);
+        }
+        told(unsafe { raw::pt_crew_begin_again(self.handle.own()) })?;
+        self.node = desk.node;
+        Ok(())
+    }
+
+    /// The earliest time until which a process waits that is not in the queue, or `None` if there is none.
+    #[inline]
+    pub fn next_time(&self) -> Option<u64> {
+        let mut out = 0;
+        let code = unsafe { raw::pt_crew_next_time(&mut self.handle.lent(), &mut out) };
+        found(code, out)
+    }
+
+    /// The tag of a process, or `None` if it is none of the crew.
+    #[inline]
+    pub fn tag(&self, p: Pid) -> Option<u64> {
+        let mut out = 0;
+        let code = unsafe { raw::pt_crew_tag(&mut self.handle.lent(), p, &mut out) };
+        found(code, out)
+    }
+
+    /// What a process does next, or `None` if it is none of the crew.
+    #[inline]
+    pub fn next(&self, p: Pid) -> Option<Next> {
+        let mut out = RawNext::default();
+        let code = unsafe { raw::pt_crew_next(&mut self.handle.lent(), p, &mut out) };
+        found(code, out.into())
+    }
+
+    /// How many processes it has.
+    #[inline]
+    pub fn len(&self) -> usize {
+        let mut out = 0;
+        unsafe { raw::pt_crew_len(&mut self.handle.lent(), &mut out) };
+        out
+    }
+
+    /// Whether it has no process.
+    #[inline]
+    pub fn is_empty(&self) -> bool {
+        self.len() == 0
+    }
+
+    /// How many of its processes may have something to do.
+    #[inline]
+    pub fn queued(&self) -> usize {
+        let mut out = 0;
+        unsafe { raw::pt_crew_queued(&mut self.handle.lent(), &mut out) };
+        out
+    }
+
+    /// Whether none is in the queue, and all that happened on the desk was read.
+    ///
+    /// # Errors
+    ///
+    /// [`Fault::WrongDesk`].
+    #[inline]
+    pub fn is_idle(&self, desk: &Desk) -> Result<bool, Fault> {
+        self.is_of(desk)?;
+        let mut out = false;
+        unsafe { raw::pt_crew_is_idle(&mut self.handle.lent(), &mut desk.handle.lent(), &mut out) };
+        Ok(out)
+    }
+
+    /// Whether a process was refused memory or a stamp in the last step.
+    #[inline]
+    pub fn refused(&self) -> bool {
+        let mut out = false;
+        unsafe { raw::pt_crew_refused(&mut self.handle.lent(), &mut out) };
+        out
+    }
+}
+
+impl From<Next> for RawNext {
+    #[inline]
+    fn from(next: Next) -> RawNext {
+        let blank = RawNext::default();
+        match next {
+            Next::Wait(pick) => RawNext { code: 0, pick: pick.into(), ..blank },
+            Next::WaitUntil(pick, until) => RawNext { code: 1, pick: pick.into(), until, ..blank },
+            Next::Proceed => RawNext { code: 2, ..blank },
+            Next::Stop(reason) => RawNext { code: 3, reason: reason.into(), ..blank },
+            Next::Running => RawNext { code: 4, ..blank },
+        }
+    }
+}
+
+impl From<RawNext> for Next {
+    #[inline]
+    fn from(raw: RawNext) -> Next {
+        match raw.code {
+            0 => Next::Wait(raw.pick.into()),
+            1 => Next::WaitUntil(raw.pick.into(), raw.until),
+            2 => Next::Proceed,
+            3 => Next::Stop(raw.reason.into()),
+            _ => Next::Running,
+        }
+    }
+}
+
+impl From<RawJob> for Job {
+    #[inline]
+    fn from(raw: RawJob) -> Job {
+        let what = match raw.code {
+            0 => What::Start,
+            1 => What::Proceed,
+            2 => What::Item(raw.item.into()),
+            3 => What::Timeout,
+            _ => What::Exit(raw.reason.into(), raw.was.into()),
+        };
+        Job { pid: raw.pid, tag: raw.tag, what }
+    }
+}

@@ -1,0 +1,109 @@
+//! What a process does, and what it is told.
+
+use super::calls::Answer;
+use super::context::Context;
+use super::hub::Hub;
+use crate::{Pick, Pid, Reason, Ref, crew};
+use std::sync::Arc;
+use std::time::Duration;
+
+/// What a process does with what it is told. Its state is the value itself.
+///
+/// A panic in [`started`](Behaviour::started) or [`handle`](Behaviour::handle) is a crash: the process exits with
+/// [`PANIC`](super::PANIC), its monitors and links hear of it, and the thread goes on. A handler should not wait: while it
+/// does, all processes of its desk do.
+pub trait Behaviour: Sized + Send + 'static {
+    /// What is sent to it.
+    type Message: Send + 'static;
+
+    /// It begins. It waits for whatever comes, unless this says something else.
+    fn started(&mut self, cx: &mut Context<'_, Self::Message>) -> Next {
+        let _ = cx;
+        Next::Wait
+    }
+
+    /// It is told this, and says what it does next.
+    fn handle(&mut self, cx: &mut Context<'_, Self::Message>, event: Event<Self::Message>) -> Next;
+
+    /// The process has exited, in whatever way. The reason is that of its own exit: [`Next::Stop`] or
+    /// [`PANIC`](super::PANIC). It is [`Reason::Noproc`] if an exit signal ended it.
+    fn ended(self, why: Reason) {
+        let _ = why;
+    }
+}
+
+/// What a process is told.
+#[derive(Debug)]
+#[non_exhaustive]
+pub enum Event<M> {
+    /// A message.
+    Message(M),
+    /// A process that it monitors has exited.
+    Down(Down),
+    /// An exit signal, which it traps.
+    Exit(Exit),
+    /// A call of its own has ended.
+    Answer(Answer),
+    /// The time for which it waited is over, and nothing else came.
+    Timeout,
+    /// It proceeds, as it said.
+    Proceed,
+}
+
+/// The one news of a monitor.
+#[derive(Clone, Debug, PartialEq, Eq, Hash)]
+pub struct Down {
+    /// The monitor.
+    pub monitor: Ref,
+    /// The process that has exited.
+    pub pid: Pid,
+    /// Why.
+    pub reason: Reason,
+    /// The text of its panic, if that is how it exited.
+    pub panic: Option<Arc<str>>,
+}
+
+/// An exit signal.
+#[derive(Clone, Debug, PartialEq, Eq, Hash)]
+pub struct Exit {
+    /// Who sent it: a linked process that has exited, or one that told this one to.
+    pub pid: Pid,
+    /// Why.
+    pub reason: Reason,
+    /// The text of its panic, if that is how a linked process exited.
+    pub panic: Option<Arc<str>>,
+}
+
+/// What a process does next.
+#[derive(Clone, Copy, Debug, PartialEq, Eq, Hash)]
+pub enum Next {
+    /// It waits for whatever comes.
+    Wait,
+    /// The same, but no longer than for this time: then it gets [`Event::Timeout`].
+    WaitFor(Duration),
+    /// It waits for what this pick takes. All else stays in its mailbox, in order.
+    Only(Pick),
+    /// The same, but no longer than for this time.
+    OnlyFor(Pick, Duration),
+    /// It gets [`Event::Proceed`] as soon as the others of its desk have had their turn.
+    Proceed,
+    /// It exits with this reason.
+    Stop(Reason),
+}
+
+impl Next {
+    /// It exits, and all is well.
+    pub const DONE: Next = Next::Stop(Reason::Normal);
+
+    /// The same for a crew, whose times are points in time.
+    pub(crate) fn for_crew(self, hub: &Hub) -> crew::Next {
+        match self {
+            Next::Wait => crew::Next::Wait(Pick::Any),
+            Next::WaitFor(time) => crew::Next::WaitUntil(Pick::Any, hub.after(time)),
+            Next::Only(pick) => crew::Next::Wait(pick),
+            Next::OnlyFor(pick, time) => crew::Next::WaitUntil(pick, hub.after(time)),
+            Next::Proceed => crew::Next::Proceed,
+            Next::Stop(reason) => crew::Next::Stop(reason),
+        }
+    }
+}

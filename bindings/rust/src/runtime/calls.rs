@@ -1,0 +1,182 @@
+//! Requests with answers.
+
+use super::ANSWER;
+use super::hub::Hub;
+use super::payloads::{Given, Slot};
+use super::timing::Key;
+use crate::{Reason, Ref};
+use std::any::Any;
+use std::collections::HashMap;
+use std::fmt;
+use std::marker::PhantomData;
+use std::sync::Arc;
+use std::sync::atomic::{AtomicI64, Ordering::Relaxed};
+use std::sync::mpsc::SyncSender;
+
+/// Why a call has no answer.
+#[derive(Clone, Debug, PartialEq, Eq, Hash)]
+#[non_exhaustive]
+pub enum CallFault {
+    /// The server exited for this reason, with the text of its panic if that is how it exited.
+    Down(Reason, Option<Arc<str>>),
+    /// There was no answer in time.
+    Timeout,
+    /// The request was dropped unanswered: its [`Reply`] was, or the server had exited.
+    Dropped,
+}
+
+impl fmt::Display for CallFault {
+    fn fmt(&self, f: &mut fmt::Formatter<'_>) -> fmt::Result {
+        match self {
+            CallFault::Down(_, Some(text)) => write!(f, "the server panicked: {text}"),
+            CallFault::Down(reason, None) => write!(f, "the server exited: {reason}"),
+            CallFault::Timeout => f.write_str("there was no answer in time"),
+            CallFault::Dropped => f.write_str("the request was dropped unanswered"),
+        }
+    }
+}
+
+impl std::error::Error for CallFault {}
+
+/// A call that a process has made, by which it knows the [`Answer`].
+pub struct Call<R> {
+    pub(crate) number: i64,
+    pub(crate) of: PhantomData<fn() -> R>,
+}
+
+impl<R> Clone for Call<R> {
+    fn clone(&self) -> Call<R> {
+        *self
+    }
+}
+
+impl<R> Copy for Call<R> {}
+
+impl<R> PartialEq for Call<R> {
+    fn eq(&self, other: &Call<R>) -> bool {
+        self.number == other.number
+    }
+}
+
+impl<R> Eq for Call<R> {}
+
+impl<R> fmt::Debug for Call<R> {
+    fn fmt(&self, f: &mut fmt::Formatter<'_>) -> fmt::Result {
+        write!(f, "Call({})", self.number)
+    }
+}
+
+/// How a call ended.
+#[derive(Debug)]
+pub struct Answer {
+    pub(crate) number: i64,
+    pub(crate) given: Given,
+}
+
+impl Answer {
+    /// Whether it is the answer of this call.
+    #[must_use]
+    pub fn is_of<R>(&self, call: &Call<R>) -> bool {
+        self.number == call.number
+    }
+
+    /// What this call was answered, or the answer as it was if it is another's.
+    ///
+    /// # Errors
+    ///
+    /// The answer, if it is that of another call.
+    pub fn to<R: 'static>(self, call: &Call<R>) -> Result<Result<R, CallFault>, Answer> {
+        let Answer { number, given } = self;
+        if number != call.number {
+            return Err(Answer { number, given });
+        }
+        match given {
+            Ok(value) => match value.downcast() {
+                Ok(value) => Ok(Ok(*value)),
+                // (the number of a call of another process)
+                Err(value) => Err(Answer { number, given: Ok(value) }),
+            },
+            Err(fault) => Ok(Err(fault)),
+        }
+    }
+}
+
+/// How a server answers a request: a part of the message that asks. Dropped, it tells the client that no answer comes.
+pub struct Reply<R: Send + 'static> {
+    to: Option<To<R>>,
+}
+
+enum To<R> {
+    Process { slot: Arc<dyn Slot>, hub: Arc<Hub>, call: i64 },
+    Thread(SyncSender<R>),
+}
+
+impl<R: Send + 'static> Reply<R> {
+    pub(crate) fn to_process(slot: Arc<dyn Slot>, hub: Arc<Hub>, call: i64) -> Reply<R> {
+        Reply { to: Some(To::Process { slot, hub, call }) }
+    }
+
+    pub(crate) fn to_thread(thread: SyncSender<R>) -> Reply<R> {
+        Reply { to: Some(To::Thread(thread)) }
+    }
+
+    /// Answers from outside, from any thread. In a behaviour take [`Context::reply`](super::Context::reply): then the
+    /// answer comes after all that the server has sent the client, and before the news of its exit.
+    pub fn send(mut self, value: R) {
+        if let Some((slot, hub, call)) = self.put(value) {
+            hub.post(slot.pid(), ANSWER, call);
+        }
+    }
+
+    /// Puts the value where the client finds it, and returns whom to tell, if that is a process that has not exited.
+    pub(crate) fn put(&mut self, value: R) -> Option<(Arc<dyn Slot>, Arc<Hub>, i64)> {
+        match self.to.take()? {
+            To::Process { slot, hub, call } => {
+                let value: Box<dyn Any + Send> = Box::new(value);
+                slot.put_answer(call, Ok(value)).then_some((slot, hub, call))
+            }
+            To::Thread(thread) => {
+                let _ = thread.send(value);
+                None
+            }
+        }
+    }
+}
+
+impl<R: Send + 'static> Drop for Reply<R> {
+    fn drop(&mut self) {
+        let Some(To::Process { slot, hub, call }) = self.to.take() else { return };
+        if slot.put_answer(call, Err(CallFault::Dropped)) {
+            hub.post(slot.pid(), ANSWER, call);
+        }
+    }
+}
+
+impl<R: Send + 'static> fmt::Debug for Reply<R> {
+    fn fmt(&self, f: &mut fmt::Formatter<'_>) -> fmt::Result {
+        match &self.to {
+            Some(To::Process { slot, call, .. }) => write!(f, "Reply({} of {})", call, slot.pid()),
+            _ => f.write_str("Reply(..)"),
+        }
+    }
+}
+
+/// A call that has not ended.
+pub(crate) struct Open {
+    pub(crate) monitor: Option<Ref>,
+    pub(crate) alarm: Option<Key>,
+}
+
+/// The open calls of a process, by their numbers: those of their monitors, or numbers that no monitor has.
+pub(crate) type Calls = HashMap<i64, Open>;
+
+/// The number of the call with this monitor. (a stamp is at most 2^62)
+pub(crate) fn number_of(monitor: Ref) -> i64 {
+    monitor.number as i64
+}
+
+/// A number for a call without a monitor, which no monitor has.
+pub(crate) fn fresh_number() -> i64 {
+    static NUMBERS: AtomicI64 = AtomicI64::new(-1);
+    NUMBERS.fetch_sub(1, Relaxed)
+}

@@ -1,0 +1,233 @@
+//! What a process may do as it handles something.
+
+use super::address::Address;
+use super::behaviour::Behaviour;
+use super::calls::{Call, Calls, Open, Reply, fresh_number, number_of};
+use super::inbox::Task;
+use super::payloads::News;
+use super::timing::{Key, Timer};
+use super::worker::Worker;
+use super::{ANSWER, MESSAGE, OVER};
+use crate::{Fault, Pid, Reason, Ref};
+use std::fmt;
+use std::marker::PhantomData;
+use std::sync::Arc;
+use std::time::Duration;
+
+/// What a process may do as it handles something: the calls of its desk. It takes messages of the type `M`.
+///
+/// If the desk has no memory or no stamp for a call, the run halts with that fault as the step is over.
+pub struct Context<'a, M> {
+    pub(crate) worker: &'a mut Worker,
+    pub(crate) me: &'a Address<M>,
+    pub(crate) calls: &'a mut Calls,
+}
+
+impl<M: Send + 'static> fmt::Debug for Context<'_, M> {
+    fn fmt(&self, f: &mut fmt::Formatter<'_>) -> fmt::Result {
+        write!(f, "Context {{ me: {}, .. }}", self.pid())
+    }
+}
+
+impl<M: Send + 'static> Context<'_, M> {
+    /// The address of the process itself.
+    #[must_use]
+    pub fn me(&self) -> &Address<M> {
+        self.me
+    }
+
+    /// Its name in the table.
+    #[must_use]
+    pub fn pid(&self) -> Pid {
+        self.me.pid()
+    }
+
+    /// How many desks the node has. A process is on the one that its pid names.
+    #[must_use]
+    pub fn desks(&self) -> usize {
+        self.worker.hub.places.len()
+    }
+
+    /// Sends a message: Erlang's `!`. It comes after all that this process sent that one before.
+    ///
+    /// It returns `false`, and the message is dropped, if the receiver is known to have exited. If it exits later, the
+    /// message is dropped then.
+    pub fn send<N: Send + 'static>(&mut self, to: &Address<N>, message: N) -> bool {
+        self.worker.send(self.me.pid(), to, message)
+    }
+
+    /// Sends a message when so much time has gone by: Erlang's `send_after`. The desk sends it, not this process, so it
+    /// comes also if this one has exited.
+    pub fn send_after<N: Send + 'static>(&mut self, time: Duration, to: &Address<N>, message: N) -> Timer {
+        let (at, to) = (self.worker.hub.after(time), to.clone());
+        let alarm = move |worker: &mut Worker| {
+            worker.send(worker.porter, &to, message);
+        };
+        Timer { desk: self.worker.number, key: self.worker.alarms.set(at, Box::new(alarm)) }
+    }
+
+    /// Takes back what was to be sent later. It returns `false` if that was sent or taken back before, or is another
+    /// desk's.
+    pub fn cancel(&mut self, timer: Timer) -> bool {
+        timer.desk == self.worker.number && self.worker.alarms.cancel(timer.key).is_some()
+    }
+
+    /// Spawns a process on the same desk.
+    ///
+    /// # Errors
+    ///
+    /// [`Fault::Full`] if no slot is free, [`Fault::Worn`] or [`Fault::Memory`]. The behaviour is dropped.
+    pub fn spawn<B: Behaviour>(&mut self, behaviour: B) -> Result<Address<B::Message>, Fault> {
+        self.worker.spawn(Some((self.me.pid(), false)), behaviour)
+    }
+
+    /// Spawns a process on the same desk that is linked with this one from the first.
+    ///
+    /// # Errors
+    ///
+    /// As [`spawn`](Context::spawn).
+    pub fn spawn_linked<B: Behaviour>(&mut self, behaviour: B) -> Result<Address<B::Message>, Fault> {
+        self.worker.spawn(Some((self.me.pid(), true)), behaviour)
+    }
+
+    /// Spawns a process on a desk, through the inbox of that desk. Its address is the answer of the call.
+    ///
+    /// The answer is the fault of a spawn if that failed, or [`Fault::BadDesks`] if there is no such desk.
+    pub fn spawn_on<B: Behaviour>(&mut self, desk: u8, behaviour: B) -> Call<Result<Address<B::Message>, Fault>> {
+        let (call, reply) = self.open(fresh_number(), None, None);
+        match self.worker.hub.places.get(usize::from(desk)) {
+            Some(place) => {
+                place.post(Task::Do(Box::new(move |worker| reply.send(worker.spawn(None, behaviour)))));
+            }
+            None => reply.send(Err(Fault::BadDesks)),
+        }
+        call
+    }
+
+    /// Monitors a process: Erlang's `monitor`. It is told [`Event::Down`](super::Event::Down) once, when that has exited.
+    ///
+    /// # Errors
+    ///
+    /// [`Fault::NoProc`] if it is known to have exited, [`Fault::Myself`], [`Fault::Unknown`], [`Fault::Worn`] or
+    /// [`Fault::Memory`].
+    pub fn monitor(&mut self, target: impl Into<Pid>) -> Result<Ref, Fault> {
+        let (me, target) = (self.me.pid(), target.into());
+        let made = self.worker.desk().monitor(me, target);
+        self.worker.noted(made)
+    }
+
+    /// Takes a monitor back. Nothing more is told of it.
+    pub fn demonitor(&mut self, monitor: Ref) {
+        demonitor(self.worker, self.me, monitor);
+    }
+
+    /// Links this process with another: Erlang's `link`.
+    ///
+    /// # Errors
+    ///
+    /// [`Fault::NoProc`] if that is known to have exited, [`Fault::Unknown`], [`Fault::Worn`] or [`Fault::Memory`].
+    pub fn link(&mut self, to: impl Into<Pid>) -> Result<(), Fault> {
+        let (me, to) = (self.me.pid(), to.into());
+        let made = self.worker.desk().link(me, to);
+        self.worker.noted(made)
+    }
+
+    /// Takes the link with another process away: Erlang's `unlink`.
+    ///
+    /// # Errors
+    ///
+    /// [`Fault::Unknown`], [`Fault::Worn`] or [`Fault::Memory`].
+    pub fn unlink(&mut self, to: impl Into<Pid>) -> Result<(), Fault> {
+        let (me, to) = (self.me.pid(), to.into());
+        self.me.mailbox.take_panic(News::Exit(to));
+        let done = self.worker.desk().unlink(me, to);
+        self.worker.noted(done)
+    }
+
+    /// Sends an exit signal: Erlang's `exit/2`. [`Reason::Kill`] ends any process. Any other reason but
+    /// [`Reason::Normal`] ends a process that does not trap exits.
+    ///
+    /// # Errors
+    ///
+    /// [`Fault::Unknown`], [`Fault::Worn`] or [`Fault::Memory`].
+    pub fn exit(&mut self, to: impl Into<Pid>, reason: Reason) -> Result<(), Fault> {
+        let (me, to) = (self.me.pid(), to.into());
+        let sent = self.worker.desk().exit_signal(me, to, reason);
+        self.worker.noted(sent)
+    }
+
+    /// Sets whether this process traps exits, and gets them as [`Event::Exit`](super::Event::Exit).
+    ///
+    /// # Errors
+    ///
+    /// [`Fault::Worn`] or [`Fault::Memory`].
+    pub fn trap_exits(&mut self, on: bool) -> Result<(), Fault> {
+        let me = self.me.pid();
+        let set = self.worker.desk().trap(me, on).map(drop);
+        self.worker.noted(set)
+    }
+
+    /// Asks a server: it gets the message that `ask` makes of a [`Reply`]. The call ends once, with
+    /// [`Event::Answer`](super::Event::Answer): by the answer, by the exit of the server, or when so much time has gone by.
+    ///
+    /// # Errors
+    ///
+    /// As [`monitor`](Context::monitor), and then nothing was asked.
+    pub fn call<N: Send + 'static, R: Send + 'static>(
+        &mut self,
+        to: &Address<N>,
+        limit: Duration,
+        ask: impl FnOnce(Reply<R>) -> N,
+    ) -> Result<Call<R>, Fault> {
+        let monitor = self.monitor(to)?;
+        let (at, me, number) = (self.worker.hub.after(limit), self.me.pid(), number_of(monitor));
+        let alarm = self.worker.alarms.set(at, Box::new(move |worker| worker.tell_process(me, OVER, number)));
+        let (call, reply) = self.open(number, Some(monitor), Some(alarm));
+        self.send(to, ask(reply));
+        Ok(call)
+    }
+
+    /// Answers a request. The answer comes after all that this process has sent the client.
+    pub fn reply<R: Send + 'static>(&mut self, mut reply: Reply<R>, value: R) {
+        let Some((slot, hub, call)) = reply.put(value) else { return };
+        if Arc::ptr_eq(&hub, &self.me.hub) {
+            self.worker.say(self.me.pid(), slot.pid(), ANSWER, call);
+        } else {
+            hub.post(slot.pid(), ANSWER, call);
+        }
+    }
+
+    fn open<R: Send + 'static>(
+        &mut self,
+        number: i64,
+        monitor: Option<Ref>,
+        alarm: Option<Key>,
+    ) -> (Call<R>, Reply<R>) {
+        self.calls.insert(number, Open { monitor, alarm });
+        let reply = Reply::to_process(self.me.mailbox.clone(), self.me.hub.clone(), number);
+        (Call { number, of: PhantomData }, reply)
+    }
+}
+
+/// Takes a monitor of a process back, and what is known beside it.
+pub(crate) fn demonitor<M: Send + 'static>(worker: &mut Worker, me: &Address<M>, monitor: Ref) {
+    me.mailbox.take_panic(News::Down(monitor));
+    let done = worker.desk().demonitor(me.pid(), monitor, true);
+    let _ = worker.noted(done);
+}
+
+impl Worker {
+    /// Sends a message in the name of a process of this desk.
+    pub(crate) fn send<N: Send + 'static>(&mut self, from: Pid, to: &Address<N>, message: N) -> bool {
+        // (a process of another run is told as from outside)
+        if !Arc::ptr_eq(&self.hub, &to.hub) {
+            return to.send(message);
+        }
+        let Ok(number) = to.mailbox.put(message) else { return false };
+        let sent = self.say(from, to.pid(), MESSAGE, number);
+        if !sent {
+            to.mailbox.take(number);
+        }
+        sent
+    }
+}

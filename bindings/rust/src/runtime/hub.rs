@@ -1,0 +1,132 @@
+//! What the threads of a runtime share: the places of the desks, where they meet, and the orders of those outside.
+
+use super::inbox::{Place, Task};
+use super::meeting::Meeting;
+use super::payloads::Slot;
+use crate::Pid;
+use std::sync::Arc;
+use std::sync::atomic::{AtomicU8, AtomicU64, AtomicUsize, Ordering::SeqCst, fence};
+use std::time::{Duration, Instant};
+
+/// What those outside want of a run. Each includes the ones before it.
+pub(crate) const GO_ON: u8 = 0;
+/// It ends once no process is left.
+pub(crate) const END: u8 = 1;
+/// Each process is told to exit: the exit signal `shutdown`.
+pub(crate) const STOP: u8 = 2;
+/// Each process exits: the exit signal `kill`.
+pub(crate) const KILL: u8 = 3;
+
+/// What all threads of a runtime share.
+pub(crate) struct Hub {
+    begun: Instant,
+    pub(crate) places: Vec<Place>,
+    pub(crate) meeting: Meeting,
+    order: AtomicU8,
+    /// How many processes live.
+    pub(crate) alive: AtomicUsize,
+    pub(crate) spawned: AtomicU64,
+    pub(crate) panics: AtomicU64,
+    next_desk: AtomicUsize,
+    pub(crate) every: usize,
+}
+
+impl Hub {
+    pub(crate) fn new(desks: usize, every: usize, meeting: Meeting) -> Hub {
+        Hub {
+            begun: Instant::now(),
+            places: (0..desks).map(|_| Place::default()).collect(),
+            meeting,
+            order: AtomicU8::new(GO_ON),
+            alive: AtomicUsize::new(0),
+            spawned: AtomicU64::new(0),
+            panics: AtomicU64::new(0),
+            next_desk: AtomicUsize::new(0),
+            every,
+        }
+    }
+
+    /// The time since the run began, in microseconds.
+    pub(crate) fn now(&self) -> u64 {
+        u64::try_from(self.begun.elapsed().as_micros()).unwrap_or(u64::MAX)
+    }
+
+    /// The time when so much has gone by, at the earliest.
+    pub(crate) fn after(&self, time: Duration) -> u64 {
+        let more = u64::try_from(time.as_micros()).unwrap_or(u64::MAX);
+        self.now().saturating_add(more).saturating_add(1)
+    }
+
+    /// How long it is until then.
+    pub(crate) fn until(&self, at: u64) -> Duration {
+        Duration::from_micros(at.saturating_sub(self.now()))
+    }
+
+    pub(crate) fn place(&self, pid: Pid) -> &Place {
+        &self.places[usize::from(pid.shard)]
+    }
+
+    /// Sends a message from outside.
+    pub(crate) fn post(&self, to: Pid, kind: u32, num: i64) -> bool {
+        self.place(to).post(Task::Send { to, kind, num })
+    }
+
+    pub(crate) fn slot(&self, pid: Pid) -> Option<Arc<dyn Slot>> {
+        self.place(pid).slot(pid)
+    }
+
+    /// The desk whose turn it is to get a process.
+    pub(crate) fn next_desk(&self) -> usize {
+        self.next_desk.fetch_add(1, SeqCst) % self.places.len()
+    }
+
+    pub(crate) fn ring_all(&self) {
+        self.places.iter().for_each(Place::ring);
+    }
+
+    /// Wakes the other desks, to which this one has posted.
+    pub(crate) fn ring_others(&self, desk: u8) {
+        let others = (0..).zip(&self.places).filter(|&(number, _)| number != desk);
+        others.for_each(|(_, place)| place.ring());
+    }
+
+    /// Wakes the desks that wait for room in a lane, since this one has made some.
+    pub(crate) fn ring_short(&self) {
+        // (what was taken out of the lanes is seen by a desk that this does not see waiting)
+        fence(SeqCst);
+        self.places.iter().filter(|place| place.waits_for_room()).for_each(Place::ring);
+    }
+
+    /// The run is over: nothing comes in any more, and all that is kept for processes is dropped.
+    pub(crate) fn close(&self) {
+        self.places.iter().for_each(Place::close);
+    }
+
+    pub(crate) fn order(&self) -> u8 {
+        self.order.load(SeqCst)
+    }
+
+    pub(crate) fn give(&self, order: u8) {
+        self.order.fetch_max(order, SeqCst);
+        self.ring_all();
+    }
+
+    /// All threads are to meet: the node goes on.
+    pub(crate) fn meet(&self) {
+        if self.meeting.want() {
+            self.ring_all();
+        }
+    }
+
+    /// Whether the run is over: it is to end, and no process is left.
+    pub(crate) fn is_over(&self) -> bool {
+        self.order() >= END && self.alive.load(SeqCst) == 0
+    }
+
+    /// A live process, one whose handler runs first, and the name of its behaviour.
+    pub(crate) fn somebody(&self) -> Option<(Pid, &'static str)> {
+        let running = (0..).zip(&self.places).filter_map(|(shard, place)| self.slot(place.running(shard)?));
+        let living = self.places.iter().flat_map(Place::slots);
+        running.chain(living).next().map(|slot| (slot.pid(), slot.name()))
+    }
+}

@@ -1,0 +1,175 @@
+//! The place of a desk's thread: an inbox with a bell, and the processes that live on the desk.
+
+use super::payloads::{Slot, drop_quietly};
+use super::worker::Worker;
+use crate::Pid;
+use std::collections::{HashMap, VecDeque};
+use std::sync::atomic::{AtomicBool, AtomicU64, Ordering::SeqCst};
+use std::sync::{Arc, Condvar, Mutex, MutexGuard, PoisonError};
+use std::time::Duration;
+
+/// What somebody outside wants of a desk's thread.
+pub(crate) enum Task {
+    /// To send a process a message of this kind with this number.
+    Send {
+        to: Pid,
+        kind: u32,
+        num: i64,
+    },
+    Do(Work),
+    /// The same, and somebody waits for it: it is dropped if the run halts.
+    Ask(Work),
+}
+
+pub(crate) type Work = Box<dyn FnOnce(&mut Worker) + Send>;
+
+#[derive(Default)]
+struct Inbox {
+    /// Whether something may be to do that the thread has not looked for: it does not rest then.
+    rung: bool,
+    resting: bool,
+    /// Whether nobody does anything now.
+    halted: bool,
+    /// Whether nobody ever will.
+    closed: bool,
+    tasks: VecDeque<Task>,
+}
+
+/// The place of a desk's thread.
+#[derive(Default)]
+pub(crate) struct Place {
+    inbox: Mutex<Inbox>,
+    bell: Condvar,
+    /// The live processes of the desk.
+    live: Mutex<HashMap<Pid, Arc<dyn Slot>>>,
+    /// Whether the desk waits for room in a lane.
+    short: AtomicBool,
+    /// Whose handler runs, by its slot and its version, and 0 if none does.
+    running: AtomicU64,
+}
+
+pub(crate) fn locked<T>(of: &Mutex<T>) -> MutexGuard<'_, T> {
+    of.lock().unwrap_or_else(PoisonError::into_inner)
+}
+
+impl Place {
+    /// Puts a task into the inbox, and wakes the thread. It returns `false`, and the task is dropped, if the run is over
+    /// or, for one that somebody waits for, halts.
+    pub(crate) fn post(&self, task: Task) -> bool {
+        let mut inbox = locked(&self.inbox);
+        if inbox.closed || inbox.halted && matches!(task, Task::Ask(_)) {
+            drop(inbox);
+            return false;
+        }
+        inbox.tasks.push_back(task);
+        self.wake(inbox);
+        true
+    }
+
+    pub(crate) fn ring(&self) {
+        self.wake(locked(&self.inbox));
+    }
+
+    fn wake(&self, mut inbox: MutexGuard<'_, Inbox>) {
+        inbox.rung = true;
+        let resting = inbox.resting;
+        drop(inbox);
+        // (a bell costs a call of the system)
+        if resting {
+            self.bell.notify_one();
+        }
+    }
+
+    /// Takes all tasks. Who rings from here on is heard by the next `rest`.
+    pub(crate) fn take(&self) -> VecDeque<Task> {
+        let mut inbox = locked(&self.inbox);
+        inbox.rung = false;
+        std::mem::take(&mut inbox.tasks)
+    }
+
+    /// Puts tasks back, before all others.
+    pub(crate) fn put_back(&self, mut tasks: VecDeque<Task>) {
+        let mut inbox = locked(&self.inbox);
+        tasks.append(&mut inbox.tasks);
+        inbox.tasks = tasks;
+    }
+
+    /// Rests until somebody rings, for so long at most.
+    pub(crate) fn rest(&self, most: Option<Duration>) {
+        let mut inbox = locked(&self.inbox);
+        inbox.resting = true;
+        let quiet = |inbox: &mut Inbox| !inbox.rung;
+        let mut inbox = match most {
+            Some(most) => self.bell.wait_timeout_while(inbox, most, quiet).unwrap_or_else(PoisonError::into_inner).0,
+            None => self.bell.wait_while(inbox, quiet).unwrap_or_else(PoisonError::into_inner),
+        };
+        inbox.resting = false;
+    }
+
+    /// The thread ends, or a new one begins: those who wait are told, and all other tasks stay.
+    pub(crate) fn halt(&self, halted: bool) {
+        let mut inbox = locked(&self.inbox);
+        inbox.halted = halted;
+        let tasks = std::mem::take(&mut inbox.tasks);
+        let (asked, kept) = tasks.into_iter().partition(|task| halted && matches!(task, Task::Ask(_)));
+        inbox.tasks = kept;
+        drop(inbox);
+        let asked: VecDeque<Task> = asked;
+        asked.into_iter().for_each(drop_quietly);
+    }
+
+    /// Takes no more tasks, and drops those that wait and all values of the live processes.
+    pub(crate) fn close(&self) {
+        let mut inbox = locked(&self.inbox);
+        inbox.closed = true;
+        let tasks = std::mem::take(&mut inbox.tasks);
+        drop(inbox);
+        let live = std::mem::take(&mut *locked(&self.live));
+        live.values().for_each(|slot| slot.close());
+        tasks.into_iter().for_each(drop_quietly);
+    }
+
+    pub(crate) fn admit(&self, slot: Arc<dyn Slot>) {
+        locked(&self.live).insert(slot.pid(), slot);
+    }
+
+    pub(crate) fn dismiss(&self, pid: Pid) {
+        locked(&self.live).remove(&pid);
+    }
+
+    pub(crate) fn slot(&self, pid: Pid) -> Option<Arc<dyn Slot>> {
+        locked(&self.live).get(&pid).cloned()
+    }
+
+    /// The mailboxes of all live processes, by pid.
+    pub(crate) fn slots(&self) -> Vec<Arc<dyn Slot>> {
+        let mut slots: Vec<_> = locked(&self.live).values().cloned().collect();
+        slots.sort_by_key(|slot| slot.pid());
+        slots
+    }
+
+    /// Whether the desk waits for room.
+    pub(crate) fn waits_for_room(&self) -> bool {
+        self.short.load(SeqCst)
+    }
+
+    /// Says that the desk waits for room, and returns whether it had said so before.
+    pub(crate) fn is_short(&self) -> bool {
+        self.short.swap(true, SeqCst)
+    }
+
+    pub(crate) fn has_room(&self) {
+        self.short.store(false, SeqCst);
+    }
+
+    pub(crate) fn runs(&self, pid: Option<Pid>) {
+        // (a slot has 16 bits)
+        let word = pid.map_or(0, |pid| u64::from(pid.slot) << 32 | u64::from(pid.version));
+        self.running.store(word, SeqCst);
+    }
+
+    pub(crate) fn running(&self, shard: u8) -> Option<Pid> {
+        let word = self.running.load(SeqCst);
+        (word != 0).then_some(Pid { shard, slot: (word >> 32) as u32, version: word as u32 })
+    }
+}

@@ -1,0 +1,97 @@
+//! Processes that run code, on a thread for each desk.
+//!
+//! A [`Behaviour`] is what a process does with what it is told, and its state. A [`Runtime`] has a thread for each desk of
+//! a node, which runs the handlers of the desk's processes, rests while they have nothing to do, and goes on by itself: it
+//! empties the journals, and hands the history of each epoch to a [`Sink`].
+//!
+//! ```
+//! use pundewo::runtime::{Behaviour, Context, Event, Next, Reply, Runtime};
+//! use std::time::Duration;
+//!
+//! struct Counter(u64);
+//!
+//! enum Request {
+//!     Add(u64),
+//!     Read(Reply<u64>),
+//! }
+//!
+//! impl Behaviour for Counter {
+//!     type Message = Request;
+//!
+//!     fn handle(&mut self, cx: &mut Context<'_, Request>, event: Event<Request>) -> Next {
+//!         match event {
+//!             Event::Message(Request::Add(more)) => self.0 += more,
+//!             Event::Message(Request::Read(reply)) => cx.reply(reply, self.0),
+//!             _ => {}
+//!         }
+//!         Next::Wait
+//!     }
+//! }
+//!
+//! let runtime = Runtime::builder().desks(2).start()?;
+//! let counter = runtime.spawn(Counter(0))?;
+//! counter.send(Request::Add(3));
+//! counter.send(Request::Add(4));
+//! assert_eq!(runtime.call(&counter, Duration::from_secs(5), Request::Read)?, 7);
+//! assert_eq!(runtime.stop()?.spawned, 1);
+//! # Ok::<(), Box<dyn std::error::Error>>(())
+//! ```
+//!
+//! # Messages
+//!
+//! A message is any value that may go to another thread. It moves to its receiver once. It is dropped once if it does not
+//! arrive: as the receiver exits, or at once if that has exited. The table carries the number of a message; the value is
+//! kept beside it, with the receiver's others.
+//!
+//! In a history a message has the kind [`MESSAGE`], the answer of a call [`ANSWER`], and the end of a call's time
+//! [`OVER`]. Each desk has one process more, which sends what comes from outside: the first that was born on it.
+//!
+//! # Panics
+//!
+//! A handler that panics has crashed its process, and no other: see [`PANIC`]. The panic's text is beside the news of it:
+//! [`Down::panic`], [`Exit::panic`] and [`CallFault::Down`].
+//!
+//! # What is proved, and what is not
+//!
+//! Proved is what is below: the table, and the crew that says which process is told what ([`Crew`](crate::Crew)). So
+//! messages arrive in order and once, no wake-up of a crew is lost, and each exit is told once.
+//!
+//! Not proved, since nothing checks Rust, but tested: the threads and their rest, the values beside the table, timers,
+//! calls, and how the threads meet. `unsafe` is not used here.
+
+mod address;
+mod archive;
+mod behaviour;
+mod calls;
+mod context;
+mod ending;
+mod hub;
+mod inbox;
+mod meeting;
+mod payloads;
+mod process;
+mod run;
+mod start;
+mod timing;
+mod worker;
+
+pub use crate::{Pick, Pid, Reason, Ref};
+pub use address::Address;
+pub use archive::{HistoryFile, Refusal, Sink};
+pub use behaviour::{Behaviour, Down, Event, Exit, Next};
+pub use calls::{Answer, Call, CallFault, Reply};
+pub use context::Context;
+pub use ending::{Halted, StopFault, Summary};
+pub use run::{Handle, Runtime, SpawnFault};
+pub use start::{Builder, StartFault};
+pub use timing::Timer;
+
+/// The reason of a process whose handler has panicked. No behaviour should stop with it.
+pub const PANIC: Reason = Reason::Other(u32::MAX);
+
+/// The kind of a message from behaviour to behaviour.
+pub const MESSAGE: u32 = 1;
+/// The kind of the answer of a call.
+pub const ANSWER: u32 = 2;
+/// The kind of the news that the time of a call is over.
+pub const OVER: u32 = 3;

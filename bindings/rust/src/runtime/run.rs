@@ -1,0 +1,262 @@
+//! A run, and what those outside do with it.
+
+use super::address::Address;
+use super::behaviour::Behaviour;
+use super::calls::{CallFault, Reply};
+use super::ending::{Halted, StopFault, Summary};
+use super::hub::{END, Hub, KILL, STOP};
+use super::inbox::Task;
+use super::meeting::{Outcome, Stuck};
+use super::start::{Builder, Closing, Threads, is_inside};
+use super::worker::Worker;
+use crate::{Fault, Pid, Reason};
+use std::error::Error;
+use std::fmt;
+use std::ops::Deref;
+use std::sync::Arc;
+use std::sync::mpsc::{RecvTimeoutError, sync_channel};
+use std::time::Duration;
+
+/// How long [`Runtime::stop`] waits for all processes to exit.
+const PATIENCE: Duration = Duration::from_secs(5);
+/// How long it waits for those that it has killed.
+const GRACE: Duration = Duration::from_secs(1);
+
+/// A node whose desks have a thread each, which runs the processes of the desk and rests while they have nothing to do.
+///
+/// Dropped, it kills all processes and waits for nothing: [`stop`](Runtime::stop) is how it ends well.
+pub struct Runtime {
+    // (threads that are left behind end by themselves)
+    threads: Threads,
+    hub: Closing,
+    handle: Handle,
+}
+
+impl fmt::Debug for Runtime {
+    fn fmt(&self, f: &mut fmt::Formatter<'_>) -> fmt::Result {
+        write!(f, "Runtime {{ desks: {}, .. }}", self.threads.len())
+    }
+}
+
+impl Drop for Runtime {
+    fn drop(&mut self) {
+        if !self.threads.is_empty() {
+            self.hub.of().give(KILL);
+        }
+    }
+}
+
+/// What those outside do with a run. It may be cloned and go to any thread, and it keeps no run going.
+#[derive(Clone)]
+pub struct Handle(Arc<Hub>);
+
+impl fmt::Debug for Handle {
+    fn fmt(&self, f: &mut fmt::Formatter<'_>) -> fmt::Result {
+        write!(f, "Handle {{ desks: {}, .. }}", self.0.places.len())
+    }
+}
+
+impl Deref for Runtime {
+    type Target = Handle;
+
+    fn deref(&self) -> &Handle {
+        &self.handle
+    }
+}
+
+impl Runtime {
+    /// The settings of a run, of which each may be left as it is.
+    ///
+    /// ```
+    /// use pundewo::runtime::Runtime;
+    ///
+    /// let runtime = Runtime::builder().desks(2).slots(64).start().unwrap();
+    /// assert_eq!(runtime.stop().unwrap().spawned, 0);
+    /// ```
+    #[must_use]
+    pub fn builder() -> Builder {
+        Builder::default()
+    }
+
+    pub(crate) fn new(threads: Threads, hub: Closing) -> Runtime {
+        let handle = Handle(hub.of().clone());
+        Runtime { threads, hub, handle }
+    }
+
+    /// A handle for another thread. All that it does, the run itself does, too.
+    #[must_use]
+    pub fn handle(&self) -> Handle {
+        self.handle.clone()
+    }
+
+    /// Waits until all processes have exited by themselves.
+    ///
+    /// # Errors
+    ///
+    /// As [`stop`](Runtime::stop), but for [`StopFault::WouldNotEnd`].
+    pub fn wait(mut self) -> Result<Summary, StopFault> {
+        if !self.is_over() {
+            self.hub.of().give(END);
+        }
+        self.hub.of().meeting.wait(None);
+        self.finish()
+    }
+
+    /// Tells all processes to exit, by an exit signal `shutdown`, waits for them for five seconds at most, and ends.
+    ///
+    /// # Errors
+    ///
+    /// [`StopFault::WouldNotEnd`] names a process that did not exit. [`StopFault::Halted`] has all that the run had, if
+    /// it halted.
+    pub fn stop(self) -> Result<Summary, StopFault> {
+        self.stop_within(PATIENCE)
+    }
+
+    /// The same, with this time for all processes to exit.
+    ///
+    /// # Errors
+    ///
+    /// As [`stop`](Runtime::stop).
+    pub fn stop_within(mut self, limit: Duration) -> Result<Summary, StopFault> {
+        let hub = self.hub.of().clone();
+        // (a run that halted before has not been told to stop, and goes on as it was)
+        if !hub.meeting.is_over() {
+            hub.give(STOP);
+        }
+        if hub.meeting.wait(Some(limit)) {
+            return self.finish();
+        }
+        let Some((pid, behaviour)) = hub.somebody() else {
+            hub.meeting.wait(None);
+            return self.finish();
+        };
+        hub.give(KILL);
+        if hub.meeting.wait(Some(GRACE)) {
+            let summary = Some(self.finish()?);
+            return Err(StopFault::WouldNotEnd { pid, behaviour, summary });
+        }
+        let (pid, behaviour) = hub.somebody().unwrap_or((pid, behaviour));
+        self.threads.clear();
+        Err(StopFault::WouldNotEnd { pid, behaviour, summary: None })
+    }
+
+    /// The run is over: what it had comes together.
+    fn finish(&mut self) -> Result<Summary, StopFault> {
+        let threads = std::mem::take(&mut self.threads);
+        let workers: Vec<Worker> = threads.into_iter().filter_map(|thread| thread.join().ok().flatten()).collect();
+        let hub = self.hub.of();
+        match hub.meeting.take_outcome() {
+            Some(Outcome::Ended) => Ok(Summary::of(hub)),
+            Some(Outcome::Halted(Stuck { why, stage })) => {
+                let hub = Closing(self.hub.0.take());
+                Err(StopFault::Halted(Box::new(Halted::new(why, stage, workers, hub))))
+            }
+            Some(Outcome::Lost) | None => Err(StopFault::Lost),
+        }
+    }
+}
+
+impl Handle {
+    /// Spawns a process on one desk after the other.
+    ///
+    /// # Errors
+    ///
+    /// [`SpawnFault`] says why not. The behaviour is dropped.
+    pub fn spawn<B: Behaviour>(&self, behaviour: B) -> Result<Address<B::Message>, SpawnFault> {
+        self.spawn_at(self.0.next_desk(), behaviour)
+    }
+
+    /// Spawns a process on this desk. It waits until the desk's thread has done so.
+    ///
+    /// # Errors
+    ///
+    /// [`SpawnFault`] says why not. The behaviour is dropped.
+    pub fn spawn_on<B: Behaviour>(&self, desk: u8, behaviour: B) -> Result<Address<B::Message>, SpawnFault> {
+        self.spawn_at(usize::from(desk), behaviour)
+    }
+
+    fn spawn_at<B: Behaviour>(&self, desk: usize, behaviour: B) -> Result<Address<B::Message>, SpawnFault> {
+        // (a handler would wait for a desk that may wait for it)
+        if is_inside(&self.0) {
+            return Err(SpawnFault::Inside);
+        }
+        let place = self.0.places.get(desk).ok_or(SpawnFault::Table(Fault::BadDesks))?;
+        let (give, get) = sync_channel(1);
+        place.post(Task::Ask(Box::new(move |worker| {
+            let _ = give.send(worker.spawn(None, behaviour));
+        })));
+        get.recv().map_err(|_| SpawnFault::Over)?.map_err(SpawnFault::Table)
+    }
+
+    /// Asks a server from outside, and waits for its answer: it gets the message that `ask` makes of a [`Reply`].
+    ///
+    /// A behaviour takes [`Context::call`](super::Context::call), which does not wait. If it waits here, its whole desk does.
+    ///
+    /// # Errors
+    ///
+    /// [`CallFault::Timeout`], if there is no answer in time; [`CallFault::Dropped`], if the server has exited or has
+    /// dropped the request.
+    pub fn call<M: Send + 'static, R: Send + 'static>(
+        &self,
+        server: &Address<M>,
+        limit: Duration,
+        ask: impl FnOnce(Reply<R>) -> M,
+    ) -> Result<R, CallFault> {
+        let (give, get) = sync_channel(1);
+        server.send(ask(Reply::to_thread(give)));
+        get.recv_timeout(limit).map_err(|fault| match fault {
+            RecvTimeoutError::Timeout => CallFault::Timeout,
+            RecvTimeoutError::Disconnected => CallFault::Dropped,
+        })
+    }
+
+    /// Sends an exit signal from outside: Erlang's `exit/2`.
+    pub fn exit(&self, process: impl Into<Pid>, reason: Reason) {
+        let pid = process.into();
+        if let Some(place) = self.0.places.get(usize::from(pid.shard)) {
+            place.post(Task::Do(Box::new(move |worker| worker.signal(pid, reason))));
+        }
+    }
+
+    /// How many epochs have ended.
+    #[must_use]
+    pub fn epochs(&self) -> u64 {
+        self.0.meeting.with_book(|book| book.epochs)
+    }
+
+    /// Whether the run is over: it halted, or all processes have exited after a call to wait for that.
+    #[must_use]
+    pub fn is_over(&self) -> bool {
+        self.0.meeting.is_over()
+    }
+
+    /// Ends the epoch now, as soon as each handler that runs has returned, and goes on.
+    pub fn go_on(&self) {
+        self.0.meet();
+    }
+}
+
+/// Why a process was not spawned from outside.
+#[derive(Clone, Copy, Debug, PartialEq, Eq, Hash)]
+#[non_exhaustive]
+pub enum SpawnFault {
+    /// The desk refused: no slot was free, there was no memory or no stamp, or there is no such desk.
+    Table(Fault),
+    /// The run is over, or halts.
+    Over,
+    /// A handler of this run asked, and would wait for itself: it takes [`Context::spawn`](super::Context::spawn) or
+    /// [`Context::spawn_on`](super::Context::spawn_on).
+    Inside,
+}
+
+impl fmt::Display for SpawnFault {
+    fn fmt(&self, f: &mut fmt::Formatter<'_>) -> fmt::Result {
+        match self {
+            SpawnFault::Table(fault) => write!(f, "the process is not spawned: {fault}"),
+            SpawnFault::Over => f.write_str("the process is not spawned: the run is over"),
+            SpawnFault::Inside => f.write_str("the process is not spawned: a handler takes a call of its context"),
+        }
+    }
+}
+
+impl Error for SpawnFault {}

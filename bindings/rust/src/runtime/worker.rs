@@ -1,0 +1,368 @@
+//! The thread of a desk: it runs the handlers of the desk's processes, and rests while nothing is to be done.
+
+use super::PANIC;
+use super::address::Address;
+use super::behaviour::Behaviour;
+use super::hub::{END, GO_ON, Hub, KILL};
+use super::inbox::{Place, Task};
+use super::payloads::{News, quietly};
+use super::process::{Actor, Process};
+use super::timing::Alarms;
+use crate::crew::{Crew, Job, Next, What};
+use crate::{Body, Desk, Fault, Item, Pid, Reason};
+use std::any::Any;
+use std::panic::{AssertUnwindSafe, catch_unwind};
+use std::sync::Arc;
+use std::sync::atomic::Ordering::SeqCst;
+
+/// How many letters a turn handles at most, and how many jobs a step has.
+const BUDGET: u32 = 256;
+const MOST: usize = 256;
+
+/// A process of the desk. Its tag is its place among the seats.
+struct Seat {
+    pid: Pid,
+    /// The order that it was told.
+    told: u8,
+    /// Why it has exited, if its handler panicked. (the journal that says so may be gone as it is told)
+    crashed: bool,
+    /// `None` while its handler runs.
+    actor: Option<Box<dyn Actor>>,
+}
+
+/// What the thread of a desk has.
+pub(crate) struct Worker {
+    pub(crate) hub: Arc<Hub>,
+    pub(crate) number: u8,
+    /// The process in whose name things are sent from outside.
+    pub(crate) porter: Pid,
+    pub(crate) alarms: Alarms,
+    // `None` only in a meeting and when the run is over
+    desk: Option<Desk>,
+    crew: Crew,
+    seats: Vec<Option<Seat>>,
+    free: Vec<usize>,
+    /// The order that all processes were told.
+    told: u8,
+    fault: Option<Fault>,
+    /// Whether the last step came to all who had something to do.
+    whole: bool,
+    jobs: Vec<Job>,
+    answers: Vec<(Pid, Next)>,
+}
+
+impl Worker {
+    pub(crate) fn new(hub: &Arc<Hub>, mut desk: Desk) -> Result<Worker, Fault> {
+        let (number, crew, porter) = (desk.number(), Crew::new(&desk)?, desk.spawn()?);
+        Ok(Worker {
+            hub: hub.clone(),
+            number,
+            porter,
+            alarms: Alarms::default(),
+            desk: Some(desk),
+            crew,
+            seats: Vec::new(),
+            free: Vec::new(),
+            told: GO_ON,
+            fault: None,
+            whole: true,
+            jobs: Vec::new(),
+            answers: Vec::new(),
+        })
+    }
+
+    pub(crate) fn desk(&mut self) -> &mut Desk {
+        self.desk.as_mut().expect("a desk, outside of a meeting")
+    }
+
+    pub(crate) fn take_desk(&mut self) -> Option<Desk> {
+        self.desk.take()
+    }
+
+    fn place(&self) -> &Place {
+        &self.hub.places[usize::from(self.number)]
+    }
+
+    /// Runs until the run is over or halts, and returns what the thread had.
+    pub(crate) fn run(mut self) -> Worker {
+        loop {
+            let busy = self.round();
+            if self.has_to_meet() {
+                if !self.meet() {
+                    self.place().halt(true);
+                    return self;
+                }
+            } else if !busy {
+                self.rest();
+            }
+        }
+    }
+
+    /// Does what is to be done, and returns whether anything was.
+    fn round(&mut self) -> bool {
+        let tasks = self.perform();
+        let alarms = self.go_off();
+        self.tell_order();
+        self.step(MOST) || tasks || alarms
+    }
+
+    /// Does what those outside want. What the desk had no memory or no stamp for stays in the inbox.
+    fn perform(&mut self) -> bool {
+        let mut tasks = self.place().take();
+        let some = !tasks.is_empty();
+        while self.fault.is_none() {
+            match tasks.pop_front() {
+                Some(Task::Do(work) | Task::Ask(work)) => drop(quietly(|| work(self))),
+                Some(Task::Send { to, kind, num }) => {
+                    if !self.say(self.porter, to, kind, num) && self.fault.is_some() {
+                        tasks.push_front(Task::Send { to, kind, num });
+                    }
+                }
+                None => return some,
+            }
+        }
+        self.place().put_back(tasks);
+        some
+    }
+
+    /// Does what was to be done by now.
+    fn go_off(&mut self) -> bool {
+        let now = self.hub.now();
+        let mut some = false;
+        while let Some(alarm) = self.alarms.pop_due(now) {
+            quietly(|| alarm(self));
+            some = true;
+        }
+        some
+    }
+
+    /// A step of the crew: a turn, and then the handlers of those who have something to do.
+    fn step(&mut self, most: usize) -> bool {
+        self.crew.set_time(self.hub.now());
+        let desk = self.desk.as_mut().expect("a desk, outside of a meeting");
+        let turned = self.crew.step(desk, BUDGET, most, &mut self.jobs).expect("the crew of this desk");
+        if turned.posted > 0 {
+            self.hub.ring_others(self.number);
+        }
+        if turned.handled > 0 {
+            self.hub.ring_short();
+        }
+        if self.crew.refused() || turned.stopped.is_some() {
+            self.fault = turned.stopped.or(Some(Fault::Memory));
+        }
+        let mut jobs = std::mem::take(&mut self.jobs);
+        self.whole = jobs.len() < most;
+        let some = !jobs.is_empty() || turned.posted + turned.handled > 0;
+        jobs.drain(..).for_each(|job| self.tell(job));
+        self.jobs = jobs;
+        self.answer();
+        some
+    }
+
+    /// Runs the handler of a process.
+    fn tell(&mut self, Job { pid, tag, what }: Job) {
+        let place = usize::try_from(tag).expect("the place of a seat");
+        let mut actor = self.seats[place].as_mut().and_then(|seat| seat.actor.take()).expect("a process of this desk");
+        if let What::Exit(why, _) = what {
+            let crashed = self.seats[place].take().is_some_and(|seat| seat.crashed);
+            self.free.push(place);
+            self.leave(pid, actor, if crashed { PANIC } else { why });
+            return;
+        }
+        self.place().runs(Some(pid));
+        match catch_unwind(AssertUnwindSafe(|| actor.told(self, what))) {
+            Ok(next) => self.answers.push((pid, next)),
+            Err(what) => self.crash(pid, place, what),
+        }
+        self.place().runs(None);
+        if let Some(seat) = &mut self.seats[place] {
+            seat.actor = Some(actor);
+        }
+    }
+
+    fn answer(&mut self) {
+        let answers = std::mem::take(&mut self.answers);
+        self.crew.answer(&answers).expect("each of them was told something");
+        self.answers = answers;
+        self.answers.clear();
+    }
+
+    /// A process has exited: all that it had goes.
+    fn leave(&mut self, pid: Pid, actor: Box<dyn Actor>, why: Reason) {
+        self.place().dismiss(pid);
+        self.hub.alive.fetch_sub(1, SeqCst);
+        actor.ended(self, why);
+    }
+
+    /// A handler has panicked: its process exits at once, and those who hear of it find the text.
+    fn crash(&mut self, pid: Pid, place: usize, what: Box<dyn Any + Send>) {
+        self.hub.panics.fetch_add(1, SeqCst);
+        if let Some(seat) = &mut self.seats[place] {
+            seat.crashed = true;
+        }
+        let text: Arc<str> = text_of(&*what).into();
+        quietly(|| drop(what));
+        let desk = self.desk.as_mut().expect("a desk, outside of a meeting");
+        for (monitor, owner) in desk.watchers(pid).into_iter().flatten() {
+            if let Some(slot) = self.hub.slot(owner) {
+                slot.put_panic(News::Down(monitor), text.clone());
+            }
+        }
+        for (peer, _) in desk.links(pid).into_iter().flatten() {
+            if let Some(slot) = self.hub.slot(peer) {
+                slot.put_panic(News::Exit(pid), text.clone());
+            }
+        }
+        let exited = desk.exit(pid, PANIC);
+        if self.noted(exited).is_err() {
+            self.answers.push((pid, Next::Stop(PANIC)));
+        }
+    }
+
+    /// Tells each process that was not told yet what those outside want.
+    fn tell_order(&mut self) {
+        let order = self.hub.order();
+        if order <= self.told || order <= END {
+            return;
+        }
+        let reason = if order == KILL { Reason::Kill } else { Reason::Shutdown };
+        for place in 0..self.seats.len() {
+            if let Some(seat) = self.seats[place].as_mut().filter(|seat| seat.told < order) {
+                seat.told = order;
+                let pid = seat.pid;
+                self.signal(pid, reason);
+            }
+        }
+        self.told = order;
+    }
+
+    /// Sends a message in the name of a process of this desk. It returns `false` if the desk refuses that.
+    pub(crate) fn say(&mut self, from: Pid, to: Pid, kind: u32, num: i64) -> bool {
+        let sent = self.desk().send(from, to, Body { kind, num, who: None });
+        self.noted(sent).is_ok()
+    }
+
+    /// Sends an exit signal in the desk's own name.
+    pub(crate) fn signal(&mut self, to: Pid, reason: Reason) {
+        let porter = self.porter;
+        let sent = self.desk().exit_signal(porter, to, reason);
+        let _ = self.noted(sent);
+    }
+
+    /// Sends a process of this desk a message in the desk's own name.
+    pub(crate) fn tell_process(&mut self, to: Pid, kind: u32, num: i64) {
+        self.say(self.porter, to, kind, num);
+    }
+
+    /// The answer of a call of the desk, of which it is noted if there was no memory or no stamp: then the run halts.
+    pub(crate) fn noted<T>(&mut self, answer: Result<T, Fault>) -> Result<T, Fault> {
+        if let Err(fault @ (Fault::Memory | Fault::Worn)) = answer {
+            self.fault = Some(fault);
+        }
+        answer
+    }
+
+    /// Spawns a process, perhaps as a child of one of this desk, perhaps linked with it.
+    pub(crate) fn spawn<B: Behaviour>(
+        &mut self,
+        parent: Option<(Pid, bool)>,
+        behaviour: B,
+    ) -> Result<Address<B::Message>, Fault> {
+        let place = self.free.last().copied().unwrap_or(self.seats.len());
+        let desk = self.desk.as_mut().expect("a desk, outside of a meeting");
+        let spawned = match parent {
+            Some((parent, linked)) => self.crew.spawn_child(desk, parent, linked, place as u64, Next::Proceed),
+            None => self.crew.spawn(desk, place as u64, Next::Proceed),
+        };
+        let pid = self.noted(spawned)?;
+        let address = Address::new(pid, std::any::type_name::<B>(), &self.hub);
+        self.place().admit(address.mailbox.clone());
+        self.hub.alive.fetch_add(1, SeqCst);
+        self.hub.spawned.fetch_add(1, SeqCst);
+        self.seat(place, pid, Box::new(Process::new(behaviour, address.clone())));
+        Ok(address)
+    }
+
+    fn seat(&mut self, place: usize, pid: Pid, actor: Box<dyn Actor>) {
+        let seat = Seat { pid, told: GO_ON, crashed: false, actor: Some(actor) };
+        match self.free.pop() {
+            Some(_) => self.seats[place] = Some(seat),
+            None => self.seats.push(Some(seat)),
+        }
+        // (so it is told the order, too)
+        self.told = GO_ON;
+    }
+
+    /// Whether all threads are to meet, of which this one tells the others if it wants to.
+    fn has_to_meet(&mut self) -> bool {
+        let full = self.desk().event_count() > self.hub.every;
+        if full || self.fault.is_some() || self.hub.is_over() {
+            self.hub.meet();
+        }
+        self.hub.meeting.is_wanted()
+    }
+
+    /// Meets the other threads, and goes on over the desk of a node that has gone on. It returns `false` if the run is
+    /// over or halts.
+    fn meet(&mut self) -> bool {
+        // (a crew goes on over another journal once it has told all exits that it knows of)
+        if !self.whole {
+            self.step(self.crew.len() + 1);
+        }
+        let desk = self.desk.take().expect("a desk, outside of a meeting");
+        let fault = self.fault.take();
+        let hub = self.hub.clone();
+        match hub.meeting.attend(&hub, desk, fault) {
+            Some(desk) => {
+                self.begin_again(desk);
+                true
+            }
+            None => false,
+        }
+    }
+
+    /// Goes on after a halt.
+    pub(crate) fn go_on(&mut self, desk: Desk) {
+        self.begin_again(desk);
+        self.place().halt(false);
+    }
+
+    /// Goes on over the desk of a node that has gone on.
+    fn begin_again(&mut self, desk: Desk) {
+        let again = self.crew.begin_again(&desk);
+        let _ = self.noted(again);
+        // in settling all news came: a text beside news that does not wait is beside none
+        for slot in self.place().slots() {
+            let waiting: Vec<News> = desk.waiting(slot.pid()).into_iter().flatten().filter_map(news_of).collect();
+            slot.keep_panics(&|news| waiting.contains(news));
+        }
+        self.desk = Some(desk);
+    }
+
+    /// Rests until somebody rings or a time comes.
+    fn rest(&mut self) {
+        // letters wait, so a lane is full: it is looked at once more, and then who makes room rings
+        if self.desk().pending() > 0 && !self.place().is_short() {
+            return;
+        }
+        let times = [self.crew.next_time(), self.alarms.next()];
+        let until = times.into_iter().flatten().min();
+        self.place().rest(until.map(|at| self.hub.until(at)));
+        self.place().has_room();
+    }
+}
+
+/// What a panic says.
+fn text_of(what: &(dyn Any + Send)) -> &str {
+    let text = what.downcast_ref::<&str>().copied();
+    text.or_else(|| what.downcast_ref::<String>().map(String::as_str)).unwrap_or("a panic without a text")
+}
+
+/// The news that an item is.
+fn news_of(item: Item) -> Option<News> {
+    match item {
+        Item::Down(monitor, ..) => Some(News::Down(monitor)),
+        Item::Exit(pid, _) => Some(News::Exit(pid)),
+        Item::User(..) | Item::Alive(..) => None,
+    }
+}
