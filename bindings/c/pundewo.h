@@ -299,8 +299,9 @@ uint32_t pt_crew_step(pt_crew *crew, pt_desk *desk, uint32_t budget, pt_job *job
  * PT_NOT_RUNNING, where its process is not running or none of the crew. */
 uint32_t pt_crew_answer(pt_crew *crew, const pt_answer *answers, size_t count, size_t *taken);
 
-/* Notes what the loss with this number of the desk (pt_loss_at) tells: the reason of an exit. So a crew knows each reason,
- * if its desk keeps its losses, and each is noted before the step that tells of the exit. PT_NOTHING. */
+/* Notes what the loss with this number of the desk (pt_loss_at) tells: the reason of an exit. So a crew knows each reason
+ * if its desk keeps its losses and each is noted before the step that tells of the exit: pt_turn, then this for each loss,
+ * and then pt_crew_step with the budget 0. PT_NOTHING. */
 uint32_t pt_crew_note_loss(pt_crew *crew, pt_desk *desk, size_t place);
 
 /* Says what time it is in the calls that follow, in a unit of your own. */

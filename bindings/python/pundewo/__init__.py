@@ -480,7 +480,8 @@ class Crew(_Held):
 
     def next_loss(self, desk: Desk) -> Optional[Loss]:
         """The oldest loss of the desk that was not told, as `Desk.next_loss` returns it. The crew notes the reason of the
-        exit that it tells. So a crew knows each reason, if each loss is taken here before the step that tells of the exit.
+        exit that it tells. So a crew knows each reason if each loss is taken here before the step that tells of the exit:
+        a `Desk.turn`, then this for each loss, and then a `step` with the budget 0.
         """
         with self._over(desk) as at:
             code = self._call(lib.pt_crew_note_loss, at, 0)
