@@ -1,7 +1,7 @@
 //! The processes of one desk whose handlers are the program's own.
 
 use crate::raw::{self, RawAnswer, RawJob, RawNext, RawTurned};
-use crate::{Desk, Fault, Held, Item, NONE, OK, Pick, Pid, Reason, Turned, fault_of, found, told};
+use crate::{Desk, Fault, Held, Item, Loss, NONE, OK, Pick, Pid, Reason, Turned, fault_of, found, told};
 use std::fmt;
 
 /// What a process of a [`Crew`] does next.
@@ -33,8 +33,8 @@ pub enum What {
     /// It has exited with this reason, and this is what it was to do: [`Next::Running`], if it was told something that
     /// nobody answered. It is told once, and the process is none of the crew then: it gets no answer.
     ///
-    /// The reason is that of its own exit, by [`Next::Stop`] or [`Desk::exit`]. It is [`Reason::Noproc`] if an exit signal
-    /// ended the process, or if it exited while its node was settled.
+    /// The reason is that of its own exit, by [`Next::Stop`] or [`Desk::exit`]. If an exit signal ended the process, or it
+    /// exited while its node was settled, it is the one that a loss told ([`Crew::next_loss`]), or [`Reason::Noproc`].
     Exit(Reason, Next),
 }
 
@@ -204,6 +204,21 @@ impl Crew {
             OK => Ok(()),
             code => Err(NotTaken { taken, fault: fault_of(code) }),
         }
+    }
+
+    /// The oldest loss of the desk that was not told, as [`Desk::next_loss`] returns it. The crew notes the reason of the
+    /// exit that it tells.
+    ///
+    /// So a crew knows each reason if each loss is taken here before the step that tells of the exit: a [`Desk::turn`],
+    /// then this for each loss, and then a step with the budget 0.
+    ///
+    /// # Errors
+    ///
+    /// [`Fault::WrongDesk`].
+    pub fn next_loss(&mut self, desk: &mut Desk) -> Result<Option<Loss>, Fault> {
+        self.is_of(desk)?;
+        unsafe { raw::pt_crew_note_loss(self.handle.own(), desk.handle.own(), 0) };
+        Ok(desk.next_loss())
     }
 
     /// Says what time it is in the calls that follow, in a unit of the program's own.

@@ -576,7 +576,7 @@ fn each_exit_is_told_once_with_its_reason() -> Result<(), Error> {
     let mut all: Vec<(u32, Reason)> = (0..800).map(|_| got(&told)).collect();
     all.sort_unstable();
     for (number, (told, why)) in (0..).zip(all) {
-        let wanted = [PANIC, Reason::Other(number), Reason::Noproc][number as usize % 3];
+        let wanted = [PANIC, Reason::Other(number), Reason::Killed][number as usize % 3];
         assert_eq!((told, why), (number, wanted));
     }
     assert_eq!(runtime.wait()?.panics, 267);

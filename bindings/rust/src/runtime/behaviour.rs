@@ -25,8 +25,8 @@ pub trait Behaviour: Sized + Send + 'static {
     /// It is told this, and says what it does next.
     fn handle(&mut self, cx: &mut Context<'_, Self::Message>, event: Event<Self::Message>) -> Next;
 
-    /// The process has exited, in whatever way. The reason is that of its own exit: [`Next::Stop`] or
-    /// [`PANIC`](super::PANIC). It is [`Reason::Noproc`] if an exit signal ended it.
+    /// The process has exited, in whatever way, with this reason: that of [`Next::Stop`], [`PANIC`](super::PANIC), or that
+    /// which the exit signal gave that ended it.
     fn ended(self, why: Reason) {
         let _ = why;
     }

@@ -54,6 +54,7 @@ pub(crate) struct Worker {
 impl Worker {
     pub(crate) fn new(hub: &Arc<Hub>, mut desk: Desk) -> Result<Worker, Fault> {
         let (number, crew, porter) = (desk.number(), Crew::new(&desk)?, desk.spawn()?);
+        desk.keep_losses(true);
         Ok(Worker {
             hub: hub.clone(),
             number,
@@ -136,11 +137,16 @@ impl Worker {
         some
     }
 
-    /// A step of the crew: a turn, and then the handlers of those who have something to do.
+    /// A step of the crew: a turn, and then the handlers of those who have something to do. What was lost is taken in
+    /// between, so that each exit is told with its reason.
     fn step(&mut self, most: usize) -> bool {
         self.crew.set_time(self.hub.now());
         let desk = self.desk.as_mut().expect("a desk, outside of a meeting");
-        let turned = self.crew.step(desk, BUDGET, most, &mut self.jobs).expect("the crew of this desk");
+        let mut turned = desk.turn(BUDGET);
+        while self.crew.next_loss(desk).expect("the crew of this desk").is_some() {}
+        let stepped = self.crew.step(desk, 0, most, &mut self.jobs).expect("the crew of this desk");
+        turned.posted += stepped.posted;
+        turned.stopped = turned.stopped.or(stepped.stopped);
         if turned.posted > 0 {
             self.hub.ring_others(self.number);
         }
