@@ -17,8 +17,9 @@
 //! - **Nothing is kept back.** Between calls no job is in a hand. (`AttendsHands`)
 //! - **No lost wake-up.** After each call a process that has something to do is in the queue, or what it got is not read
 //!   yet. After `begin_step` and `end_step` it is in the queue. (`attends`, `awake`)
-//! - **Exits.** A process that has exited, in whatever way, leaves once. A job tells its tag, the reason of its own exit
-//!   in the journal (`Noproc` if a signal ended it), and what it was to do. (`TellsExit`)
+//! - **Exits.** A process that has exited, in whatever way, leaves once. A job tells its tag, the reason, and what it was
+//!   to do. The reason is that of its own exit in the journal; if a signal ended it, the one that a loss of its desk told,
+//!   or `Noproc` if none was noted. (`TellsExit`, `NotesLoss`)
 //! - **Answers.** What was answered is what the process does next. An answer for a process that is not running changes
 //!   nothing. (`answer`)
 //! - **Batches.** `fill` runs the processes that were in the queue as it began, in order, until the slice is full. No
