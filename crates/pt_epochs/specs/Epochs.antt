@@ -75,7 +75,7 @@ pub record AllAttend {B : Type 0} (crews : List (Crew B)) (shards : List ShardSt
 
 -- the end of an epoch ---------------------------------------------------------------
 
--- a quiet node is resumed, and its crews begin again
+-- a settled node is resumed, and its crews begin again
 pub record ResumesCrews {B : Type 0} (g : GatheredState) (crews : List (Crew B)) (desks : List DeskState)
     (later : List (Crew B)) : Type 0 where
   pub resumes : Resumes g desks
@@ -88,7 +88,7 @@ HaltsBeginning desks crews _ later = ⊥
 
 -- where the node was not resumed, or else there
 abbrev pub HaltsResuming : {B : Type 0} → QuietState → List (Crew B) → Halted → List (Crew B) → Type 0
-HaltsResuming q crews (Resuming back) later = (back.quiet ≡ q) × (later ≡ crews)
+HaltsResuming q crews (Resuming back) later = (back.settled ≡ q) × (later ≡ crews)
 HaltsResuming q crews halted later =
     (desks : List DeskState) × Resumes q.gathered desks × HaltsBeginning desks crews halted later
 
@@ -187,5 +187,5 @@ module _ {B S : Type 0} (Takes Refuses : S → List Stamped → S → Type 0) wh
   GoesOnAs (Reading q) crews sink result later after = HandsAs q crews sink result later after
   GoesOnAs (Taking q) crews sink result later after = HandsAs q crews sink result later after
   GoesOnAs (Resuming back) crews sink result later after =
-      ResumesAllAs back.quiet crews result later × (after ≡ sink)
+      ResumesAllAs back.settled crews result later × (after ≡ sink)
   GoesOnAs (Beginning node) crews sink result later after = AllBeginAs node crews result later × (after ≡ sink)

@@ -7,7 +7,7 @@ ghost use Rattle.pt_epochs.specs.Epochs.{CrewMayBegin, ResumesAllAs, SettlesAs};
 use crate::halted::Halted;
 use crate::sink::Sink;
 use pt_crew::{Behaviour, Crew};
-use pt_gathered::{Gathered, Quiet};
+use pt_gathered::{Gathered, Settled};
 use pt_node::Node;
 use std::alloc::{AllocError, Global};
 
@@ -17,6 +17,9 @@ use std::alloc::{AllocError, Global};
 /// What the sink gets follows what the node went on from, and both together are one legal history, with no letter in
 /// flight at its end; the node that comes back goes on from it. If the node is still, no process has got anything
 /// meanwhile.
+///
+/// No list of all pids is made. So it costs what happened since the node was opened or resumed, the live processes and
+/// the slots.
 ///
 /// Fails as [`Halted`] says. What was done until then stays, and [`Halted::go_on`] does the rest.
 pub fn end_epoch<B: Behaviour + Drop, S: Sink>(
@@ -42,25 +45,25 @@ pub(crate) fn settle_over<B: Behaviour + Drop, S: Sink>(
 ) -> Result<Node, Halted>
     ensures { SettlesAs S.takes S.refuses gathered crews.old.items sink.old result crews.new.items sink.new }
 {
-    match gathered.settle() {
-        Ok(quiet) => hand_over(alloc, quiet, crews, sink),
+    match gathered.settle_unlisted() {
+        Ok(settled) => hand_over(alloc, settled, crews, sink),
         Err(unsettled) => Err(Halted::Settling(unsettled)),
     }
 }
 
-/// Hands the history of a quiet node to the sink, and does the rest.
+/// Hands the history of a settled node to the sink, and does the rest.
 pub(crate) fn hand_over<B: Behaviour + Drop, S: Sink>(
     alloc: Global,
-    quiet: Quiet,
+    settled: Settled,
     crews: &mut Vec<Crew<B>>,
     sink: &mut S,
 ) -> Result<Node, Halted>
-    ensures { HandsAs S.takes S.refuses quiet crews.old.items sink.old result crews.new.items sink.new }
+    ensures { HandsAs S.takes S.refuses settled crews.old.items sink.old result crews.new.items sink.new }
 {
-    match hand(&quiet, sink) {
-        Ok(()) => resume_over(alloc, quiet, crews),
-        Err(Unhanded::Unread) => Err(Halted::Reading(quiet)),
-        Err(Unhanded::Refused) => Err(Halted::Taking(quiet)),
+    match hand(&settled, sink) {
+        Ok(()) => resume_over(alloc, settled, crews),
+        Err(Unhanded::Unread) => Err(Halted::Reading(settled)),
+        Err(Unhanded::Refused) => Err(Halted::Taking(settled)),
     }
 }
 
@@ -73,11 +76,11 @@ pub(crate) enum Unhanded {
     Refused,
 }
 
-/// Hands the history of a quiet node to the sink.
-fn hand<S: Sink>(quiet: &Quiet, sink: &mut S) -> Result<(), Unhanded>
-    ensures { Hands S.takes S.refuses quiet.now.gathered sink.old result sink.new }
+/// Hands the history of a settled node to the sink.
+fn hand<S: Sink>(settled: &Settled, sink: &mut S) -> Result<(), Unhanded>
+    ensures { Hands S.takes S.refuses settled.now.gathered sink.old result sink.new }
 {
-    let Ok(history) = quiet.history() else {
+    let Ok(history) = settled.history() else {
         return Err(Unhanded::Unread);
     };
     match sink.take(history.as_slice()) {
@@ -86,15 +89,15 @@ fn hand<S: Sink>(quiet: &Quiet, sink: &mut S) -> Result<(), Unhanded>
     }
 }
 
-/// Resumes a quiet node, and lets the crews begin again.
+/// Resumes a settled node, and lets the crews begin again.
 pub(crate) fn resume_over<B: Behaviour + Drop>(
     alloc: Global,
-    quiet: Quiet,
+    settled: Settled,
     crews: &mut Vec<Crew<B>>,
 ) -> Result<Node, Halted>
-    ensures { ResumesAllAs quiet crews.old.items result crews.new.items }
+    ensures { ResumesAllAs settled crews.old.items result crews.new.items }
 {
-    match Node::resume(alloc, quiet) {
+    match Node::resume_settled(alloc, settled) {
         Ok(node) => begin_over(node, crews),
         Err(resting) => Err(Halted::Resuming(resting)),
     }
@@ -142,8 +145,10 @@ impl Halted {
             Halted::Running(node, _) | Halted::Turning(node, _) => Ok(node),
             Halted::Gathering(back) => end_epoch(alloc, back.node, crews, sink),
             Halted::Settling(back) => settle_over(alloc, back.gathered, crews, sink),
-            Halted::Reading(quiet) | Halted::Taking(quiet) => hand_over(alloc, quiet, crews, sink),
-            Halted::Resuming(back) => resume_over(alloc, back.quiet, crews),
+            Halted::Reading(settled) | Halted::Taking(settled) => {
+                hand_over(alloc, settled, crews, sink)
+            },
+            Halted::Resuming(back) => resume_over(alloc, back.settled, crews),
             Halted::Beginning(node) => begin_over(node, crews),
         }
     }

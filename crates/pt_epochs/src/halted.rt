@@ -1,7 +1,7 @@
 //! Why epochs stop before they are to, and the node as it is then.
 
-use pt_gathered::{Quiet, Unsettled};
-use pt_node::{Node, NodeBack, Resting, RunFault, Stopped};
+use pt_gathered::{Settled, Unsettled};
+use pt_node::{Node, NodeBack, RestingSettled, RunFault, Stopped};
 use std::fmt;
 
 /// Why epochs stopped, and the node as it is then. Nothing is lost: see [`Halted::go_on`].
@@ -16,11 +16,11 @@ pub enum Halted {
     /// A letter was not delivered.
     Settling(Unsettled),
     /// There was no memory for the history.
-    Reading(Quiet),
+    Reading(Settled),
     /// The sink did not take the history.
-    Taking(Quiet),
+    Taking(Settled),
     /// There was no memory to resume the node, whose history the sink took.
-    Resuming(Resting),
+    Resuming(RestingSettled),
     /// There was no memory for a crew to begin again, on the node that was resumed. A crew that attends its desk has it.
     Beginning(Node),
 }
