@@ -1,5 +1,5 @@
 -- Crews attend their desks through legs, and over those of the node that was resumed.
-use Rattle.std.proofs.Common.{◌≡◌, ℕ, zero, suc, ◌<◌, Bool, List, [], ◌∷◌, length, max, get_or, Option, Some, None, refl, sym, ap, ◌∙◌, subst, arith}
+use Rattle.std.proofs.Common.{◌≡◌, ℕ, zero, suc, ◌<◌, List, [], ◌∷◌, length, max, get_or, Option, Some, None, refl, sym, ap, ◌∙◌, subst, arith}
 use Rattle.std.specs.Option.{option_map}
 use Rattle.std.proofs.lemmas.List.{get_or-map, length-map}
 use Rattle.pt_events.specs.History.{Phase, unborn, living, ended, is_unborn}
@@ -16,7 +16,7 @@ use Rattle.pt_gathered.specs.Gathered.{GatheredState}
 use Rattle.pt_gathered.specs.Quiet.{latest_stamp}
 use Rattle.pt_workers.specs.Desks.{all_shards}
 use Rattle.pt_workers.specs.NodeRunning.{RunsPaired}
-use Rattle.pt_workers.specs.Running.{AllWork, BeginRelation, TakesTurn, TakesTurns}
+use Rattle.pt_workers.specs.Running.{TakesTurn}
 use Rattle.pt_workers.specs.Stillness.{AllDesksGoOn}
 use Rattle.pt_workers.specs.declared.stillness.Rested.{Rested}
 use Rattle.pt_node.proofs.RoundByRound.{all_rounds_go_on}
@@ -27,6 +27,7 @@ use Rattle.pt_crew.specs.Visiting.{Answers}
 use Rattle.pt_crew.specs.Crews.{Attends, AreBorn, members, queue, role, roles}
 use Rattle.pt_crew.specs.Running.{CrewsDo}
 use Rattle.pt_crew.proofs.Waking.{knows_later}
+use Rattle.pt_epochs.specs.Driving.{AllWorkLet, LetsBegin, TakesLet}
 use Rattle.pt_epochs.specs.Idle.{InTurns, Leg, Legs, Worked}
 use Rattle.pt_epochs.specs.Epochs.{AllAttend, ResumesCrews}
 
@@ -72,7 +73,7 @@ module _ {B : Type 0} (answers : Answers B) where
   worker_on budget old new h a =
       subst (λ (c : Crew B). Attends c new.0.shard) (sym h.hears) (turn_on h.worked budget h.stepped h.turned new.0 h.turn (h.step.attends a))
 
-  workers_on : (lets : Crew B → ℕ → Bool → Type 0) (budget count : ℕ) (old new : DeskState × Crew B) → TakesTurns lets (CrewsDo answers) budget count old new → Attends old.1 old.0.shard → Attends new.1 new.0.shard
+  workers_on : (lets : LetsBegin (Crew B)) (budget count : ℕ) (old new : DeskState × Crew B) → TakesLet lets (CrewsDo answers) budget count old new → Attends old.1 old.0.shard → Attends new.1 new.0.shard
   workers_on lets budget zero old new h a = subst (λ (x : DeskState × Crew B). Attends x.1 x.0.shard) (sym h) a
   workers_on lets budget (suc count) old new (last, before, begins, turn) a = worker_on budget last new turn (workers_on lets budget count old last before a)
 
@@ -85,9 +86,9 @@ module _ {B : Type 0} (answers : Answers B) where
   abbrev snd : DeskState × Crew B → Crew B
   snd p = p.1
 
-  module _ (lets : BeginRelation (Crew B)) (turns budget : ℕ) where
+  module _ (lets : LetsBegin (Crew B)) (turns budget : ℕ) where
     paired_on : (old : List DeskState) (crews : List (Crew B)) (new : List DeskState) (after : List (Crew B))
-        → RunsPaired (AllWork lets (CrewsDo answers) turns budget) old crews new after → Attend crews old → Attend after new
+        → RunsPaired (AllWorkLet lets (CrewsDo answers) turns budget) old crews new after → Attend crews old → Attend after new
     paired_on old crews new after r a = record {
       count = after_count ∙ sym new_count;
       each = λ d c x l.
@@ -103,7 +104,7 @@ module _ {B : Type 0} (answers : Answers B) where
           same_on (get_or r.after d p).1 (get_or after d c) (get_or r.after d p).0 (get_or new d x)
           (sym (ap (λ (cs : List (Crew B)). get_or cs d c) (sym r.ended.seconds) ∙ get_or-map snd r.after d p c in_after))
           (sym (ap (λ (ds : List DeskState). get_or ds d x) (sym r.ended.firsts) ∙ get_or-map fst r.after d p x in_after))
-          (workers_on (lets (get_or r.before d p).0.shard.number) budget w.count (get_or r.before d p) (get_or r.after d p) w.took was);
+          (workers_on lets budget w.count (get_or r.before d p) (get_or r.after d p) w.took was);
     }
       where
         old_count : length old ≡ length r.before
@@ -123,11 +124,11 @@ module _ {B : Type 0} (answers : Answers B) where
         later (get_or crews d c) (get_or old d x).shard (get_or new d x).shard (on.each d x within).shard (a.each d c x within);
   }
 
-  module _ (lets : ℕ → ℕ → Bool → Type 0) (budget : ℕ) where
+  module _ (lets : LetsBegin (Crew B)) (budget : ℕ) where
     leg_on : (turns : ℕ) (old : Worked (Crew B)) (did : Rested) (new : Worked (Crew B)) → Leg (InTurns answers lets budget) budget turns old did new → Attend old.works old.desks → Attend new.works new.desks
     leg_on turns old did new leg a =
         go_on_on new.works leg.ran new.desks (all_rounds_go_on (max budget 1) leg.ran did new.desks leg.rests)
-        (paired_on (λ number work turn begins. lets number turn begins) turns budget old.desks old.works leg.ran new.works leg.runs a)
+        (paired_on lets turns budget old.desks old.works leg.ran new.works leg.runs a)
 
     legs_on : (Goes : Worked (Crew B) → Type 0) (legs : List ℕ) (old new : Worked (Crew B)) → Legs (InTurns answers lets budget) budget Goes legs old new → Attend old.works old.desks → Attend new.works new.desks
     legs_on Goes [] old new h a = subst (λ (w : Worked (Crew B)). Attend w.works w.desks) (sym h) a

@@ -7,3 +7,4 @@ pub mod Stages
 pub mod Idling
 pub mod Again
 pub mod Pausing
+pub mod Driving

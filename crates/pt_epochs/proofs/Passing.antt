@@ -68,7 +68,7 @@ module _ {B : Type 0} (Runs : ℕ → List (DeskState × Crew B) → List (DeskS
     ends_run most n outcome.Idle all old new within e = (n, within, e)
     ends_run most n outcome.Told all old new within e = (n, within, e)
 
-module _ {B : Type 0} (answers : Answers B) (lets : ℕ → ℕ → Bool → Type 0) (plan : Plan) where
+module _ {B : Type 0} (answers : Answers B) (lets : DeskState × Crew B → ℕ → Bool → Type 0) (plan : Plan) where
   abbrev Runs : ℕ → List (DeskState × Crew B) → List (DeskState × Crew B) → Type 0
   Runs = InTurns answers lets plan.budget
 

@@ -3,16 +3,15 @@ use Rattle.std.specs.Prelude.{◌≡◌, ◌≢◌, ℕ, ◌+◌, ◌<◌, ◌�
 use Rattle.std.specs.Prelude.{Result, Ok, Err}
 use Rattle.pt_desk.specs.DeskState.{DeskState}
 use Rattle.pt_workers.specs.NodeRunning.{RunsPaired}
-use Rattle.pt_workers.specs.Running.{AllWork, begins_by}
 use Rattle.pt_workers.specs.Stillness.{AreStill, RunsRounds, StoppedAt}
 use Rattle.pt_workers.specs.declared.run_fault.RunFault.{RunFault}
 use Rattle.pt_workers.specs.declared.run_fault.RunFault.TheVariants.{Works, Memory}
 use Rattle.pt_workers.specs.declared.stillness.Rested.{Rested}
-use Rattle.pt_workers.specs.declared.work.Standing.TheVariants.{Going}
 use Rattle.pt_crew.specs.declared.crew.Crew.{Crew}
 use Rattle.pt_crew.specs.Visiting.{Answers}
 use Rattle.pt_crew.specs.Crews.{waiting}
 use Rattle.pt_crew.specs.Running.{AreIdle, CrewsDo}
+use Rattle.pt_epochs.specs.Driving.{AllWorkLet}
 use Rattle.pt_epochs.specs.declared.idle.Ended.{Ended}
 use Rattle.pt_epochs.specs.declared.idle.Ended.TheVariants.{Idle, Stopped, Spent}
 
@@ -89,9 +88,9 @@ abbrev pub IsGoing : {B : Type 0} → Worked (Crew B) → Type 0
 IsGoing w = ¬ AtRest w
 
 -- what a leg runs: the crews take these turns, as far as they may begin
-abbrev pub InTurns : {B : Type 0} → Answers B → (ℕ → ℕ → Bool → Type 0) → ℕ → ℕ → List (DeskState × Crew B)
-    → List (DeskState × Crew B) → Type 0
-InTurns answers lets budget turns old new = AllWork (begins_by (λ _. Going) lets) (CrewsDo answers) turns budget old new
+abbrev pub InTurns : {B : Type 0} → Answers B → (DeskState × Crew B → ℕ → Bool → Type 0) → ℕ → ℕ
+    → List (DeskState × Crew B) → List (DeskState × Crew B) → Type 0
+InTurns answers lets budget turns old new = AllWorkLet lets (CrewsDo answers) turns budget old new
 
 -- The crews run, in legs, for at most so many turns. They end idle exactly where they are at rest: nobody has anything
 -- to do and nothing is on its way; and they do so after the first leg behind which it is so.

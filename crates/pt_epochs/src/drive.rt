@@ -1,19 +1,21 @@
 //! How the crews of a node are run for some turns.
 
 ghost use Rattle.std.specs.Prelude.{ℕ, Bool};
+ghost use Rattle.pt_desk.specs.DeskState.{DeskState};
 ghost use Rattle.pt_workers.specs.NodeRunning.{RunsNode};
-ghost use Rattle.pt_workers.specs.Running.{AllWork, begins_by};
-ghost use Rattle.pt_workers.specs.declared.work.Standing.TheVariants.{Going};
+ghost use Rattle.pt_crew.specs.declared.crew.Crew.{Crew};
 ghost use Rattle.pt_crew.specs.Running.{CrewsDo};
+ghost use Rattle.pt_epochs.specs.Driving.{AllWorkLet};
 
 use pt_crew::{Behaviour, Crew};
 use pt_node::{FreeGate, Node, RunFault};
 
 /// How the crews of a node are run for some turns: by [`Rounds`] on the calling thread.
 ///
-/// The ghost member `lets` says which turns may begin, as that of a [`Gate`](pt_node::Gate).
+/// The ghost member `lets` says which turns may begin: of the desk with its crew as they are before the turn, the number
+/// of the turn, and the answer.
 pub trait Drive<B: Behaviour + Drop> {
-    ghost lets: { Self → ℕ → ℕ → Bool → Type 0 };
+    ghost lets: { Self → DeskState × Crew B → ℕ → Bool → Type 0 };
 
     /// Runs each crew for up to so many turns, each over the desk at its place.
     ///
@@ -25,8 +27,7 @@ pub trait Drive<B: Behaviour + Drop> {
         turns: u64,
         budget: u32,
     ) -> Result<(), RunFault>
-        ensures { RunsNode
-            (AllWork (begins_by (λ _. Going) (lets self.now)) (CrewsDo B.answers) turns budget)
+        ensures { RunsNode (AllWorkLet (lets self.now) (CrewsDo B.answers) turns budget)
             node.old crews.old.items result node.new crews.new.items };
 
     /// The most turns that it is worth while to take before it is looked whether the crews are idle.
@@ -38,9 +39,9 @@ pub trait Drive<B: Behaviour + Drop> {
 pub struct Rounds;
 
 impl<B: Behaviour + Drop> Drive<B> for Rounds {
-    ghost use Rattle.pt_workers.specs.Running.{always};
+    ghost use Rattle.pt_epochs.specs.Driving.{lets_each};
 
-    ghost lets = { λ _ desk turn begins. always desk turn begins };
+    ghost lets = { λ _ x turn begins. lets_each x turn begins };
 
     fn drive(
         &self,

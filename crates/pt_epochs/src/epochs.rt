@@ -73,7 +73,7 @@ fn is_too_long(desks: &[Desk], events: usize) -> bool
 }
 
 /// Whether the crews are to pause behind a leg, and why.
-fn pause_of<B: Behaviour + Drop>(
+pub(crate) fn pause_of<B: Behaviour + Drop>(
     stopped: Option<Stopped>,
     crews: &[Crew<B>],
     desks: &[Desk],
@@ -165,7 +165,7 @@ fn one_epoch<D: Drive<B>, B: Behaviour + Drop, S: Sink>(
 }
 
 /// Why the run ends behind an epoch that ended so, if it does.
-fn outcome_of(pause: Pause) -> Option<Outcome>
+pub(crate) fn outcome_of(pause: Pause) -> Option<Outcome>
     ensures { result ≡ outcome_of pause }
 {
     match pause {

@@ -3,8 +3,8 @@
 //! [`run_until_idle`] runs the crews of a node until no process has anything to do and no letter is in flight, with no
 //! number of turns to be guessed. [`run_epochs`] empties the journals from time to time: it gathers and settles the node,
 //! hands its history to a [`Sink`], resumes it, and lets the crews begin again. A [`Drive`] says how the crews are run
-//! meanwhile, as [`Rounds`] does on the calling thread. If something fails, a [`Halted`] has the node as it is then, and
-//! goes on from there.
+//! meanwhile, as [`Rounds`] does on the calling thread; [`run_epochs_on_threads`] runs each on a thread of its own. If
+//! something fails, a [`Halted`] has the node as it is then, and goes on from there.
 //!
 //! Tests: `checks/tried/test_calls/running_on.rt.txt`.
 //!
@@ -14,6 +14,8 @@
 //!   is so. What was done is runs of the crews, each followed by turns until the node is still. (`RunsUntilIdle`)
 //! - **Ends of epochs.** An epoch ends as its plan says: with the first look at which nothing is left to do or a journal
 //!   is too long, if nobody asks before. (`RunsToPause`)
+//! - **On threads.** What the crews do is turns of each, as in a run of the node. Behind the first turn before a look, none
+//!   begins on a desk whose journal is too long. (`AllWorkLet`, `lets_short`)
 //! - **Each history once.** The sink takes the settled history of each epoch, once and in order. (`EndsEpoch`)
 //! - **One history.** All that the sink took is one legal history, with what the node went on from before it. No letter
 //!   is in flight at its end. (`PassesAsOne`)
@@ -23,13 +25,17 @@
 //!   (`HaltsRun`, `GoesOnAs`)
 #![tactic(auto)]
 
+mod board;
 mod call;
 mod drive;
 mod ending;
 mod epochs;
 mod halted;
 mod idle;
+mod on_threads;
 mod sink;
+mod watched;
+mod workers;
 
 pub use call::Call;
 pub use drive::{Drive, Rounds};
@@ -37,6 +43,7 @@ pub use ending::end_epoch;
 pub use epochs::{Outcome, Pause, Plan, run_epochs};
 pub use halted::Halted;
 pub use idle::{Ended, none_has_work, run_until_idle};
+pub use on_threads::run_epochs_on_threads;
 pub use pt_crew::{Behaviour, Crew};
 pub use pt_events::Stamped;
 pub use pt_node::{Node, RunFault, Stopped};
