@@ -39,7 +39,7 @@ early=0
 late=0
 tell() {
     local resident pauses count
-    resident=$(sed -n 's/^VmRSS: *\([0-9]*\) kB$/\1/p' "/proc/$running/status")
+    resident=$(awk '$1 == "VmRSS:" { print $2 }' "/proc/$running/status")
     read -r pauses count < <(grep -E '^[0-9]+ [0-9]+$' "$ROOM/soak.said" | tail -n 1) || true
     printf '%6s %12s %12s %8s\n' "$1" "${resident:-?}" "${count:-0}" "${pauses:-0}"
     late=${resident:-0}
