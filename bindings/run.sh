@@ -196,6 +196,8 @@ echo "rust: the chat server passed"
     python3 -m unittest discover -q -s tests
     PYTHONPATH=. python3 examples/supervisor.py | diff "$here/c/supervisor.out" -
     PYTHONPATH=. python3 examples/crew.py | diff "$here/c/crew.out" -
+    # (three seconds, and what a busy machine takes longer)
+    PYTHONPATH=. timeout 120 python3 examples/chat.py
     if command -v mypy >/dev/null; then
         mypy --strict --no-incremental pundewo build_wheel.py examples
     fi

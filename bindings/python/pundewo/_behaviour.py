@@ -1,0 +1,218 @@
+"""What a process of a runtime does, and what it is told."""
+
+from __future__ import annotations
+
+import math
+from abc import ABC, abstractmethod
+from functools import partial
+from typing import TYPE_CHECKING, Any, Callable, NamedTuple, Optional, Union
+
+from .values import ANY, NORMAL, U32, Pick, Pid, Reason, Ref, of_type, shown
+
+if TYPE_CHECKING:
+    from ._process import Context, Seat
+    from ._sending import Sending
+
+# The reason of a process whose handler raised an exception. No behaviour should stop with it.
+CRASH = Reason("other", U32)
+
+# What those outside want: the run goes on, its processes are to exit, they are killed, it is over.
+GO_ON, STOP, KILLS, OVER = range(4)
+
+# What is to be done at a time.
+Alarm = int
+
+# The longest time that a limit may be: some thirty years.
+LONGEST = 1e9
+
+
+def seconds(field: str, value: object) -> float:
+    """The value as a time in seconds."""
+    if not isinstance(value, (int, float)) or isinstance(value, bool):
+        raise TypeError(f"{field} is {shown(value)}, and must be a number of seconds")
+    if not (math.isfinite(value) and 0 <= value <= LONGEST):
+        raise ValueError(f"{field} is {shown(value)}, and must be from 0 to {LONGEST:.0f} seconds")
+    return float(value)
+
+
+class _Next(NamedTuple):
+    name: str
+    pick: Pick
+    limit: Optional[float]
+    reason: Reason
+
+
+class Next(_Next):
+    """What a process does next. Make one by `wait`, `proceed` or `stop`; None in its place is `wait()`."""
+
+    __slots__ = ()
+
+    @classmethod
+    def wait(cls, limit: Optional[float] = None, pick: Pick = ANY) -> Next:
+        """It waits for what this pick takes; all else stays in its mailbox, in order. If nothing comes for so many
+        seconds, it gets TIMEOUT."""
+        limit = None if limit is None else seconds("limit", limit)
+        return cls("wait", of_type("pick", pick, Pick), limit, NORMAL)
+
+    @classmethod
+    def proceed(cls) -> Next:
+        """It gets PROCEED as soon as the others of its desk have had their turn."""
+        return cls("proceed", ANY, None, NORMAL)
+
+    @classmethod
+    def stop(cls, reason: Reason = NORMAL) -> Next:
+        """It exits with this reason."""
+        return cls("stop", ANY, None, of_type("reason", reason, Reason))
+
+
+class Message(NamedTuple):
+    """A message, and who sent it. What comes from outside is sent by a process that each desk has for that."""
+
+    value: Any
+    sender: Pid
+
+
+class Down(NamedTuple):
+    """The one news of a monitor: a process has exited. `crash` is the text of its exception, if that is how."""
+
+    monitor: Ref
+    pid: Pid
+    reason: Reason
+    crash: Optional[str]
+
+
+class Exit(NamedTuple):
+    """An exit signal that the process traps. `crash` is the text of its exception, if a linked process crashed."""
+
+    pid: Pid
+    reason: Reason
+    crash: Optional[str]
+
+
+class Tick(NamedTuple):
+    """What no other process sent: TIMEOUT, the time is over for which the process waited; PROCEED, as it said."""
+
+    name: str
+
+
+TIMEOUT, PROCEED = Tick("timeout"), Tick("proceed")
+
+
+class CallFault(Exception):
+    """Why a call has no answer."""
+
+
+class ServerDown(CallFault):
+    """The server exited for this reason, with the text of its exception if it crashed."""
+
+    def __init__(self, reason: Reason, crash: Optional[str] = None):
+        self.reason, self.crash = reason, crash
+        super().__init__(f"the server exited: {reason}" if crash is None else f"the server crashed: {crash}")
+
+    def __reduce__(self) -> tuple[Any, ...]:
+        return type(self), (self.reason, self.crash)
+
+
+class CallTimeout(CallFault, TimeoutError):
+    """There was no answer in time."""
+
+    def __init__(self) -> None:
+        super().__init__("there was no answer in time")
+
+
+class Unanswered(CallFault):
+    """The server dropped the request without an answer."""
+
+    def __init__(self) -> None:
+        super().__init__("the request was dropped unanswered")
+
+
+class RunOver(CallFault):
+    """The run is over, or ends and takes nothing in any more."""
+
+    def __init__(self) -> None:
+        super().__init__("the run is over")
+
+
+class Call:
+    """A call that a process has made, by which it knows the `Answer`."""
+
+    __slots__ = ("client", "server", "monitor", "alarm", "is_open", "done")
+
+    def __init__(self, done: Optional[Callable[[Answer], None]] = None):
+        self.client: Optional[Seat] = None
+        self.server: Optional[Pid] = None
+        self.monitor: Optional[Ref] = None
+        self.alarm: Optional[Alarm] = None
+        self.is_open = True
+        # what is told of the answer to a call from outside
+        self.done = done
+
+
+class Answer(NamedTuple):
+    """How a call ended: `result` returns its value, or raises why there is none."""
+
+    call: Call
+    value: Any
+    fault: Optional[CallFault]
+
+    def result(self) -> Any:
+        if self.fault is not None:
+            raise self.fault
+        return self.value
+
+
+class Request:
+    """A message that asks for an answer: give it by `Context.reply`, or by `reply` from outside of the behaviours.
+
+    A request that is dropped without an answer tells its client so.
+    """
+
+    __slots__ = ("value", "sender", "_call", "_engine")
+
+    def __init__(self, engine: Sending, call: Call, sender: Pid, value: Any):
+        self._call: Optional[Call] = None
+        self.value, self.sender, self._engine = value, sender, engine
+        self._call = call
+
+    def reply(self, value: Any) -> None:
+        """Answers, from any thread. In a behaviour take `Context.reply`: then the answer comes after all that the
+        process has sent the client."""
+        call = self._taken()
+        self._engine.post(lambda: self._engine.answer(call, None, Answer(call, value, None)))
+
+    def _taken(self) -> Call:
+        self._call, call = None, self._call
+        if call is None:
+            raise RuntimeError("the request was answered before")
+        return call
+
+    def __del__(self) -> None:
+        call, self._call = self._call, None
+        if call is not None:
+            self._engine.post(partial(self._engine.unanswered, call))
+
+    def __repr__(self) -> str:
+        return f"Request({self.value!r}, sender={self.sender})"
+
+
+Event = Union[Message, Request, Down, Exit, Answer, Tick]
+
+
+class Behaviour(ABC):
+    """What a process does with what it is told. Its state is the value itself.
+
+    An exception in `started` or `handle` is a crash: the process exits with CRASH, its monitors and links hear of it,
+    and the run goes on. A handler should not wait: while it does, all processes do.
+    """
+
+    def started(self, cx: Context) -> Optional[Next]:
+        """It begins. It waits for whatever comes, unless this returns something else."""
+        return None
+
+    @abstractmethod
+    def handle(self, cx: Context, event: Event) -> Optional[Next]:
+        """It is told this, and returns what it does next."""
+
+    def ended(self, why: Reason) -> None:
+        """The process has exited, in whatever way, for this reason."""

@@ -1,0 +1,372 @@
+"""What runs the processes of all desks on one thread."""
+
+from __future__ import annotations
+
+import logging
+import traceback
+from collections import deque
+from threading import get_ident
+from typing import Any, Callable, Deque, Optional
+
+from . import Code, Config, Crew, Fault, Gathered, Item, Job, Settled, gather, open_node
+from . import Next as Does
+from ._archive import Sink
+from ._behaviour import (
+    CRASH, GO_ON, KILLS, OVER, PROCEED, STOP, TIMEOUT, Answer, Behaviour, Call, CallFault, Down, Event, Exit, Message, Next,
+    RunOver, ServerDown,
+)
+from ._process import Address, Porter, Seat
+from ._sending import MESSAGE, Sending, Task, kind_of
+from .values import ANY, KILL, NORMAL, SHUTDOWN, U8, Pick, Pid, Reason, Ref, of_type
+
+log = logging.getLogger("pundewo")
+
+# What halts the run if a handler raises it, which is a crash too. The run may go on then.
+HALTS = KeyboardInterrupt, SystemExit
+
+# How many letters a turn handles at most, and how many jobs a step has.
+BUDGET, MOST = 256, 64
+
+
+class Engine(Sending):
+    """All processes of a run. Only `post`, `ask` and reading are for other threads."""
+
+    def __init__(self, desks: int, config: Config, every: int, sink: Optional[Sink], patience: float):
+        super().__init__(open_node(desks, config))
+        self.crews = [Crew(desk) for desk in self.desks]
+        for desk in self.desks:
+            desk.keep_losses()
+        self.every, self.sink, self.patience = every, sink, patience
+        # the thread that runs the processes, once there is one
+        self.thread: Optional[int] = None
+        self.running: Optional[Seat] = None
+        self.seats: dict[int, Seat] = {}
+        self.inbox: Deque[Task] = deque()
+        self._jobs: list[Deque[Job]] = [deque() for _ in self.desks]
+        self._answers: list[list[tuple[Pid, Does]]] = [[] for _ in self.desks]
+        self._untold = self._taken = False
+        self._gathered: Optional[Gathered] = None
+        self._settled: Optional[Settled] = None
+        self.spawned = self.crashes = self.epochs = self.archived = 0
+        self.killed: list[Pid] = []
+        for number in range(desks):
+            self.porters.append(self.spawn(Porter(), number).pid)
+        self.spawned = 0
+
+    # What those outside want
+
+    def post(self, task: Task) -> None:
+        """Has the thread of the run do this, soon. If the run is over, it is done here, and finds that."""
+        self.inbox.append(task)
+        if self.order == OVER:
+            self._perform()
+        else:
+            self.ring()
+
+    def is_here(self) -> bool:
+        """Whether this is the thread of the run."""
+        return self.thread == get_ident()
+
+    def send_from_outside(self, to: Address, value: Any) -> None:
+        if self.order != OVER:
+            self.send(self.porters[to.pid.shard if to._engine is self else 0], to, value)
+
+    def ask(self, to: Address, value: Any, limit: float, done: Callable[[Answer], None]) -> Call:
+        """A call from outside."""
+        call = Call(done)
+        self.post(lambda: self._begin_ask(call, to, value, limit))
+        return call
+
+    def _begin_ask(self, call: Call, to: Address, value: Any, limit: float) -> None:
+        if self.order == OVER:
+            self._resolve(Answer(call, None, RunOver()))
+        elif call.is_open:
+            self._outside.add(call)
+            try:
+                self.call(self.pids[self.porters[to.pid.shard]], to, value, limit, call)
+            except Fault as fault:
+                self._resolve(Answer(call, None, CallFault(f"the server was not asked: {fault}")))
+
+    def _resolve(self, answer: Answer) -> None:
+        """Tells the one outside who has made the call."""
+        call = answer.call
+        call.is_open = False
+        self._outside.discard(call)
+        if call.done is not None:
+            call.done(answer)
+
+    def end(self, order: int) -> None:
+        """Has all processes exit, or be killed, now and from now on."""
+        if order > self.order:
+            self.order, self._untold = order, True
+            if order == STOP:
+                self.set_alarm(self.patience, lambda: self.end(KILLS))
+
+    # A round
+
+    def round(self) -> bool:
+        """Does what is to be done now, and returns whether anything was."""
+        self._inside = True
+        try:
+            if not self.desks:
+                self._go_on()
+            busy = self._perform() | self._go_off()
+            self._tell_order()
+            dropped, self._dropped = self._dropped, []
+            for number in range(len(self.desks)):
+                busy |= self._step(number)
+            for call in dropped:
+                self._tell_dropped(call)
+            if any(desk.event_count() > self.every for desk in self.desks):
+                self._go_on()
+                busy = True
+            return busy or bool(self.inbox)
+        finally:
+            self._inside = False
+
+    def rest_time(self) -> Optional[float]:
+        """For how many seconds nothing is to be done, unless something comes in. (if nothing was in the last round)"""
+        times = [crew.next_time() for crew in self.crews] + ([self._times[0][0]] if self._times else [])
+        known = [at for at in times if at is not None]
+        return max(0.0, (min(known) - self.now()) / 1e6) if known else None
+
+    def is_empty(self) -> bool:
+        """Whether no process lives but those of the run itself."""
+        return len(self.seats) == len(self.porters) and not self.inbox
+
+    def finish(self) -> None:
+        """Ends the run: hands out its last history, and drops all that is left."""
+        if self.order != OVER:
+            if self.desks or self._gathered is not None or self._settled is not None:
+                self._close_epoch()
+                self.epochs += 1
+            self.abandon()
+
+    def abandon(self) -> None:
+        """Ends the run as it is: nothing is handed out any more."""
+        self.order = OVER
+        for seat in list(self.seats.values()):
+            self._leave(seat, KILL)
+        for call in list(self._outside):
+            self._resolve(Answer(call, None, RunOver()))
+        self.payloads.clear()
+        self._alarms.clear()
+        self._perform()
+        for crew in self.crews:
+            crew.close()
+        for desk in self.desks:
+            desk.close()
+        if self._gathered is not None:
+            self._gathered.close()
+        if self._settled is not None:
+            self._settled.close()
+
+    def _perform(self) -> bool:
+        """Does what those outside wanted by now."""
+        some = False
+        for _ in range(len(self.inbox)):
+            try:
+                task = self.inbox.popleft()
+            except IndexError:  # another thread has done it, since the run is over
+                break
+            some = True
+            task()
+        return some
+
+    def _tell_order(self) -> None:
+        """Tells each process that was not told yet what those outside want."""
+        if self.order == GO_ON or not self._untold:
+            return
+        for seat in [seat for seat in self.seats.values() if seat.told < self.order]:
+            if seat.pid not in self.porters:
+                self.desks[seat.pid.shard].exit_signal(
+                    self.porters[seat.pid.shard], seat.pid, KILL if self.order == KILLS else SHUTDOWN)
+                if self.order == KILLS:
+                    self.killed.append(seat.pid)
+            seat.told = self.order
+        self._untold = False
+
+    def _step(self, number: int) -> bool:
+        """A turn of a desk, and the handlers of those of it who have something to do."""
+        desk, crew, jobs = self.desks[number], self.crews[number], self._jobs[number]
+        some = bool(jobs)
+        if not jobs:
+            turned = desk.turn(BUDGET)
+            # (before the step that tells of exits, so that it tells their reasons)
+            self._take_losses(number)
+            crew.set_time(self.now())
+            new, posted = crew.step(desk, 0, MOST)
+            jobs.extend(new)
+            some = bool(jobs) or turned.posted + turned.handled + posted.posted > 0
+            if turned.stopped is not None:
+                raise Fault(turned.stopped, "turn")
+            if crew.refused():
+                raise Fault(Code.MEMORY, "crew_step")
+        while jobs:
+            self._tell(jobs.popleft())
+        answers = self._answers[number]
+        if answers:
+            crew.answer_all(answers)
+            answers.clear()
+        return some
+
+    def _take_losses(self, number: int) -> None:
+        """Drops what the desk has lost. No letter can ask for it any more."""
+        desk, crew = self.desks[number], self.crews[number]
+        for loss in iter(lambda: crew.next_loss(desk), None):
+            for item in loss.items:
+                if item.body is not None:
+                    self.payloads.pop(item.body.num, None)
+
+    # The processes
+
+    def spawn(self, behaviour: Behaviour, desk: int, parent: Optional[Pid] = None, linked: bool = False) -> Address:
+        """Spawns a process on a desk. It is a child if its parent is of the same desk."""
+        of_type("behaviour", behaviour, Behaviour)
+        tag = self._number = self._number + 1
+        if parent is not None and parent.shard == desk:
+            pid = self.crews[desk].spawn_child(self.desks[desk], parent, linked, tag)
+        else:
+            pid = self.crews[desk].spawn(self.desks[desk], tag)
+        address = Address(pid, type(behaviour).__name__, self)
+        self.seats[tag] = self.pids[pid] = Seat(self, address, tag, behaviour, parent)
+        self.spawned += 1
+        self._untold = True
+        if linked and parent is not None and parent.shard != desk:
+            self.desks[parent.shard].link(parent, pid)
+        return address
+
+    def _tell(self, job: Job) -> None:
+        """Runs the handler of a process."""
+        seat = self.seats[job.tag]
+        if job.name == "exit":
+            self._leave(seat, job.reason or NORMAL)
+            return
+        answers = self._answers[seat.pid.shard]
+        self.running = seat
+        try:
+            seat.does = self._run(seat, job)
+            answers.append((seat.pid, seat.does))
+        except BaseException as error:
+            self._crash(seat, error)
+            if isinstance(error, HALTS):
+                raise
+        finally:
+            self.running = None
+
+    def _run(self, seat: Seat, job: Job) -> Does:
+        if job.name == "start":
+            return self._does(seat.behaviour.started(seat.cx))
+        if job.item is None:
+            event: Optional[Event] = TIMEOUT if job.name == "timeout" else PROCEED
+        else:
+            event = self._event_of(seat, job.item)
+        return seat.does if event is None else self._does(seat.behaviour.handle(seat.cx, event))
+
+    def _does(self, next_: Optional[Next]) -> Does:
+        """What a handler has returned, for a crew, whose times are points in time."""
+        if next_ is None:
+            return Does("wait", ANY)
+        if not isinstance(next_, Next):
+            raise TypeError(f"a handler returned {next_!r}, and must return None or a Next")
+        if next_.name == "stop":
+            return Does("stop", reason=next_.reason)
+        if next_.name == "proceed":
+            return Does("proceed")
+        pick = next_.pick
+        if pick.name == "down-of" and isinstance(pick.what, Ref) and pick.what.desk == U8:
+            pick = Pick("kind", kind_of(pick.what.number))
+        if next_.limit is None:
+            return Does("wait", pick)
+        return Does("wait-until", pick, self._at(next_.limit))
+
+    def _event_of(self, seat: Seat, item: Item) -> Optional[Event]:
+        """What an item is to the handler, or None if it is nothing to it, such as an answer that comes too late."""
+        event: Optional[Event]
+        if item.body is not None:
+            if item.body.num not in self.payloads:  # it was taken back
+                return None
+            event = self.payloads.pop(item.body.num)
+            if item.body.kind == MESSAGE:
+                return Message(event, item.pid)
+        elif item.name == "down" and item.reference is not None:
+            reason, text = item.reason or NORMAL, seat.texts.pop(item.reference, None)
+            call = seat.calls.get(item.reference)
+            if call is None:
+                return Down(item.reference, item.pid, reason, text)
+            event = Answer(call, None, ServerDown(reason, text))
+        elif item.name == "exit":
+            return Exit(item.pid, item.reason or NORMAL, seat.texts.pop(item.pid, None))
+        else:
+            return None
+        if not isinstance(event, Answer):
+            return event
+        if not event.call.is_open:
+            return None
+        self.close(event.call)
+        if event.call.done is None:
+            return event
+        self._resolve(event)
+        return None
+
+    def _crash(self, seat: Seat, error: BaseException) -> None:
+        """A handler has raised: its process exits at once, and those who hear of it find the text."""
+        text = "".join(traceback.format_exception_only(type(error), error)).strip()
+        self.crashes += 1
+        desk = self.desks[seat.pid.shard]
+        for monitor, owner in desk.watchers(seat.pid) or ():
+            if owner in self.pids:
+                self.pids[owner].texts[monitor] = text
+        for peer, _ in desk.links(seat.pid) or ():
+            if peer in self.pids:
+                self.pids[peer].texts[seat.pid] = text
+        try:
+            desk.exit(seat.pid, CRASH)
+        except Fault:  # no memory: the crew tries again
+            self._answers[seat.pid.shard].append((seat.pid, Does("stop", reason=CRASH)))
+        log.error("%s of %s crashed: %s", seat.pid, seat.cx.me.name, text, exc_info=error)
+
+    def _leave(self, seat: Seat, why: Reason) -> None:
+        """A process has exited: all that it had goes."""
+        del self.seats[seat.tag], self.pids[seat.pid]
+        for call in list(seat.calls.values()):
+            self.close(call)
+        try:
+            seat.behaviour.ended(why)
+        except BaseException as error:
+            log.exception("%s of %s raised as it ended", seat.pid, seat.cx.me.name)
+            if isinstance(error, HALTS):
+                raise
+        finally:
+            # (a context refers to its seat, so what the behaviour has would else stay until Python looks for cycles)
+            del seat.behaviour
+
+    # Its epochs
+
+    def _close_epoch(self) -> Settled:
+        """Gathers and settles the node, and hands out its history once. What fails may be done again."""
+        if self._gathered is None and self._settled is None:
+            self._gathered, self.desks = gather(self.desks), []
+        if self._settled is None and self._gathered is not None:
+            self._settled, self._gathered = self._gathered.settle_unlisted(), None
+        assert self._settled is not None
+        if self.sink is not None and not self._taken:
+            with self._settled.history() as history:
+                count = len(history)
+                self.sink(history)
+            self.archived += count
+        self._taken = True
+        return self._settled
+
+    def _go_on(self) -> None:
+        """Empties the journals."""
+        desks = self._close_epoch().resume()
+        self.desks, self._settled, self._taken = desks, None, False
+        self.epochs += 1
+        for crew, desk in zip(self.crews, desks):
+            crew.begin_again(desk)
+        # in settling all news came: a text beside news that does not wait is beside none
+        for seat in [seat for seat in self.seats.values() if seat.texts]:
+            items = desks[seat.pid.shard].waiting(seat.pid) or ()
+            news = {it.reference if it.name == "down" else it.pid for it in items if it.name in ("down", "exit")}
+            seat.texts = {key: text for key, text in seat.texts.items() if key in news}

@@ -1,0 +1,243 @@
+"""The processes of a run: how they are addressed, and what a handler may do."""
+
+from __future__ import annotations
+
+import asyncio
+from threading import get_ident
+from typing import TYPE_CHECKING, Any, Optional, Union
+
+from . import Desk
+from . import Next as Does
+from ._behaviour import (
+    GO_ON, OVER, Alarm, Answer, Behaviour, Call, Down, Event, Request, RunOver, seconds,
+)
+from .values import ANY, NOPROC, SHUTDOWN, Pid, Reason, Ref, flag, number, of_type
+
+if TYPE_CHECKING:
+    from ._engine import Engine
+
+
+class Address:
+    """A process of a run, to which anything can be sent. It stays valid when the process has exited."""
+
+    __slots__ = ("pid", "name", "_engine")
+
+    def __init__(self, pid: Pid, name: str, engine: Engine):
+        self.pid, self.name, self._engine = pid, name, engine
+
+    def __repr__(self) -> str:
+        return f"<Address {self.pid} of {self.name}>"
+
+    def __eq__(self, other: object) -> bool:
+        return isinstance(other, Address) and self.pid == other.pid and self._engine is other._engine
+
+    def __hash__(self) -> int:
+        return hash(self.pid)
+
+    def is_alive(self) -> bool:
+        """Whether the process has not exited, as far as the run has told."""
+        return self.pid in self._engine.pids
+
+    def send(self, value: Any) -> bool:
+        """Sends a message from any thread. What one thread sends comes in order. It returns False, and the message is
+        dropped, if the process is known to have exited. In a behaviour take `Context.send`."""
+        engine = self._engine
+        if not self.is_alive() or engine.order == OVER:
+            return False
+        engine.post(lambda: engine.send_from_outside(self, value))
+        return True
+
+    async def call(self, value: Any, limit: float = 5.0) -> Any:
+        """Asks the process from an asyncio program, and returns what it answers. It may be of any thread.
+
+        CallFault: `CallTimeout` if there is no answer for so many seconds, `ServerDown` with its reason if the process has
+        exited, `Unanswered` if it dropped the request, `RunOver`.
+        """
+        loop = asyncio.get_running_loop()
+        future: asyncio.Future[Answer] = loop.create_future()
+
+        def resolve(answer: Answer) -> None:
+            if not future.done():
+                future.set_result(answer)
+
+        def done(answer: Answer) -> None:
+            try:
+                loop.call_soon_threadsafe(resolve, answer)
+            except RuntimeError:  # that loop is closed
+                pass
+
+        call = self._engine.ask(self, value, seconds("limit", limit), done)
+        try:
+            return (await future).result()
+        finally:
+            if call.is_open:
+                self._engine.post(lambda: self._engine.close(call))
+
+
+class Timer:
+    """What is sent later, by which it is taken back."""
+
+    __slots__ = ("_alarm",)
+
+    def __init__(self, alarm: Alarm):
+        self._alarm = alarm
+
+
+class Seat:
+    """A process with its behaviour."""
+
+    __slots__ = ("pid", "tag", "behaviour", "cx", "calls", "texts", "does", "told")
+
+    def __init__(self, engine: Engine, address: Address, tag: int, behaviour: Behaviour, parent: Optional[Pid]):
+        self.pid, self.tag, self.behaviour = address.pid, tag, behaviour
+        self.cx = Context(engine, self, address, parent)
+        self.calls: dict[Ref, Call] = {}
+        # the texts of crashes, beside the news of them: by monitor, and by linked process
+        self.texts: dict[Union[Ref, Pid], str] = {}
+        # what it was to do when it was told something
+        self.does = Does("wait", ANY)
+        self.told = GO_ON
+
+
+class Porter(Behaviour):
+    """The process of a desk in whose name things are sent from outside."""
+
+    def started(self, cx: Context) -> None:
+        cx.trap()
+
+    def handle(self, cx: Context, event: Event) -> None:
+        pass
+
+
+class Context:
+    """What a handler may do, in the name of its process. It belongs to the thread of the run. A call of it is refused as
+    GONE when the process has exited."""
+
+    __slots__ = ("_engine", "_seat", "me", "parent")
+
+    def __init__(self, engine: Engine, seat: Seat, me: Address, parent: Optional[Pid]):
+        self._engine, self._seat, self.me, self.parent = engine, seat, me, parent
+
+    def __repr__(self) -> str:
+        return f"<Context of {self.pid}>"
+
+    @property
+    def pid(self) -> Pid:
+        """The name of the process in the table."""
+        return self._seat.pid
+
+    @property
+    def desks(self) -> int:
+        """How many desks the node has. A process is on the one that its pid names."""
+        return len(self._engine.crews)
+
+    def _here(self) -> Engine:
+        engine = self._engine
+        if engine.thread is not None and engine.thread != get_ident():
+            raise RuntimeError("a Context is used on another thread than that of its run: take Address.send there")
+        if engine.order == OVER:
+            raise RunOver
+        return engine
+
+    def _pid_of(self, target: Union[Address, Pid]) -> Pid:
+        if isinstance(target, Address):
+            if target._engine is not self._engine:
+                raise ValueError(f"{target} is of another run, which can only be sent to")
+            return target.pid
+        return of_type("target", target, Pid)
+
+    def _desk(self) -> Desk:
+        engine = self._here()
+        engine.touch()
+        return engine.desks[self.pid.shard]
+
+    def send(self, to: Address, value: Any) -> bool:
+        """Sends a message: Erlang's `!`. It comes after all that this process sent that one before.
+
+        It returns False, and the message is dropped, if the receiver is known to have exited. If it exits later, the message
+        is dropped then.
+        """
+        return self._here().send(self.pid, of_type("to", to, Address), value)
+
+    def send_after(self, time: float, to: Address, value: Any) -> Timer:
+        """Sends a message after so many seconds: Erlang's `send_after`. It comes also if this process has exited."""
+        engine, time = self._here(), seconds("time", time)
+        of_type("to", to, Address)
+        return Timer(engine.set_alarm(time, lambda: engine.send_from_outside(to, value)))
+
+    def cancel(self, timer: Timer) -> bool:
+        """Takes back what was to be sent later. It returns False if that was sent or taken back before."""
+        return self._here().cancel_alarm(of_type("timer", timer, Timer)._alarm)
+
+    def spawn(self, behaviour: Behaviour, linked: bool = False) -> Address:
+        """Spawns a child on the same desk, which is linked with this process from the first if `linked` is set.
+
+        Fault: FULL if no slot is free, WORN, MEMORY.
+        """
+        return self._here().spawn(behaviour, self.pid.shard, self.pid, linked)
+
+    def spawn_on(self, desk: int, behaviour: Behaviour, linked: bool = False) -> Address:
+        """Spawns a process on this desk of the node. On another desk it is no child, and the link is made next."""
+        return self._here().spawn(behaviour, number("desk", desk, 0, self.desks - 1), self.pid, flag("linked", linked))
+
+    def monitor(self, target: Union[Address, Pid]) -> Ref:
+        """Monitors a process: Erlang's `monitor/2`. It gets one `Down`, when that exits or if it has exited.
+
+        Fault: MYSELF, UNKNOWN, WORN, MEMORY.
+        """
+        engine, pid = self._here(), self._pid_of(target)
+        monitor = engine.monitor(self._seat, pid)
+        if monitor is not None:
+            return monitor
+        return engine.news(self._seat, lambda reference: Down(reference, pid, NOPROC, None))
+
+    def demonitor(self, monitor: Ref) -> None:
+        """Takes a monitor back. Nothing more is told of it."""
+        self._here().demonitor(self._seat, of_type("monitor", monitor, Ref))
+
+    def link(self, to: Union[Address, Pid]) -> None:
+        """Links this process with another: Erlang's `link/1`.
+
+        Fault: NOPROC if that is known to have exited, UNKNOWN, WORN, MEMORY.
+        """
+        self._desk().link(self.pid, self._pid_of(to))
+
+    def unlink(self, to: Union[Address, Pid]) -> None:
+        """Takes the link with another process away: Erlang's `unlink/1`."""
+        self._seat.texts.pop(self._pid_of(to), None)
+        self._desk().unlink(self.pid, self._pid_of(to))
+
+    def exit(self, to: Union[Address, Pid], reason: Reason = SHUTDOWN) -> None:
+        """Sends an exit signal: Erlang's `exit/2`. KILL ends any process. Any other reason but NORMAL ends a process that
+        does not trap exits. To end this process itself, return `Next.stop`."""
+        pid = self._pid_of(to)
+        if pid in self._engine.porters:
+            raise ValueError(f"{pid} sends what comes from outside, and does not exit")
+        self._desk().exit_signal(self.pid, pid, reason)
+
+    def trap(self, on: bool = True) -> bool:
+        """Sets whether this process traps exits, which it gets as `Exit`, and returns whether it did before."""
+        return self._desk().trap(self.pid, on)
+
+    def call(self, to: Address, value: Any, limit: float = 5.0) -> Call:
+        """Asks a process, which gets a `Request`. The call ends once, with an `Answer`: by its answer, by the exit of the
+        process, or when there was no answer for so many seconds.
+
+        Fault: MYSELF, UNKNOWN, WORN, MEMORY.
+        """
+        engine, limit = self._here(), seconds("limit", limit)
+        self._pid_of(of_type("to", to, Address))
+        return engine.call(self._seat, to, value, limit, Call())
+
+    def reply(self, request: Request, value: Any) -> bool:
+        """Answers a request, after all that this process has sent the client. It returns False if that does not wait for
+        the answer any more."""
+        engine, call = self._here(), of_type("request", request, Request)._taken()
+        if request._engine is not engine:
+            request._engine.post(lambda: request._engine.answer(call, None, Answer(call, value, None)))
+            return True
+        return engine.answer(call, self.pid, Answer(call, value, None))
+
+    def now(self) -> float:
+        """The time in seconds since the run was made."""
+        return self._here().now() / 1e6

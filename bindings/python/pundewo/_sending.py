@@ -1,0 +1,180 @@
+"""What processes send, what they wait for, and their times."""
+
+from __future__ import annotations
+
+import heapq
+import time
+from typing import Any, Callable, Optional
+
+from . import Code, Desk, Fault
+from ._behaviour import (
+    GO_ON, OVER, Alarm, Answer, Call, CallTimeout, Event, Request, ServerDown, Unanswered,
+)
+from ._process import Address, Seat
+from .values import NOPROC, U8, U32, Body, Pid, Ref, unchecked
+
+# The kinds that messages have in a history: a message, an answer, a request. From NEWS on: the news, under its number, that
+# a process could not be monitored or called since it had exited.
+MESSAGE, ANSWER, REQUEST, NEWS = 1, 2, 3, 16
+
+Task = Callable[[], object]
+
+
+def kind_of(number: int) -> int:
+    """The kind of a piece of news, by which it can be waited for."""
+    return NEWS + number % (U32 - NEWS)
+
+
+class Sending:
+    """What the processes of a run have sent, and nobody has taken yet."""
+
+    def __init__(self, desks: list[Desk]):
+        self.desks = desks
+        self.ring: Task = lambda: None
+        self.order = GO_ON
+        self.pids: dict[Pid, Seat] = {}
+        # the process of each desk in whose name things are sent from outside
+        self.porters: list[Pid] = []
+        # the messages that nobody has taken yet, by the numbers that the table carries
+        self.payloads: dict[int, Any] = {}
+        # the open calls from outside, and those whose requests were dropped without an answer
+        self._outside: set[Call] = set()
+        self._dropped: list[Call] = []
+        self._number = 0
+        self._alarms: dict[Alarm, Task] = {}
+        self._times: list[tuple[int, Alarm]] = []
+        self._inside = False
+        self._began = time.monotonic()
+
+    def post(self, task: Task) -> None:
+        """Has the thread of the run do this, soon."""
+        raise NotImplementedError
+
+    def _carry(self, kind: int, sender: Pid, to: Pid, value: Any) -> bool:
+        """Sends a value in the name of a process. It returns False, and the value is dropped, if the receiver is known to
+        have exited."""
+        number = self._number = self._number + 1
+        self.payloads[number] = value
+        try:
+            self.desks[sender.shard].send(sender, to, unchecked(Body, (kind, number, None)))
+        except BaseException as error:
+            del self.payloads[number]
+            if isinstance(error, Fault) and error.code == Code.NOPROC:
+                return False
+            raise
+        self.touch()
+        return True
+
+    def touch(self) -> None:
+        """Something was done. If that was outside of a round, there has to be another."""
+        if not self._inside:
+            self.ring()
+
+    def send(self, sender: Pid, to: Address, value: Any) -> bool:
+        if to._engine is not self:
+            return to.send(value)
+        return self._carry(MESSAGE, sender, to.pid, value)
+
+    def news(self, seat: Seat, make: Callable[[Ref], Event]) -> Ref:
+        """Tells a process at once what would have come if its target had exited later. The reference is of no desk."""
+        number = self._number = self._number + 1
+        reference = Ref(U8, number)
+        self.payloads[number] = make(reference)
+        self.desks[seat.pid.shard].send(seat.pid, seat.pid, Body(kind_of(number), number))
+        self.touch()
+        return reference
+
+    def monitor(self, seat: Seat, target: Pid) -> Optional[Ref]:
+        """Monitors a process; None if it is known to have exited."""
+        try:
+            return self.desks[seat.pid.shard].monitor(seat.pid, target)
+        except Fault as fault:
+            if fault.code == Code.NOPROC:
+                return None
+            raise
+        finally:
+            self.touch()
+
+    def demonitor(self, seat: Seat, monitor: Ref) -> None:
+        seat.texts.pop(monitor, None)
+        if monitor.desk == U8:
+            self.payloads.pop(monitor.number, None)
+        else:
+            self.desks[seat.pid.shard].demonitor(seat.pid, monitor, True)
+        self.touch()
+
+    def call(self, seat: Seat, to: Address, value: Any, limit: float, call: Call) -> Call:
+        """Asks a process in the name of another. The call ends once."""
+        call.client, call.server = seat, to.pid
+        monitor = self.monitor(seat, to.pid)
+        if monitor is None:
+            self.news(seat, lambda _: Answer(call, None, ServerDown(NOPROC)))
+            return call
+        call.monitor, seat.calls[monitor] = monitor, call
+        call.alarm = self.set_alarm(limit, lambda: self.answer(call, None, Answer(call, None, CallTimeout())))
+        self._carry(REQUEST, seat.pid, to.pid, Request(self, call, seat.pid, value))
+        return call
+
+    def answer(self, call: Call, sender: Optional[Pid], answer: Answer) -> bool:
+        """Sends the client an answer, and returns False if it does not wait for it any more."""
+        seat = call.client
+        if seat is None or not call.is_open or seat.pid not in self.pids or self.order == OVER:
+            return False
+        return self._carry(ANSWER, sender or self.porters[seat.pid.shard], seat.pid, answer)
+
+    def unanswered(self, call: Call) -> None:
+        """A request was dropped. Its client is told so after the next step, by which the server may have exited."""
+        self._dropped.append(call)
+
+    def _tell_dropped(self, call: Call) -> None:
+        # (if its server has exited, there is the news of that)
+        if call.server is not None and self.desks[call.server.shard].alive(call.server):
+            self.answer(call, None, Answer(call, None, Unanswered()))
+
+    def close(self, call: Call) -> None:
+        """Ends a call: nothing more comes of it."""
+        call.is_open = False
+        if call.done is not None and self.order != OVER:
+            self._outside.discard(call)
+        if call.alarm is not None:
+            self._alarms.pop(call.alarm, None)
+            call.alarm = None
+        seat, monitor = call.client, call.monitor
+        if seat is not None and monitor is not None:
+            call.monitor = None
+            seat.calls.pop(monitor, None)
+            if seat.pid in self.pids and self.order != OVER:
+                self.demonitor(seat, monitor)
+
+    # Times
+
+    def now(self) -> int:
+        """The time, in millionths of a second since the run was made."""
+        return int((time.monotonic() - self._began) * 1e6)
+
+    def _at(self, limit: float) -> int:
+        return self.now() + int(limit * 1e6) + 1
+
+    def set_alarm(self, limit: float, task: Task) -> Alarm:
+        alarm = self._number = self._number + 1
+        self._alarms[alarm] = task
+        heapq.heappush(self._times, (self._at(limit), alarm))
+        # (what was taken back stays among the times until these are twice as many)
+        if len(self._times) > 2 * len(self._alarms) + 64:
+            self._times = [it for it in self._times if it[1] in self._alarms]
+            heapq.heapify(self._times)
+        self.touch()
+        return alarm
+
+    def cancel_alarm(self, alarm: Alarm) -> bool:
+        return self._alarms.pop(alarm, None) is not None
+
+    def _go_off(self) -> bool:
+        """Does what was to be done by now."""
+        some, now = False, self.now()
+        while self._times and self._times[0][0] <= now:
+            task = self._alarms.pop(heapq.heappop(self._times)[1], None)
+            if task is not None:
+                some = True
+                task()
+        return some

@@ -1,0 +1,391 @@
+"""Processes that run code of Python, on one thread.
+
+A `Behaviour` is what a process does with what it is told, and its state. A `Runtime` runs the handlers of all processes of
+a node, rests while they have nothing to do, and goes on by itself: it empties the journals, and hands the history of each
+epoch to a sink.
+
+    from pundewo.runtime import Behaviour, Message, Request, Runtime
+
+    class Counter(Behaviour):
+        count = 0
+
+        def handle(self, cx, event):
+            if isinstance(event, Message):
+                self.count += event.value
+            elif isinstance(event, Request):
+                cx.reply(event, self.count)
+
+    async def main():
+        async with Runtime() as runtime:
+            counter = runtime.spawn(Counter())
+            counter.send(3)
+            counter.send(4)
+            print(await counter.call("read"))
+
+A message is any object. It is kept beside the table, under the number that the table carries, and given to its receiver
+once. If nobody will ever take it, since its receiver has exited, the run drops it. A handler that raises an exception has
+crashed its process, and no other.
+
+Proved is what is below: the table, the crew that says which process is told what (`pundewo.Crew`), and what a desk tells of
+its losses. Not proved, since nothing checks Python, but tested: this module, with the values beside the table, timers, calls
+and supervisors.
+"""
+
+from __future__ import annotations
+
+import asyncio
+import concurrent.futures
+import threading
+from collections import deque
+from typing import Any, Callable, Deque, NamedTuple, Optional, TypeVar
+
+from . import Config
+from ._archive import HistoryFile, Sink
+from ._behaviour import (
+    CRASH, GO_ON, KILLS, OVER, PROCEED, STOP, TIMEOUT, Answer, Behaviour, Call, CallFault, CallTimeout, Down, Event, Exit,
+    Message, Next, Request, RunOver, ServerDown, Tick, Unanswered, seconds,
+)
+from ._engine import Engine
+from ._process import Address, Context, Timer
+from ._sending import ANSWER, MESSAGE, REQUEST
+from ._supervisor import WHICH_CHILDREN, Child, Supervisor
+from .values import NORMAL, U64, Pid, Reason, number, of_type
+
+__all__ = [
+    "ANSWER", "CRASH", "MESSAGE", "PROCEED", "REQUEST", "TIMEOUT", "WHICH_CHILDREN", "Address", "Answer", "Behaviour", "Call",
+    "CallFault", "CallTimeout", "Child", "Context", "Down", "Event", "Exit", "HistoryFile", "Mailbox", "Message", "Next",
+    "NotEnded", "Request", "RunOver", "Runtime", "ServerDown", "Sink", "Summary", "Supervisor", "Tick", "Timer", "Unanswered",
+]
+
+T = TypeVar("T")
+
+
+class Summary(NamedTuple):
+    """What a run was: how many processes it had and how many crashed, how many epochs, how many events the sink got, and the
+    processes that did not exit as they were told and were killed."""
+
+    spawned: int
+    crashes: int
+    epochs: int
+    archived: int
+    killed: tuple[Pid, ...]
+
+
+class NotEnded(Exception):
+    """A run that is not over in time, with the process whose handler was running then, if one was."""
+
+    def __init__(self, pid: Optional[Pid], name: str):
+        self.pid, self.name = pid, name
+        super().__init__("the run is not over" if pid is None else f"the run is not over: {pid} of {name} is in a handler")
+
+
+class Runtime:
+    """A node whose processes run on one thread: that of an asyncio program (`async with`), or the one that calls `run`.
+
+    `desks` is 1 to 64, and `slots` how many processes each desk has at most at a time. The run goes on once a journal has
+    more than `going_on_every` events. `archive` takes the history of each epoch. When the run is stopped, each process gets
+    the exit signal SHUTDOWN, and those that have not exited `patience` seconds later are killed.
+    """
+
+    def __init__(self, desks: int = 1, *, slots: int = 1023, lane: int = 64, going_on_every: int = 20_000,
+                 archive: Optional[Sink] = None, patience: float = 5.0):
+        if archive is not None and not callable(archive):
+            raise TypeError(f"archive is {archive!r}, and must be callable with a History")
+        every = number("going_on_every", going_on_every, 1, U64)
+        # (each desk has one process more, which sends what comes from outside)
+        config = Config(slots=number("slots", slots, 1, 65_535) + 1, lane=lane)
+        self._engine = Engine(desks, config, every, archive, seconds("patience", patience))
+        self._lock = threading.Lock()
+        self._over = threading.Event()
+        self._task: Optional[asyncio.Task[None]] = None
+        self._next_desk = 0
+
+    def __repr__(self) -> str:
+        return f"<Runtime of {len(self._engine.crews)} desks>"
+
+    # What those outside do
+
+    def spawn(self, behaviour: Behaviour, desk: Optional[int] = None) -> Address:
+        """Spawns a process from any thread, on this desk or on each in turn.
+
+        Fault: FULL if no slot is free, WORN, MEMORY. RunOver if the run is stopped.
+        """
+        engine, count = self._engine, len(self._engine.crews)
+        of_type("behaviour", behaviour, Behaviour)
+        place = number("desk", self._next_desk if desk is None else desk, 0, count - 1)
+        if desk is None:
+            self._next_desk = (place + 1) % count
+
+        def spawn() -> Address:
+            if engine.order != GO_ON:
+                raise RunOver
+            address = engine.spawn(behaviour, place)
+            engine.touch()
+            return address
+
+        return self._here(spawn)
+
+    def _here(self, work: Callable[[], T]) -> T:
+        """What this returns on the thread of the run."""
+        with self._lock:
+            if self._engine.thread is None:
+                return work()
+        if self._engine.is_here():
+            return work()
+        future: concurrent.futures.Future[T] = concurrent.futures.Future()
+
+        def task() -> None:
+            try:
+                future.set_result(work())
+            except Exception as error:
+                future.set_exception(error)
+
+        self._engine.post(task)
+        return future.result()
+
+    def call(self, to: Address, value: Any, limit: float = 5.0) -> Any:
+        """Asks a process from another thread, and waits for its answer; `Address.call` is for an asyncio program.
+
+        It fails as that does. RuntimeError on the thread of the run, which would wait for itself.
+        """
+        if self._engine.is_here():
+            raise RuntimeError("this thread runs the processes: await Address.call, or take Context.call in a behaviour")
+        future: concurrent.futures.Future[Answer] = concurrent.futures.Future()
+        of_type("to", to, Address)._engine.ask(to, value, seconds("limit", limit), future.set_result)
+        return future.result().result()
+
+    def mailbox(self, desk: Optional[int] = None) -> Mailbox:
+        """A process whose messages an asyncio program reads: how it is sent to."""
+        return Mailbox(self, desk)
+
+    def stop(self) -> None:
+        """Has all processes exit, and then the run end. It may be called on any thread, and waits for nothing."""
+        self._engine.post(lambda: self._engine.end(STOP))
+
+    def wait(self, limit: Optional[float] = None) -> Summary:
+        """Waits on another thread until the run is over. NotEnded if it is not after so many seconds."""
+        if self._engine.is_here():
+            raise RuntimeError("this thread runs the processes, and would wait for itself")
+        if not self._over.wait(None if limit is None else seconds("limit", limit)):
+            seat = self._engine.running
+            raise NotEnded(None, "") if seat is None else NotEnded(seat.pid, seat.cx.me.name)
+        return self.summary()
+
+    def waiting(self) -> int:
+        """How many messages nobody has taken yet."""
+        return len(self._engine.payloads)
+
+    def summary(self) -> Summary:
+        """What the run was until now."""
+        it = self._engine
+        return Summary(it.spawned, it.crashes, it.epochs, it.archived, tuple(it.killed))
+
+    # Without asyncio
+
+    def run(self, forever: bool = False) -> Summary:
+        """Runs the processes on this thread until none lives, or, `forever`, until the run is stopped.
+
+        If it raises an exception (a Fault, that of the sink, KeyboardInterrupt), it may be called again and goes on, or
+        `close` drops all.
+        """
+        engine, rung = self._engine, threading.Condition()
+        is_rung = False
+
+        def ring() -> None:
+            nonlocal is_rung
+            with rung:
+                is_rung = True
+                rung.notify()
+
+        self._begin(ring)
+        try:
+            while True:
+                busy = engine.round()
+                if self._is_done(forever):
+                    engine.finish()
+                    self._over.set()
+                    return self.summary()
+                if not busy:
+                    with rung:
+                        if not is_rung:
+                            rung.wait(engine.rest_time())
+                        is_rung = False
+        finally:
+            engine.thread = None
+
+    def _begin(self, ring: Callable[[], None]) -> None:
+        with self._lock:
+            if self._engine.order == OVER:
+                raise RunOver
+            if self._engine.thread is not None:
+                raise RuntimeError("this run is running")
+            self._engine.thread, self._engine.ring = threading.get_ident(), ring
+
+    def _is_done(self, forever: bool) -> bool:
+        engine = self._engine
+        return (engine.order != GO_ON or not forever) and engine.is_empty()
+
+    def close(self) -> None:
+        """Drops a run that is not running, with all that it has. Nothing more is handed out."""
+        with self._lock:
+            if self._engine.thread is not None:
+                raise RuntimeError("this run is running: stop it")
+            if self._engine.order != OVER:
+                self._engine.abandon()
+        self._over.set()
+
+    # With asyncio
+
+    async def __aenter__(self) -> Runtime:
+        loop, rung = asyncio.get_running_loop(), asyncio.Event()
+        here = threading.get_ident()
+
+        def ring() -> None:
+            if threading.get_ident() == here:
+                rung.set()
+            else:
+                try:
+                    loop.call_soon_threadsafe(rung.set)
+                except RuntimeError:  # the loop is closed
+                    pass
+
+        self._begin(ring)
+        self._task = loop.create_task(self._drive(loop, rung))
+        return self
+
+    async def __aexit__(self, *_: object) -> None:
+        assert self._task is not None
+        self.stop()
+        try:
+            await asyncio.shield(self._task)
+        except asyncio.CancelledError:
+            if not self._task.done():
+                self._engine.post(lambda: self._engine.end(KILLS))
+                await self._task
+            raise
+
+    async def _drive(self, loop: asyncio.AbstractEventLoop, rung: asyncio.Event) -> None:
+        engine = self._engine
+        try:
+            while True:
+                busy = engine.round()
+                if self._is_done(True):
+                    engine.finish()
+                    return
+                if busy:
+                    await asyncio.sleep(0)
+                    continue
+                rest = engine.rest_time()
+                alarm = None if rest is None else loop.call_later(rest, rung.set)
+                try:
+                    await rung.wait()
+                finally:
+                    if alarm is not None:
+                        alarm.cancel()
+                rung.clear()
+        finally:
+            if engine.order != OVER:
+                engine.abandon()
+            engine.thread = None
+            self._over.set()
+
+
+class Mailbox:
+    """A process whose messages an asyncio program reads, in order: `async for event in mailbox`, or `await mailbox.get()`.
+
+    It ends when the process has exited, by `close`, by an exit signal, or since the run is over. `address` is where it is
+    sent to. It gets `Message`, `Request` (which `Request.reply` answers) and `Down`.
+    """
+
+    def __init__(self, runtime: Runtime, desk: Optional[int] = None):
+        self._engine = runtime._engine
+        self._loop = asyncio.get_running_loop()
+        self._events: Deque[Event] = deque()
+        self._waiting: Deque[asyncio.Future[None]] = deque()
+        self._is_closed = False
+        self.address = runtime.spawn(_Reader(self), desk)
+
+    async def __aenter__(self) -> Mailbox:
+        return self
+
+    async def __aexit__(self, *_: object) -> None:
+        self.close()
+
+    def __aiter__(self) -> Mailbox:
+        return self
+
+    async def __anext__(self) -> Event:
+        event = await self._take()
+        if event is None:
+            raise StopAsyncIteration
+        return event
+
+    async def get(self, limit: Optional[float] = None) -> Event:
+        """The next event. asyncio.TimeoutError if there is none for so many seconds; RunOver if none comes any more."""
+        event = await asyncio.wait_for(self._take(), None if limit is None else seconds("limit", limit))
+        if event is None:
+            raise RunOver
+        return event
+
+    async def _take(self) -> Optional[Event]:
+        while not self._events:
+            if self._is_closed:
+                return None
+            waiting: asyncio.Future[None] = self._loop.create_future()
+            self._waiting.append(waiting)
+            await waiting
+        return self._events.popleft()
+
+    def monitor(self, target: Address) -> None:
+        """Monitors a process, of which the mailbox gets a `Down`."""
+        if of_type("target", target, Address)._engine is not self._engine:
+            raise ValueError(f"{target} is of another run, which can only be sent to")
+        self._post(lambda cx: cx.monitor(target))
+
+    def close(self) -> None:
+        """Ends the process. What has come may still be read."""
+        engine, pid = self._engine, self.address.pid
+        self._post(lambda cx: engine.desks[pid.shard].exit(pid, NORMAL))
+
+    def _post(self, work: Callable[[Context], object]) -> None:
+        def task() -> None:
+            seat = self._engine.pids.get(self.address.pid)
+            if seat is not None and self._engine.desks[self.address.pid.shard].alive(seat.pid):
+                work(seat.cx)
+
+        self._engine.post(task)
+
+    def _tell(self, work: Callable[[], None]) -> None:
+        """Does this on the thread of the program, in order."""
+        try:
+            self._loop.call_soon_threadsafe(work)
+        except RuntimeError:  # its loop is closed
+            pass
+
+    def _wake(self) -> None:
+        while self._waiting:
+            waiting = self._waiting.popleft()
+            if not waiting.done():
+                waiting.set_result(None)
+
+    def _came(self, event: Event) -> None:
+        self._events.append(event)
+        self._wake()
+
+    def _ended(self) -> None:
+        self._is_closed = True
+        self._wake()
+
+
+class _Reader(Behaviour):
+    """The process of a mailbox."""
+
+    def __init__(self, mailbox: Mailbox):
+        self.mailbox = mailbox
+
+    def handle(self, cx: Context, event: Event) -> None:
+        mailbox = self.mailbox
+        mailbox._tell(lambda: mailbox._came(event))
+
+    def ended(self, why: Reason) -> None:
+        self.mailbox._tell(self.mailbox._ended)

@@ -1,0 +1,109 @@
+"""What the tests of the run of behaviours share."""
+
+from __future__ import annotations
+
+import asyncio
+import logging
+import subprocess
+import threading
+from pathlib import Path
+
+import pundewo as p
+from pundewo import runtime as r
+
+log = logging.getLogger("pundewo")
+AUDIT = Path(__file__).resolve().parents[3] / "bin" / "pt_audit"
+
+
+def audit(test, file):
+    """Has the history judged, if the program that does is built."""
+    if AUDIT.exists():
+        with open(file, "rb") as history:
+            judged = subprocess.run([AUDIT], stdin=history, capture_output=True, timeout=100, check=False)
+        test.assertTrue(judged.stdout.startswith(b"legal"), judged.stdout)
+
+
+class Doing(r.Behaviour):
+    """Does what it is given, and notes what it is told."""
+
+    def __init__(self, handle=None, started=None, notes=None):
+        self.does, self.starts = handle, started
+        self.notes = [] if notes is None else notes
+
+    def started(self, cx):
+        return None if self.starts is None else self.starts(cx)
+
+    def handle(self, cx, event):
+        if self.does is None:
+            self.notes.append(event)
+            return None
+        return self.does(cx, event)
+
+    def ended(self, why):
+        self.notes.append(why)
+
+
+class Counted:
+    """A message that counts how many of it there are, and how often each was taken."""
+
+    alive = 0
+
+    def __init__(self):
+        Counted.alive += 1
+        self.taken = 0
+
+    def __del__(self):
+        Counted.alive -= 1
+
+
+class Echo(r.Behaviour):
+    """Answers with what it is asked, or behaves badly."""
+
+    def handle(self, cx, event):
+        if isinstance(event, r.Request):
+            if event.value == "crash":
+                raise KeyError("asked to")
+            if event.value == "exit":
+                return r.Next.stop(p.Reason("other", 3))
+            if event.value == "hold":
+                self.held = event
+            elif event.value != "drop":
+                cx.reply(event, ("echo", event.value))
+        elif isinstance(event, r.Message) and event.value == "crash":
+            raise ValueError("told to")
+        return None
+
+
+def quiet(test):
+    """What crashes says so in the log, which is no part of a test's output. (and what keeps the log keeps the exceptions)"""
+    def run(self):
+        log.disabled = True
+        try:
+            test(self)
+        finally:
+            log.disabled = False
+    run.__name__ = test.__name__
+    return run
+
+
+def in_asyncio(test):
+    def run(self):
+        asyncio.run(asyncio.wait_for(test(self), 60))
+    run.__name__ = test.__name__
+    return run
+
+
+class Stubborn(Doing):
+    """Does not exit for SHUTDOWN."""
+
+    def started(self, cx):
+        cx.trap()
+
+
+def run_and_stop(run, after=0.1):
+    """Runs it on this thread, and stops it from another one then."""
+    stopper = threading.Timer(after, run.stop)
+    stopper.start()
+    summary = run.run(forever=True)
+    stopper.join()
+    return summary

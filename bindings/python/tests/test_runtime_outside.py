@@ -1,0 +1,250 @@
+"""Tests of the run of behaviours, as a program uses it: calls, asyncio programs and other threads, mailboxes, and bad input."""
+
+from __future__ import annotations
+
+import asyncio
+import threading
+import unittest
+
+import pundewo as p
+from pundewo import runtime as r
+
+from behaviours import Doing, Echo, in_asyncio, quiet, run_and_stop
+
+
+class Calls(unittest.TestCase):
+    @quiet
+    @in_asyncio
+    async def test_an_asyncio_program_calls(self):
+        async with r.Runtime(2) as run:
+            echo = run.spawn(Echo())
+            self.assertEqual(await echo.call(5), ("echo", 5))
+            self.assertEqual(await asyncio.gather(*(echo.call(it) for it in range(50))), [("echo", it) for it in range(50)])
+            with self.assertRaises(r.Unanswered):
+                await echo.call("drop")
+            with self.assertRaises(r.CallTimeout):
+                await echo.call("hold", 0.02)
+            with self.assertRaises(asyncio.TimeoutError):
+                await asyncio.wait_for(echo.call("hold"), 0.02)
+            self.assertEqual(await echo.call(6), ("echo", 6))
+            with self.assertRaises(r.ServerDown) as caught:
+                await echo.call("crash")
+            self.assertEqual((caught.exception.reason, caught.exception.crash), (r.CRASH, "KeyError: 'asked to'"))
+            with self.assertRaises(r.ServerDown) as caught:
+                await echo.call(7)
+            self.assertEqual(caught.exception.reason, p.NOPROC)
+            with self.assertRaises(r.ServerDown) as caught:
+                await run.spawn(Echo()).call("exit")
+            self.assertEqual(caught.exception.reason, p.Reason("other", 3))
+            engine = run._engine
+            await asyncio.sleep(0.05)
+            self.assertEqual((len(engine.payloads), len(engine._outside), len(engine._alarms)), (0, 0, 0))
+            echo = run.spawn(Echo())
+            waits = asyncio.ensure_future(echo.call("hold", 50))
+            await asyncio.sleep(0.01)
+        with self.assertRaises(r.CallFault):
+            await waits
+        with self.assertRaises(r.RunOver):
+            await echo.call(1)
+        self.assertFalse(echo.send(1))
+
+    @quiet
+    def test_a_behaviour_calls(self):
+        answers = []
+
+        def start(cx):
+            server, other, dead = cx.spawn(Echo()), cx.spawn_on(1, Echo()), cx.spawn(Echo())
+            self.calls = [cx.call(server, 1), cx.call(other, "drop"), cx.call(other, "hold", 0.05), cx.call(server, "crash"),
+                          cx.call(other, 2)]
+            cx.exit(dead, p.KILL)
+            cx.send_after(0.02, cx.me, dead)
+
+        def handle(cx, event):
+            if isinstance(event, r.Message):
+                self.calls.append(cx.call(event.value, 3))
+                return None
+            try:
+                answers.append((self.calls.index(event.call), event.result()))
+            except r.CallFault as fault:
+                answers.append((self.calls.index(event.call), str(fault)))
+            return r.Next.stop() if len(answers) == 6 else None
+
+        run = r.Runtime(2)
+        run.spawn(Doing(handle, start), 0)
+        run_and_stop(run, 0.3)
+        self.assertEqual(sorted(answers), [
+            (0, ("echo", 1)), (1, "the request was dropped unanswered"), (2, "there was no answer in time"),
+            (3, "the server crashed: KeyError: 'asked to'"), (4, ("echo", 2)), (5, "the server exited: noproc")])
+
+    def test_a_request_is_answered_later_once(self):
+        got = []
+        run = r.Runtime()
+
+        def serve(cx, event):
+            if isinstance(event, r.Request):
+                cx.send(client, "before")
+                got.append(cx.reply(event, "answer"))
+                with self.assertRaises(RuntimeError):
+                    event.reply("again")
+
+        server = run.spawn(Doing(serve))
+
+        def ask(cx, event):
+            got.append(event.value)
+            return r.Next.stop() if isinstance(event, r.Answer) else None
+
+        client = run.spawn(Doing(ask, lambda cx: cx.call(server, 1) and None))
+        run_and_stop(run)
+        self.assertEqual(got, [True, "before", "answer"])
+
+    def test_other_threads_spawn_send_call_and_stop(self):
+        run = r.Runtime(2)
+        thread = threading.Thread(target=run.run, args=(True,))
+        thread.start()
+        counts = []
+
+        def client():
+            echo = run.spawn(Echo())
+            counts.append(sum(run.call(echo, number)[1] for number in range(100)))
+
+        clients = [threading.Thread(target=client) for _ in range(5)]
+        for it in clients:
+            it.start()
+        for it in clients:
+            it.join()
+        self.assertEqual(counts, [4950] * 5)
+
+        async def elsewhere():
+            return await run.spawn(Echo()).call("from a loop of another thread")
+
+        self.assertEqual(asyncio.run(elsewhere()), ("echo", "from a loop of another thread"))
+        held = []
+        holder = run.spawn(Doing(lambda cx, event: held.append((cx, event))))
+        with self.assertRaises(r.CallTimeout):
+            run.call(holder, "late", 0.05)
+        with self.assertRaises(RuntimeError):
+            held[0][0].send(holder, 1)  # a context, on another thread
+        held.pop()[1].reply("too late")
+        threading.Timer(0.02, lambda: held.pop()[1].reply("in time")).start()
+        self.assertEqual(run.call(holder, "soon"), "in time")
+        with self.assertRaises(RuntimeError):
+            run.run()
+        run.stop()
+        self.assertEqual(run.wait(5).spawned, 7)
+        thread.join()
+        with self.assertRaises(r.RunOver):
+            run.spawn(Echo())
+        with self.assertRaises(r.RunOver):
+            run.call(holder, 1)
+
+
+class Mailboxes(unittest.TestCase):
+    @quiet
+    @in_asyncio
+    async def test_an_asyncio_program_is_sent_to(self):
+        async with r.Runtime(2) as run:
+            async with run.mailbox() as mailbox:
+                def handle(cx, event):
+                    for number in range(event.value):
+                        cx.send(mailbox.address, number)
+                    raise ValueError("done")
+
+                sender = run.spawn(Doing(handle), 0)
+                mailbox.monitor(sender)
+                await asyncio.sleep(0.02)
+                sender.send(500)
+                got = []
+                async for event in mailbox:
+                    if isinstance(event, r.Down):
+                        break
+                    got.append(event.value)
+                self.assertEqual((got, event.crash), (list(range(500)), "ValueError: done"))
+                with self.assertRaises(asyncio.TimeoutError):
+                    await mailbox.get(0.01)
+                asking = asyncio.ensure_future(mailbox.address.call("who"))
+                request = await mailbox.get(1)
+                request.reply("me")
+                self.assertEqual(await asking, "me")
+                mailbox.address.send("last")
+                self.assertEqual((await mailbox.get(1)).value, "last")
+            self.assertEqual([it async for it in mailbox], [])
+            self.assertFalse(mailbox.address.send("too late"))
+            other = run.mailbox()
+            reader = asyncio.ensure_future(other.get())
+        with self.assertRaises(r.RunOver):
+            await reader
+
+
+class BadInput(unittest.TestCase):
+    def test_a_run_of_bad_settings_is_refused(self):
+        for error, words in [
+            (TypeError, {"desks": "1"}), (p.Fault, {"desks": 0}), (p.Fault, {"desks": 65}), (ValueError, {"slots": 0}),
+            (ValueError, {"slots": 65_536}), (ValueError, {"going_on_every": 0}), (TypeError, {"going_on_every": 1.5}),
+            (TypeError, {"archive": "file"}), (ValueError, {"patience": -1}), (ValueError, {"patience": float("nan")}),
+            (TypeError, {"patience": True}), (p.Fault, {"lane": 0}),
+        ]:
+            with self.subTest(words), self.assertRaises(error):
+                r.Runtime(**words)
+
+    def test_bad_words_are_refused_where_they_are_said(self):
+        run = r.Runtime(2)
+        address = run.spawn(Echo())
+        for error, work in [
+            (TypeError, lambda: run.spawn(Echo)), (TypeError, lambda: run.spawn(7)),
+            (ValueError, lambda: run.spawn(Echo(), 2)), (TypeError, lambda: run.spawn(Echo(), "0")), (TypeError, lambda: run.call(address.pid, 1)),
+            (ValueError, lambda: run.call(address, 1, -1)), (TypeError, lambda: r.Next.wait("1")),
+            (ValueError, lambda: r.Next.wait(-0.5)), (TypeError, lambda: r.Next.wait(pick="any")),
+            (TypeError, lambda: r.Next.stop("normal")), (TypeError, lambda: r.Behaviour()),
+            (ValueError, lambda: r.Supervisor("one_by_one")),
+            (TypeError, lambda: r.Supervisor.one_for_one().permanent(Echo())),
+            (ValueError, lambda: r.Supervisor.one_for_one().limit(-1, 5)),
+            (TypeError, lambda: r.Supervisor.one_for_one().limit(1, None)),
+        ]:
+            with self.assertRaises(error):
+                work()
+
+    def test_bad_words_of_a_handler_are_refused_and_change_nothing(self):
+        refused = []
+
+        def start(cx):
+            for error, work in [
+                (TypeError, lambda: cx.send(cx.pid, 1)), (TypeError, lambda: cx.send_after("1", cx.me, 1)),
+                (ValueError, lambda: cx.send_after(-1, cx.me, 1)), (TypeError, lambda: cx.cancel(3)),
+                (TypeError, lambda: cx.spawn(Echo)), (ValueError, lambda: cx.spawn_on(2, Echo())),
+                (TypeError, lambda: cx.spawn_on("0", Echo())), (TypeError, lambda: cx.monitor("x")),
+                (p.Fault, lambda: cx.monitor(cx.me)), (TypeError, lambda: cx.demonitor(1)), (TypeError, lambda: cx.link(1)),
+                (TypeError, lambda: cx.exit(cx.me, "kill")), (ValueError, lambda: cx.exit(cx._engine.porters[0], p.KILL)),
+                (TypeError, lambda: cx.trap(1)), (p.Fault, lambda: cx.call(cx.me, 1)), (TypeError, lambda: cx.call(cx.pid, 1)),
+                (TypeError, lambda: cx.reply(1, 1)), (p.Fault, lambda: cx.monitor(p.Pid(9, 0, 1))),
+            ]:
+                with self.assertRaises(error):
+                    work()
+                refused.append(error)
+            return r.Next.stop()
+
+        run = r.Runtime(2)
+        run.spawn(Doing(started=start))
+        self.assertEqual(run.run(), r.Summary(1, 0, 1, 0, ()))
+        self.assertEqual(len(refused), 18)
+
+    def test_a_full_desk_is_a_fault(self):
+        run = r.Runtime(slots=2)
+        run.spawn(Echo())
+        run.spawn(Echo())
+        with self.assertRaises(p.Fault) as caught:
+            run.spawn(Echo())
+        self.assertEqual(caught.exception.code, p.Code.FULL)
+        run.close()
+
+    @in_asyncio
+    async def test_a_run_does_not_wait_for_itself(self):
+        async with r.Runtime() as run:
+            echo = run.spawn(Echo())
+            for work in (lambda: run.call(echo, 1), lambda: run.wait(1), run.run, run.close):
+                with self.assertRaises(RuntimeError):
+                    work()
+            self.assertEqual(await echo.call(1), ("echo", 1))
+
+
+if __name__ == "__main__":
+    unittest.main()
