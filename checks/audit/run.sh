@@ -8,7 +8,11 @@
 # return before each line feed, without the last line feed, and cut into one file a desk. A stored one that is cut off
 # behind a line is legal as far as it goes: the auditor reports a letter on its way or nothing. Behind any byte, the last
 # line is at fault or none. selected.txt has what is printed of a history, refused.txt histories that are not legal, with
-# the line at fault of each, and statuses.txt what is said beside a verdict. The programs are bin/pt_run and bin/pt_audit, which are built first if they are not up
+# the line at fault of each, and statuses.txt what is said beside a verdict.
+#
+# Each history that is stored is cut at every rest, too, and judged piece by piece, each over the state that the one before
+# it left (--save, --resume). The last verdict, what became of each process and the state are those of the history judged
+# as a whole. states.txt has states that are refused. The programs are bin/pt_run and bin/pt_audit, which are built first if they are not up
 # to date.
 set -euo pipefail
 shopt -s nullglob
@@ -153,13 +157,69 @@ awk -v cases="$work/cases/" -v said="$work/said/" -v statuses="$work/statuses/" 
     /^== / { name = "said-" $2; print $3 > (statuses name); printf "" > (cases name); printf "" > (said name)
         printf "" > (cases name ".args"); for (i = 4; i <= NF; i++) print $i > (cases name ".args"); next }
     /^=> / { print substr($0, 4) > (said name); next }
-    name != "" && NF { print > (cases name) }' "$here/statuses.txt"
+    name != "" && NF { if (sub(/\\c$/, "")) printf "%s", $0 > (cases name); else print > (cases name) }' "$here/statuses.txt"
 for status in "$work/statuses"/*; do
     name=$(basename "$status")
     audit "$name"
     is_same "$work/said/$name" "$work/err/$name" "$name" "standard error"
     has_status "$name" "$(cat "$status")"
 done
+
+# States that are refused, and one that is cut off behind each byte.
+mkdir "$work/states"
+awk -v rooms="$work/desks/" -v states="$work/states/" '
+    /^#/ { next }
+    /^== / { name = $2; file = rooms "state-" name; printf "" > file; printf "" > (states name); next }
+    /^=> / { print "state-" name ": " substr($0, 4) > (states name); name = ""; next }
+    name != "" && NF { sub(/^\\e$/, ""); gsub(/\\r/, "\r"); print > file }' "$here/states.txt"
+for state in "$work/states"/*; do
+    name=$(basename "$state")
+    run pt_audit "state-$name" "$work/desks/here" --resume "state-$name"
+    is_same "$state" "$work/err/state-$name" "state-$name" "standard error"
+    if [ "$name" = whole ]; then has_status "state-$name" 0; else has_status "state-$name" 3; fi
+done
+for count in $(seq 0 7 "$(($(wc -c <"$work/desks/state-whole") - 1))"); do
+    head -c "$count" "$work/desks/state-whole" >"$work/desks/cut"
+    run pt_audit "state-cut-$count" "$work/desks/here" --resume cut
+    has_status "state-cut-$count" 3
+    lines=$(grep -c '' "$work/desks/cut" || true)
+    grep -q -e "^cut: line $lines: column " -e "^cut: line $((lines + 1)): column 1: " "$work/err/state-cut-$count" \
+        || wrong "state-cut-$count" "$(cat "$work/err/state-cut-$count")"
+done
+
+# Each stored history piece by piece, cut at every rest.
+cut_at_rests() {
+    local name=$1 history=$work/stored/$1 lines from=0 count words=()
+    lines=$(grep -c '^[0-9]*@' "$history")
+    for count in $(seq "$lines"); do
+        sed -n "$((from + 1)),${count}p" "$history" >"$work/desks/piece"
+        run pt_audit "piece-$name-$count" "$work/desks/piece" --print summary --save "left-$name-$count" "${words[@]}"
+        case $(cat "$work/status/piece-$name-$count") in
+        0)
+            from=$count
+            words=(--resume "left-$name-$count")
+            head -n "$count" "$history" >"$work/desks/whole"
+            run pt_audit "whole-$name-$count" "$work/desks/whole" --print summary --save "whole-$name-$count"
+            is_same "$work/desks/whole-$name-$count" "$work/desks/left-$name-$count" "piece-$name-$count" "the state"
+            is_same <(sort "$work/out/whole-$name-$count") <(sort "$work/out/piece-$name-$count") "piece-$name-$count" \
+                "what became of the processes"
+            rests=$((rests + 1))
+            ;;
+        1) grep -q "^line $((count - from + 1)): no line tells of what is on its way: " "$work/err/piece-$name-$count" ;;
+        *) false ;;
+        esac || wrong "piece-$name-$count" "$(cat "$work/err/piece-$name-$count")"
+    done
+    sed -n "$((from + 1)),\$p" "$history" >"$work/desks/piece"
+    run pt_audit "pieces-$name" "$work/desks/piece" "${words[@]}"
+    has_status "pieces-$name" 0
+    is_same "$work/cases/$name.stdout" "$work/out/pieces-$name" "pieces-$name" "the verdict"
+}
+rests=0
+for history in "$work/stored"/*; do
+    name=$(basename "$history")
+    [[ $name == many-* ]] || cut_at_rests "$name"
+done
+[ "$rests" -gt 50 ] || wrong rests "$rests rests in all"
 
 # What a history that is cut off leads to: it is legal, or its end is at fault.
 for case in "$work/cases"/prefix-* "$work/cases"/bytes-*; do

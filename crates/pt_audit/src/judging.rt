@@ -4,7 +4,8 @@ use crate::asked::{Asked, Print};
 use crate::output::Output;
 use crate::refusal::{Refusal, unread, wants_memory};
 use crate::source::{PIECE, Source};
-use pt_auditor::{Audit, Fault, Foreign, Hearing, Verdict};
+use crate::state::rest_of;
+use pt_auditor::{Audit, Fault, Foreign, Hearing, Rest, Verdict};
 use pt_chart::chart;
 use pt_events::{Event, Stamped};
 use pt_render::{JsonEvent, JsonLeftOver, MERMAID_HEAD, MermaidEvent, MermaidLeftOver};
@@ -13,15 +14,23 @@ use std::alloc::Global;
 use std::io::{Read, Write};
 
 /// Reads one history to its end, piece by piece.
-pub fn audit_pieces<R: Read + Drop>(alloc: Global, from: R) -> Result<Verdict, Refusal> {
+pub fn audit_pieces<R: Read + Drop>(
+    alloc: Global,
+    audit: Audit,
+    from: R,
+) -> Result<Audit, Refusal> {
     let mut from = from;
     let mut piece = vec![in alloc; 0u8; PIECE]?;
-    let audit = read_pieces(alloc, &mut from, piece.as_mut_slice())?;
-    Ok(audit.end(alloc)?)
+    read_pieces(alloc, audit, &mut from, piece.as_mut_slice())
 }
 
-fn read_pieces<R: Read>(alloc: Global, from: &mut R, piece: &mut [u8]) -> Result<Audit, Refusal> {
-    let mut audit = Audit::new(alloc);
+fn read_pieces<R: Read>(
+    alloc: Global,
+    audit: Audit,
+    from: &mut R,
+    piece: &mut [u8],
+) -> Result<Audit, Refusal> {
+    let mut audit = audit;
     for _ in 0..u64::MAX {
         let bytes = read_piece(from, piece)?;
         if bytes.len() == 0 {
@@ -43,13 +52,13 @@ fn read_piece<'a, R: Read>(from: &mut R, piece: &'a mut [u8]) -> Result<&'a [u8]
 /// Reads all files, merged by stamp and desk, and prints the output that comes before the verdict.
 pub fn audit_lines<R: Read + Drop, W: Write>(
     alloc: Global,
+    audit: Audit,
     sources: &mut [Source<R>],
     asked: &Asked,
     out: &mut Output<W>,
-) -> Result<Verdict, Refusal> {
+) -> Result<Audit, Refusal> {
     begin(sources, asked, out)?;
-    let audit = audit_all(alloc, sources, asked, out)?;
-    finish(alloc, audit, asked, out)
+    audit_all(alloc, audit, sources, asked, out)
 }
 
 /// Reads the first line of each file.
@@ -67,12 +76,13 @@ fn begin<R: Read + Drop, W: Write>(
 
 fn audit_all<R: Read + Drop, W: Write>(
     alloc: Global,
+    audit: Audit,
     sources: &mut [Source<R>],
     asked: &Asked,
     out: &mut Output<W>,
 ) -> Result<Audit, Refusal> {
     let several = sources.len() > 1;
-    let mut audit = Audit::new(alloc);
+    let mut audit = audit;
     for _ in 0..u64::MAX {
         let place = first_of(sources);
         if place >= sources.len() {
@@ -92,6 +102,9 @@ fn step<R: Read + Drop, W: Write>(
     asked: &Asked,
     out: &mut Output<W>,
 ) -> Result<Audit, Refusal> {
+    if asked.wants_line_feed() && source.is_torn() {
+        return Err(Refusal::Torn(source.file(), source.number()));
+    }
     let audit = hear(alloc, audit, source, several)?;
     note(audit.hearing(), source, asked, out);
     match go_on(source, asked, out) {
@@ -260,16 +273,21 @@ pub fn conclude<W: Write>(
     out: &mut Output<W>,
 ) -> Result<(), Refusal> {
     match verdict.foreign {
-        Some(foreign) if !asked.judge => {
+        Some(foreign) if !asked.judge || asked.save.is_some() => {
             out.writer.flush()?;
             return Err(no_node(foreign, asked, out));
         }
         _ => print_verdict(verdict, asked.print, out)?,
     }
-    if asked.complete && (verdict.events == 0 || verdict.letters > 0) {
+    if is_incomplete(verdict, asked, out.before) {
         return Err(Refusal::Incomplete(verdict));
     }
     Ok(())
+}
+
+/// Whether letters are in flight, or no event came, where that has a status of its own.
+fn is_incomplete(verdict: Verdict, asked: &Asked, before: u64) -> bool {
+    (asked.wants_line_feed() && verdict.letters > 0) || (asked.complete && verdict.events == before)
 }
 
 /// Prints the verdict of a history, in the form of the output before it, and flushes the writer.
@@ -301,13 +319,14 @@ fn print_verdict<W: Write>(
     Ok(())
 }
 
-/// Returns the verdict on all that was read. If asked for, it first prints what became of each process, or the chart.
-fn finish<W: Write>(
+/// Returns the verdict on all that was read, and what is known of it if that is asked for. If asked for, it first prints
+/// what became of each process, or the chart.
+pub fn finish<W: Write>(
     alloc: Global,
     audit: Audit,
     asked: &Asked,
     out: &mut Output<W>,
-) -> Result<Verdict, Refusal> {
+) -> Result<(Verdict, Option<Rest>), Refusal> {
     let hearing = audit.hearing();
     if asked.print == Print::Summary && hearing.end().is_ok() {
         print_summary(hearing, asked, out)?;
@@ -315,7 +334,10 @@ fn finish<W: Write>(
     if asked.print == Print::Chart && hearing.end().is_ok() {
         print_chart(alloc, out)?;
     }
-    Ok(audit.end(alloc)?)
+    if asked.save.is_some() {
+        return rest_of(alloc, audit);
+    }
+    Ok((audit.end(alloc)?, None))
 }
 
 fn print_chart<W: Write>(alloc: Global, out: &mut Output<W>) -> Result<(), Refusal> {

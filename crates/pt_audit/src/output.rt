@@ -13,6 +13,8 @@ pub struct Output<W> {
     pub foreign: Option<(usize, u64)>,
     /// Whether an event concerned the process that is asked for.
     pub met: bool,
+    /// The number of events before the history that is read.
+    pub before: u64,
 }
 
 impl<W: Write + Drop> Output<W> {
@@ -22,6 +24,7 @@ impl<W: Write + Drop> Output<W> {
             drawn: Vec::new(alloc),
             foreign: None,
             met: false,
+            before: 0,
         }
     }
 }

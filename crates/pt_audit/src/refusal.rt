@@ -1,7 +1,8 @@
 //! Why there is no verdict, or not all of the output was printed.
 
 use clap::error::ErrorKind;
-use pt_auditor::{Fault, Foreign, Objection, Verdict, Why};
+use pt_auditor::{Damage, Fault, Flaw, Foreign, Objection, Unfit, Verdict, Why};
+use pt_signal::Pid;
 use std::alloc::AllocError;
 use std::io;
 
@@ -23,6 +24,16 @@ pub enum Refusal {
     NoNodeInFile(usize, Foreign),
     /// The history is legal, and it has no event, or a letter is in flight.
     Incomplete(Verdict),
+    /// The last line of the file at the place has no line feed. The number is that of the line.
+    Torn(usize, u64),
+    /// The state that the history goes on from is damaged.
+    Damaged(Damage),
+    /// The state has the process twice.
+    Twice(Pid),
+    /// The state was not read.
+    UnreadState(io::Error),
+    /// The state was not written.
+    Unsaved(io::Error),
     Memory,
     /// The file at the place was not read.
     Unread(usize, io::Error),
@@ -81,6 +92,25 @@ impl From<io::Error> for Refusal {
             Refusal::Memory
         } else {
             Refusal::Unwritten(error)
+        }
+    }
+}
+
+impl From<Damage> for Refusal {
+    fn from(damage: Damage) -> Refusal {
+        if damage.flaw == Flaw::Memory {
+            Refusal::Memory
+        } else {
+            Refusal::Damaged(damage)
+        }
+    }
+}
+
+impl From<Unfit> for Refusal {
+    fn from(unfit: Unfit) -> Refusal {
+        match unfit {
+            Unfit::Twice(pid) => Refusal::Twice(pid),
+            Unfit::Memory => Refusal::Memory,
         }
     }
 }

@@ -23,6 +23,8 @@ pub struct Source<R> {
     line: Vec<u8>,
     number: u64,
     is_open: bool,
+    /// Whether the line has no line feed, as the file is over.
+    is_torn: bool,
     event: Option<Stamped>,
 }
 
@@ -37,6 +39,7 @@ impl<R: Read + Drop> Source<R> {
             line: Vec::new(alloc),
             number: 0,
             is_open: true,
+            is_torn: false,
             event: None,
         })
     }
@@ -49,6 +52,11 @@ impl<R: Read + Drop> Source<R> {
     /// Whether there is a line.
     pub fn is_open(&self) -> bool {
         self.is_open
+    }
+
+    /// Whether the line has no line feed, as the file is over.
+    pub fn is_torn(&self) -> bool {
+        self.is_torn
     }
 
     /// The line, without its line feed. If it is too long, it has one byte more than a line may have.
@@ -93,7 +101,8 @@ impl<R: Read + Drop> Source<R> {
         self.line.clear();
         for _ in 0..u64::MAX {
             let Some(byte) = self.next_byte()? else {
-                return Ok(self.line.len() > 0);
+                self.is_torn = self.line.len() > 0;
+                return Ok(self.is_torn);
             };
             if byte == 10 || self.line.len() > MOST_LINE {
                 return Ok(true);
