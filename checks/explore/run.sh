@@ -7,8 +7,8 @@
 # program must print, NAME.stderr what it must print on standard error (nothing if it is not there), and NAME.status its
 # status (0 if it is not there). The scripts of checks/examples have one case each, with the numbers of schedules and
 # outcomes that a model apart from this program counted; docs/EXPLORE.md has the race and how it is mended. In apart.json
-# three desks take three turns each and never meet, so there are 9! / (3! 3! 3!) schedules. The program is
-# bin/pt_explore, which is built first if it is not up to date.
+# three desks take three turns each and never meet, so there are 9! / (3! 3! 3!) schedules. Some cases are run on two and on
+# four threads too. The program is bin/pt_explore, which is built first if it is not up to date.
 set -euo pipefail
 shopt -s nullglob
 
@@ -32,6 +32,19 @@ for case in "$here"/*.args; do
     status=0
     [ ! -f "$file.status" ] || status=$(cat "$file.status")
     has_status "$name" "$status"
+done
+
+# On several threads the same is printed, where all schedules are run and where there are more than the limit.
+for name in race race_all race_budget race_chart race_limit race_one race_turns unlink threads; do
+    mapfile -t words <"$here/$name.args"
+    for jobs in 2 4; do
+        run pt_explore "$name-$jobs" /dev/null "${words[@]}" --jobs "$jobs"
+        is_same "$here/$name.stdout" "$work/out/$name-$jobs" "$name-$jobs" "what it prints on $jobs threads"
+        is_same /dev/null "$work/err/$name-$jobs" "$name-$jobs" "standard error"
+        status=0
+        [ ! -f "$here/$name.status" ] || status=$(cat "$here/$name.status")
+        has_status "$name-$jobs" "$status"
+    done
 done
 
 # The schedule that is told can be run again: the same history, byte for byte.
