@@ -45,6 +45,8 @@ class Engine(Sending):
         self._jobs: list[Deque[Job]] = [deque() for _ in self.desks]
         self._answers: list[list[tuple[Pid, Does]]] = [[] for _ in self.desks]
         self._untold = self._taken = False
+        # the numbers of the desks whose crews have not begun again
+        self._stale: list[int] = []
         self._gathered: Optional[Gathered] = None
         self._settled: Optional[Settled] = None
         self.spawned = self.crashes = self.epochs = self.archived = 0
@@ -110,13 +112,15 @@ class Engine(Sending):
         try:
             if not self.desks:
                 self._go_on()
+            self._begin_again()
             busy = self._perform() | self._go_off()
             self._tell_order()
-            dropped, self._dropped = self._dropped, []
+            dropped = len(self._dropped)
             for number in range(len(self.desks)):
                 busy |= self._step(number)
-            for call in dropped:
-                self._tell_dropped(call)
+            for _ in range(dropped):
+                self._tell_dropped(self._dropped[0])
+                del self._dropped[0]
             if any(desk.event_count() > self.every for desk in self.desks):
                 self._go_on()
                 busy = True
@@ -170,7 +174,11 @@ class Engine(Sending):
             except IndexError:  # another thread has done it, since the run is over
                 break
             some = True
-            task()
+            try:
+                task()
+            except Fault:  # no memory, or the clock is at its end: it is done first when the run goes on
+                self.inbox.appendleft(task)
+                raise
         return some
 
     def _tell_order(self) -> None:
@@ -358,13 +366,20 @@ class Engine(Sending):
         self._taken = True
         return self._settled
 
+    def _begin_again(self) -> None:
+        """Has each crew go on over the desk of a node that has gone on."""
+        while self._stale:
+            number = self._stale[-1]
+            self.crews[number].begin_again(self.desks[number])
+            self._stale.pop()
+
     def _go_on(self) -> None:
         """Empties the journals."""
         desks = self._close_epoch().resume()
         self.desks, self._settled, self._taken = desks, None, False
         self.epochs += 1
-        for crew, desk in zip(self.crews, desks):
-            crew.begin_again(desk)
+        self._stale = list(range(len(desks)))
+        self._begin_again()
         # in settling all news came: a text beside news that does not wait is beside none
         for seat in [seat for seat in self.seats.values() if seat.texts]:
             items = desks[seat.pid.shard].waiting(seat.pid) or ()

@@ -173,8 +173,14 @@ class Sending:
         """Does what was to be done by now."""
         some, now = False, self.now()
         while self._times and self._times[0][0] <= now:
-            task = self._alarms.pop(heapq.heappop(self._times)[1], None)
+            at, alarm = heapq.heappop(self._times)
+            task = self._alarms.pop(alarm, None)
             if task is not None:
                 some = True
-                task()
+                try:
+                    task()
+                except Fault:  # no memory, or the clock is at its end: it goes off when the run goes on
+                    self._alarms[alarm] = task
+                    heapq.heappush(self._times, (at, alarm))
+                    raise
         return some

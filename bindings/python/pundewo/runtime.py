@@ -95,7 +95,7 @@ class Runtime:
         # (each desk has one process more, which sends what comes from outside)
         config = Config(slots=number("slots", slots, 1, 65_535) + 1, lane=lane)
         self._engine = Engine(desks, config, every, archive, seconds("patience", patience))
-        self._lock = threading.Lock()
+        self._lock = threading.RLock()
         self._over = threading.Event()
         self._task: Optional[asyncio.Task[None]] = None
         self._next_desk = 0

@@ -6,6 +6,7 @@ import asyncio
 import logging
 import subprocess
 import threading
+import time
 from pathlib import Path
 
 import pundewo as p
@@ -98,12 +99,32 @@ class Stubborn(Doing):
 
     def started(self, cx):
         cx.trap()
+        self.notes.append("started")
 
 
-def run_and_stop(run, after=0.1):
-    """Runs it on this thread, and stops it from another one then."""
-    stopper = threading.Timer(after, run.stop)
+def wait_until(holds):
+    """Waits on this thread until this holds, for half a minute at most."""
+    over = time.monotonic() + 30
+    while not holds() and time.monotonic() < over:
+        time.sleep(0.005)
+
+
+def run_and_stop(run, holds):
+    """Runs it on this thread, and stops it from another one when this holds."""
+    stopper = threading.Thread(target=lambda: (wait_until(holds), run.stop()))
     stopper.start()
     summary = run.run(forever=True)
     stopper.join()
     return summary
+
+
+async def until(holds):
+    """Waits in an asyncio program until this holds, for half a minute at most."""
+    over = time.monotonic() + 30
+    while not holds() and time.monotonic() < over:
+        await asyncio.sleep(0.005)
+
+
+def is_watched(run, address, count=1):
+    """Whether so many monitors of the process have come to it."""
+    return len(run._engine.desks[address.pid.shard].watchers(address.pid) or ()) >= count

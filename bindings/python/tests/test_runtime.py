@@ -6,15 +6,15 @@ import asyncio
 import gc
 import tempfile
 import threading
-import time
 import unittest
 import weakref
 from pathlib import Path
+from unittest import mock
 
 import pundewo as p
 from pundewo import runtime as r
 
-from behaviours import Counted, Doing, Echo, Stubborn, audit, in_asyncio, quiet, run_and_stop
+from behaviours import Counted, Doing, Echo, Stubborn, audit, in_asyncio, quiet, run_and_stop, until
 
 
 class Handlers(unittest.TestCase):
@@ -65,24 +65,29 @@ class Handlers(unittest.TestCase):
         for desks in (1, 2):
             watcher, linked, other = Doing(), Doing(), Doing()
             run = r.Runtime(desks, patience=0.05)
-            victim = Echo()
+            victim, begun = Echo(), []
 
             def start(cx):
                 address = cx.spawn_on(desks - 1, victim, linked=False)
                 cx.monitor(address)
-                cx.send_after(0.05, address, "crash")
-                cx.spawn_on(0, Doing(linked.handle, lambda it: (it.trap(), it.link(address)) and None))
-                cx.spawn_on(0, Doing(other.handle, lambda it: it.link(address), other.notes))
-                cx.send_after(0.2, cx.me, "end")
+
+                def ready(it, traps=False):
+                    it.link(address)
+                    it.send(address, "both are linked")
+                    begun.append(traps)
+                    if len(begun) == 2:
+                        it.send(address, "crash")
+
+                cx.spawn_on(0, Doing(linked.handle, lambda it: ready(it, it.trap())))
+                cx.spawn_on(0, Doing(other.handle, ready, other.notes))
 
             def handle(cx, event):
                 watcher.handle(cx, event)
-                if isinstance(event, r.Message):
-                    run.stop()
+                return r.Next.wait(0.2) if isinstance(event, r.Down) else run.stop()
 
             run.spawn(Doing(handle, start), 0)
             summary = run.run()
-            self.assertEqual([type(it) for it in watcher.notes], [r.Down, r.Message])
+            self.assertEqual([type(it) for it in watcher.notes], [r.Down, r.Tick])
             self.assertEqual((watcher.notes[0].reason, watcher.notes[0].crash), (r.CRASH, "ValueError: told to"))
             self.assertEqual((linked.notes[0].reason, linked.notes[0].crash), (r.CRASH, "ValueError: told to"))
             self.assertEqual(other.notes, [r.CRASH])  # it does not trap exits
@@ -224,6 +229,8 @@ class Handlers(unittest.TestCase):
             return r.Next.wait(0.05, p.Pick("from", cx.pid))
 
         def handle(cx, event):
+            if len(gone) < 3:
+                return r.Next.wait(0.05, p.Pick("from", cx.pid))
             gone.append(Counted.alive)
             return r.Next.stop()
 
@@ -234,6 +241,36 @@ class Handlers(unittest.TestCase):
         finally:
             gc.enable()
         self.assertEqual(gone, [1, 1, 1, 0])
+
+    def test_a_run_without_memory_halts_and_goes_on(self):
+        got = []
+
+        def handle(cx, event):
+            got.append(event.value)
+            return r.Next.stop() if event.value == 3 else None
+
+        for place in ("turn", "begin_again", "send", "step"):
+            with self.subTest(place):
+                got.clear()
+                run = r.Runtime(going_on_every=4)
+                address = run.spawn(Doing(handle))
+                for number in range(4):
+                    address.send(number)
+                left = [2]
+                kind = p.Crew if place in ("begin_again", "step") else p.Desk
+                real = getattr(kind, place)
+
+                def failing(*words):
+                    left[0] -= 1
+                    if left[0] == 0:
+                        raise p.Fault(p.Code.MEMORY, place)
+                    return real(*words)
+
+                with mock.patch.object(kind, place, failing):
+                    with self.assertRaises(p.Fault):
+                        run.run()
+                    run.run()
+                self.assertEqual(got, [0, 1, 2, 3])
 
     def test_a_keyboard_interrupt_halts_the_run_and_it_goes_on(self):
         def handle(cx, event):
@@ -256,7 +293,7 @@ class Times(unittest.TestCase):
         got = []
 
         def start(cx):
-            cx.send_after(0.06, cx.me, "third")
+            cx.send_after(0.5, cx.me, "third")
             gone = cx.send_after(0.04, cx.me, "never")
             cx.send_after(0.03, cx.me, "second")
             cx.send_after(0, cx.me, "first")
@@ -310,12 +347,12 @@ class Epochs(unittest.TestCase):
         with tempfile.TemporaryDirectory() as folder:
             file = Path(folder) / "history"
             run = r.Runtime(2, going_on_every=100, archive=r.HistoryFile(file))
-            self.flood(run, 300)
+            self.flood(run, 200)
             summary = run.run(forever=True)
             lines = file.read_text().splitlines()
             self.assertEqual(summary.archived, len(lines))
             self.assertGreater(summary.epochs, 5)
-            self.assertGreater(len(lines), 1800)
+            self.assertGreater(len(lines), 1200)
             audit(self, file)
 
     def test_a_sink_that_fails_halts_the_run_and_loses_nothing(self):
@@ -367,9 +404,8 @@ class Epochs(unittest.TestCase):
                     cx.send(cx.me, event.value - 1)
                 else:
                     cx.exit(handle.child, p.Reason("other", 1))
-            elif isinstance(event, r.Down):
-                return r.Next.wait(0.02)
-            return r.Next.stop() if event is r.TIMEOUT else None
+            rest = [it for it in told if not (isinstance(it, r.Message) and isinstance(it.value, int))]
+            return r.Next.stop() if len(rest) == 3 else None
 
         def start(cx):
             cx.trap()
@@ -393,30 +429,34 @@ class Stops(unittest.TestCase):
         run = r.Runtime(2, patience=0.05)
         address = run.spawn(stubborn)
         run.spawn(plain)
-        summary = run_and_stop(run)
+        summary = run_and_stop(run, lambda: stubborn.notes)
         self.assertEqual(summary.killed, (address.pid,))
         self.assertEqual(stubborn.notes[-1], p.KILLED)
         self.assertEqual(plain.notes, [p.SHUTDOWN])
-        self.assertEqual(stubborn.notes[0].reason, p.SHUTDOWN)
+        self.assertEqual(stubborn.notes[1].reason, p.SHUTDOWN)
 
     def test_processes_that_are_born_in_the_stop_end_too(self):
         class Breeder(r.Behaviour):
             def started(self, cx):
                 cx.trap()
+                begun.append(1)
 
             def handle(self, cx, event):
                 cx.spawn(Breeder())
 
+        begun = []
+
         run = r.Runtime(patience=0.05)
         for _ in range(3):
             run.spawn(Breeder())
-        self.assertEqual(len(run_and_stop(run).killed), 3)
+        self.assertEqual(len(run_and_stop(run, lambda: len(begun) == 3).killed), 3)
 
     def test_a_handler_that_does_not_return_is_named(self):
-        leave = threading.Event()
+        entered, leave = threading.Event(), threading.Event()
 
         class Stuck(r.Behaviour):
             def handle(self, cx, event):
+                entered.set()
                 leave.wait(20)
 
         run = r.Runtime()
@@ -424,7 +464,7 @@ class Stops(unittest.TestCase):
         address.send(0)
         thread = threading.Thread(target=run.run)
         thread.start()
-        time.sleep(0.1)
+        entered.wait(20)
         run.stop()
         with self.assertRaises(r.NotEnded) as caught:
             run.wait(0.1)
@@ -451,14 +491,14 @@ class Stops(unittest.TestCase):
         async def main():
             async with r.Runtime(patience=50) as run:
                 run.spawn(behaviour)
-                await asyncio.sleep(0.01)
+                await until(lambda: behaviour.notes)
 
         async def cancel():
             task = asyncio.ensure_future(main())
-            await asyncio.sleep(0.05)
+            await until(lambda: len(behaviour.notes) == 2)
             task.cancel()
             with self.assertRaises(asyncio.CancelledError):
-                await asyncio.wait_for(asyncio.shield(task), 5)
+                await asyncio.wait_for(asyncio.shield(task), 30)
 
         asyncio.run(cancel())
         self.assertEqual(behaviour.notes[-1], p.KILLED)

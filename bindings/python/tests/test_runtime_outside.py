@@ -1,4 +1,4 @@
-"""Tests of the run of behaviours, as a program uses it: calls, asyncio programs and other threads, mailboxes, and bad input."""
+"""Tests of the run of behaviours, as a program uses it: calls, asyncio, other threads, mailboxes, and bad input."""
 
 from __future__ import annotations
 
@@ -9,7 +9,7 @@ import unittest
 import pundewo as p
 from pundewo import runtime as r
 
-from behaviours import Doing, Echo, in_asyncio, quiet, run_and_stop
+from behaviours import Doing, Echo, in_asyncio, is_watched, quiet, run_and_stop, until, wait_until
 
 
 class Calls(unittest.TestCase):
@@ -37,7 +37,7 @@ class Calls(unittest.TestCase):
                 await run.spawn(Echo()).call("exit")
             self.assertEqual(caught.exception.reason, p.Reason("other", 3))
             engine = run._engine
-            await asyncio.sleep(0.05)
+            await until(lambda: not engine.payloads and not engine._alarms)
             self.assertEqual((len(engine.payloads), len(engine._outside), len(engine._alarms)), (0, 0, 0))
             echo = run.spawn(Echo())
             waits = asyncio.ensure_future(echo.call("hold", 50))
@@ -70,8 +70,8 @@ class Calls(unittest.TestCase):
             return r.Next.stop() if len(answers) == 6 else None
 
         run = r.Runtime(2)
-        run.spawn(Doing(handle, start), 0)
-        run_and_stop(run, 0.3)
+        client = run.spawn(Doing(handle, start), 0)
+        run_and_stop(run, lambda: not client.is_alive())
         self.assertEqual(sorted(answers), [
             (0, ("echo", 1)), (1, "the request was dropped unanswered"), (2, "there was no answer in time"),
             (3, "the server crashed: KeyError: 'asked to'"), (4, ("echo", 2)), (5, "the server exited: noproc")])
@@ -94,7 +94,7 @@ class Calls(unittest.TestCase):
             return r.Next.stop() if isinstance(event, r.Answer) else None
 
         client = run.spawn(Doing(ask, lambda cx: cx.call(server, 1) and None))
-        run_and_stop(run)
+        run_and_stop(run, lambda: not client.is_alive())
         self.assertEqual(got, [True, "before", "answer"])
 
     def test_other_threads_spawn_send_call_and_stop(self):
@@ -122,11 +122,14 @@ class Calls(unittest.TestCase):
         holder = run.spawn(Doing(lambda cx, event: held.append((cx, event))))
         with self.assertRaises(r.CallTimeout):
             run.call(holder, "late", 0.05)
+        wait_until(lambda: held)
         with self.assertRaises(RuntimeError):
             held[0][0].send(holder, 1)  # a context, on another thread
         held.pop()[1].reply("too late")
-        threading.Timer(0.02, lambda: held.pop()[1].reply("in time")).start()
-        self.assertEqual(run.call(holder, "soon"), "in time")
+        replier = threading.Thread(target=lambda: (wait_until(lambda: held), held.pop()[1].reply("in time")))
+        replier.start()
+        self.assertEqual(run.call(holder, "soon", 30), "in time")
+        replier.join()
         with self.assertRaises(RuntimeError):
             run.run()
         run.stop()
@@ -151,7 +154,7 @@ class Mailboxes(unittest.TestCase):
 
                 sender = run.spawn(Doing(handle), 0)
                 mailbox.monitor(sender)
-                await asyncio.sleep(0.02)
+                await until(lambda: is_watched(run, sender))
                 sender.send(500)
                 got = []
                 async for event in mailbox:
@@ -191,7 +194,8 @@ class BadInput(unittest.TestCase):
         address = run.spawn(Echo())
         for error, work in [
             (TypeError, lambda: run.spawn(Echo)), (TypeError, lambda: run.spawn(7)),
-            (ValueError, lambda: run.spawn(Echo(), 2)), (TypeError, lambda: run.spawn(Echo(), "0")), (TypeError, lambda: run.call(address.pid, 1)),
+            (ValueError, lambda: run.spawn(Echo(), 2)), (TypeError, lambda: run.spawn(Echo(), "0")),
+            (TypeError, lambda: run.call(address.pid, 1)),
             (ValueError, lambda: run.call(address, 1, -1)), (TypeError, lambda: r.Next.wait("1")),
             (ValueError, lambda: r.Next.wait(-0.5)), (TypeError, lambda: r.Next.wait(pick="any")),
             (TypeError, lambda: r.Next.stop("normal")), (TypeError, lambda: r.Behaviour()),

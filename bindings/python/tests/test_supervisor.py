@@ -9,6 +9,8 @@ import unittest
 import pundewo as p
 from pundewo import runtime as r
 
+from behaviours import is_watched, until
+
 
 class Worker(r.Behaviour):
     """Notes when it begins and ends, and ends as it is told."""
@@ -40,15 +42,6 @@ class Failing(r.Behaviour):
 
     def handle(self, cx, event):
         pass
-
-
-async def until(holds, seconds=10):
-    """Waits until this holds."""
-    for _ in range(int(seconds * 200)):
-        if holds():
-            return
-        await asyncio.sleep(0.005)
-    raise AssertionError("it does not come to hold")
 
 
 def supervised(test):
@@ -188,7 +181,7 @@ class Supervisors(unittest.TestCase):
         mailbox = self.runtime.mailbox()
         mailbox.monitor(address)
         mailbox.monitor(branch)
-        await asyncio.sleep(0.02)
+        await until(lambda: is_watched(self.runtime, address) and is_watched(self.runtime, branch))
         self.notes.clear()
 
         class Killer(r.Behaviour):
