@@ -19,8 +19,10 @@ use std::time::{Duration, Instant};
 type Fault = Box<dyn std::error::Error + Send + Sync>;
 
 const ROOMS: usize = 20;
-/// After so much silence all has come.
-const SILENCE: Duration = Duration::from_secs(2);
+/// After so much silence it is looked whether all has come.
+const SILENCE: Duration = Duration::from_millis(200);
+/// How long it is waited for what has not come.
+const PATIENCE: Duration = Duration::from_secs(30);
 /// A run of this time has epochs enough to see that memory is flat.
 const LONG: Duration = Duration::from_secs(10);
 /// How long the idle server is looked at, and how many hundredths of a second it may have taken then: 0.5 % of a core.
@@ -34,6 +36,8 @@ struct Tally {
     said: Mutex<HashMap<u64, (usize, u64)>>,
     crashes: Mutex<HashMap<usize, u64>>,
     speakers: AtomicU64,
+    /// How many connections have not said all yet.
+    speaking: AtomicU64,
     heard: AtomicU64,
     slowest: AtomicU64,
 }
@@ -69,17 +73,41 @@ impl Load {
         if &line == b"welcome\n" { Ok(stream) } else { Err(io::Error::other("no welcome")) }
     }
 
-    /// Listens until there is silence, or the connection ends. A speaker's lines begin with its first one if `first`.
-    fn listen(&self, stream: &TcpStream, first: bool) -> Result<Heard, Fault> {
-        let mut heard = Heard::default();
-        for line in BufReader::new(stream).lines().map_while(Result::ok) {
-            if line.starts_with("gone ") {
-                heard.gone += 1;
-            } else {
-                self.hear(&line, &mut heard, first)?;
+    /// Listens until all has come that was said in this room, or the connection ends. Without a room only the latter.
+    fn listen(&self, stream: &TcpStream, room: Option<usize>) -> Result<Heard, Fault> {
+        let (mut heard, mut lines, mut line) = (Heard::default(), BufReader::new(stream), String::new());
+        let latest = Instant::now() + self.time + PATIENCE;
+        loop {
+            match lines.read_line(&mut line) {
+                Ok(0) => return Ok(heard),
+                Ok(_) if line.starts_with("gone ") => heard.gone += 1,
+                Ok(_) => self.hear(line.trim(), &mut heard, room.is_some())?,
+                // (what came of a line stays)
+                Err(fault) if fault.kind() == io::ErrorKind::WouldBlock => match room {
+                    Some(room) if self.lacks(room, &heard).is_some() && Instant::now() < latest => continue,
+                    _ => return Ok(heard),
+                },
+                Err(_) => return Ok(heard),
+            }
+            line.clear();
+        }
+    }
+
+    /// What has not come of that which was said in a room, or that some still speak.
+    fn lacks(&self, room: usize, heard: &Heard) -> Option<String> {
+        if self.tally.speaking.load(SeqCst) > 0 {
+            return Some("some still speak".into());
+        }
+        for (speaker, &(_, count)) in self.tally.said.lock().expect("a tally").iter().filter(|(_, said)| said.0 == room)
+        {
+            let came = heard.next.get(speaker).copied().unwrap_or(0);
+            if came != count {
+                return Some(format!("speaker {speaker} said {count} lines, and {came} came"));
             }
         }
-        Ok(heard)
+        let crashes = self.tally.crashes.lock().expect("a tally").get(&room).copied().unwrap_or(0);
+        (heard.gone != crashes)
+            .then(|| format!("{crashes} crashed in room {room}, and of {} there is news", heard.gone))
     }
 
     /// A line is the number of its speaker, its number among the speaker's, and when it was said.
@@ -120,24 +148,14 @@ impl Load {
         self.begin.wait();
         stream.set_read_timeout(Some(SILENCE))?;
         let heard = thread::scope(|threads| {
-            let listens = threads.spawn(|| self.listen(&stream, true));
-            self.say(&stream, room, Instant::now() + self.time)?;
+            let listens = threads.spawn(|| self.listen(&stream, Some(room)));
+            let said = self.say(&stream, room, Instant::now() + self.time);
+            self.tally.speaking.fetch_sub(1, SeqCst);
+            said?;
             listens.join().expect("a listener")
         });
         self.done.wait();
-        let heard = heard?;
-        for (speaker, &(_, count)) in self.tally.said.lock().expect("a tally").iter().filter(|(_, said)| said.0 == room)
-        {
-            let came = heard.next.get(speaker).copied().unwrap_or(0);
-            if came != count {
-                return Err(format!("speaker {speaker} said {count} lines, and {came} came").into());
-            }
-        }
-        let crashes = self.tally.crashes.lock().expect("a tally").get(&room).copied().unwrap_or(0);
-        if heard.gone != crashes {
-            return Err(format!("{crashes} crashed in room {room}, and of {} there is news", heard.gone).into());
-        }
-        Ok(())
+        self.lacks(room, &heard?).map_or(Ok(()), |lack| Err(lack.into()))
     }
 
     /// A connection that crashes once a second, and comes again.
@@ -148,7 +166,7 @@ impl Load {
         let until = Instant::now() + self.time;
         let outcome = loop {
             let said = thread::scope(|threads| {
-                let listens = threads.spawn(|| self.listen(&stream, false));
+                let listens = threads.spawn(|| self.listen(&stream, None));
                 self.say(&stream, room, until.min(Instant::now() + Duration::from_secs(1)))?;
                 *self.tally.crashes.lock().expect("a tally").entry(room).or_default() += 1;
                 (&stream).write_all(b"crash\n")?;
@@ -159,6 +177,7 @@ impl Load {
             }
             stream = self.join(room)?;
         };
+        self.tally.speaking.fetch_sub(1, SeqCst);
         self.done.wait();
         outcome
     }
@@ -225,7 +244,8 @@ impl Load {
     fn new(server: SocketAddr, connections: usize, rate: u32, time: Duration) -> Load {
         let barrier = |more| Barrier::new(connections + more);
         let (joined, begin, done) = (barrier(1), barrier(1), barrier(0));
-        Load { server, rate, time, begun: Instant::now(), joined, begin, done, tally: Tally::default() }
+        let tally = Tally { speaking: AtomicU64::new(connections as u64), ..Tally::default() };
+        Load { server, rate, time, begun: Instant::now(), joined, begin, done, tally }
     }
 
     /// Prints what came of it, and returns how many crashed.
@@ -265,7 +285,7 @@ fn main() -> Result<(), Fault> {
         return Err("the server does not rest".into());
     }
     // (in a short run there is no epoch before half of the time)
-    if load.time >= LONG && late > early + early / 10 {
+    if load.time >= LONG && late > early + early / 4 {
         return Err("the memory of the server grows".into());
     }
     Ok(())

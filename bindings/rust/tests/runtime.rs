@@ -2,8 +2,8 @@
 
 use pundewo::History;
 use pundewo::runtime::{
-    Address, Behaviour, Call, CallFault, Context, Event, Next, PANIC, Pid, Reason, Refusal, Reply, Runtime, SpawnFault,
-    StopFault, Timer,
+    Address, Behaviour, Call, CallFault, Context, Event, Handle, Next, PANIC, Pid, Reason, Refusal, Reply, Runtime,
+    SpawnFault, StopFault, Timer,
 };
 use std::sync::mpsc::{Receiver, Sender, channel};
 use std::sync::{Arc, Mutex};
@@ -581,5 +581,46 @@ fn each_exit_is_told_once_with_its_reason() -> Result<(), Error> {
     }
     assert_eq!(runtime.wait()?.panics, 267);
     assert!(told.recv().is_err());
+    Ok(())
+}
+
+#[test]
+fn a_sink_may_ask_the_run_and_may_panic() -> Result<(), Error> {
+    let known: Arc<Mutex<Option<Handle>>> = Arc::default();
+    let handle = known.clone();
+    let sink = move |history: &History| {
+        let handle = handle.lock().expect("a handle").clone().expect("a handle");
+        assert_eq!((handle.epochs(), handle.is_over()), (0, false));
+        assert_eq!(handle.spawn(acts::<(), _>(|_, _| Next::DONE)).err(), Some(SpawnFault::Inside));
+        assert!(history.count() < 2, "too much happened");
+        Ok(())
+    };
+    let runtime = Runtime::builder().desks(1).archive(sink).start()?;
+    *known.lock().expect("a handle") = Some(runtime.handle());
+    runtime.spawn(acts::<(), _>(|_, _| Next::DONE))?;
+    let StopFault::Halted(halted) = runtime.wait().expect_err("it halted") else { panic!("it halted") };
+    assert_eq!(halted.to_string(), "the run halted: the sink panicked");
+    let handle = known.lock().expect("a handle").take().expect("a handle");
+    assert!(handle.is_over() && handle.spawn(acts::<(), _>(|_, _| Next::DONE)).err() == Some(SpawnFault::Over));
+    let (text, sink) = text_sink();
+    assert_eq!(halted.with_archive(sink).go_on().expect("a sink that takes all").wait()?.epochs, 2);
+    assert!(text.lock().expect("a text").contains(" left <0.1.1> normal\n"));
+    Ok(())
+}
+
+/// The thread that is first to go on wants to go on again while the others have not woken yet.
+#[test]
+fn a_thread_may_meet_again_before_the_others_have_woken() -> Result<(), Error> {
+    let runtime = Runtime::builder().desks(16).going_on_every(1).start()?;
+    let mut left = 300;
+    runtime.spawn_on(
+        0,
+        acts::<(), _>(move |cx, _| {
+            cx.send(&cx.me().clone(), ());
+            left -= 1;
+            if left > 0 { Next::Wait } else { Next::DONE }
+        }),
+    )?;
+    assert!(runtime.wait()?.epochs > 100);
     Ok(())
 }

@@ -27,8 +27,13 @@ pub struct Summary {
 
 impl Summary {
     pub(crate) fn of(hub: &Hub) -> Summary {
-        let (epochs, archived) = hub.meeting.with_book(|book| (book.epochs, book.archived));
-        Summary { epochs, archived, spawned: hub.spawned.load(SeqCst), panics: hub.panics.load(SeqCst) }
+        let (epochs, archived) = (&hub.meeting.book.epochs, &hub.meeting.book.archived);
+        Summary {
+            epochs: epochs.load(SeqCst),
+            archived: archived.load(SeqCst),
+            spawned: hub.spawned.load(SeqCst),
+            panics: hub.panics.load(SeqCst),
+        }
     }
 }
 
@@ -100,7 +105,7 @@ impl Halted {
     /// The same run with another sink, which gets the history that was not taken, and all that follow.
     #[must_use]
     pub fn with_archive(self, sink: impl Sink + 'static) -> Halted {
-        self.hub.of().meeting.with_book(|book| book.sink = Some(Box::new(sink)));
+        self.hub.of().meeting.book.open(Some(Box::new(sink)));
         self
     }
 
@@ -113,7 +118,7 @@ impl Halted {
     pub fn go_on(self) -> Result<Runtime, Box<Halted>> {
         let Halted { stage, workers, hub, .. } = self;
         let mut workers = workers.into_inner().unwrap_or_else(PoisonError::into_inner);
-        let closed = hub.of().meeting.with_book(|book| stage.close(book)).and_then(resume);
+        let closed = stage.close(&hub.of().meeting.book).and_then(resume);
         let desks = match closed {
             Ok(desks) => desks,
             Err(Stuck { why, stage }) => return Err(Box::new(Halted::new(why, stage, workers, hub))),

@@ -6,16 +6,16 @@ use super::hub::Hub;
 use super::inbox::locked;
 use crate::{Desk, Fault, Gathered, Settled, gather};
 use std::panic::{AssertUnwindSafe, catch_unwind};
-use std::sync::atomic::{AtomicBool, Ordering::SeqCst};
+use std::sync::atomic::{AtomicBool, AtomicU64, Ordering::SeqCst};
 use std::sync::{Condvar, Mutex, PoisonError};
 use std::time::Duration;
 
 /// Where the histories go, and what has gone there.
 #[derive(Default)]
 pub(crate) struct Book {
-    pub(crate) sink: Option<Box<dyn Sink>>,
-    pub(crate) epochs: u64,
-    pub(crate) archived: u64,
+    sink: Mutex<Option<Box<dyn Sink>>>,
+    pub(crate) epochs: AtomicU64,
+    pub(crate) archived: AtomicU64,
 }
 
 /// How far the node is on its way to its next epoch.
@@ -43,7 +43,7 @@ pub(crate) enum Outcome {
 
 impl Stage {
     /// Goes as far as a settled node whose history is taken.
-    pub(crate) fn close(self, book: &mut Book) -> Result<Settled, Stuck> {
+    pub(crate) fn close(self, book: &Book) -> Result<Settled, Stuck> {
         let stuck = |why: Fault, stage| Stuck { why: why.into(), stage };
         match self {
             Stage::Desks(desks) => match gather(desks) {
@@ -64,15 +64,21 @@ impl Stage {
 }
 
 impl Book {
+    /// Where the next histories go.
+    pub(crate) fn open(&self, sink: Option<Box<dyn Sink>>) {
+        let old = std::mem::replace(&mut *locked(&self.sink), sink);
+        drop(old);
+    }
+
     /// Hands the history to the sink, once.
-    fn take(&mut self, node: &Settled) -> Result<(), Refusal> {
-        if let Some(sink) = &mut self.sink {
+    fn take(&self, node: &Settled) -> Result<(), Refusal> {
+        if let Some(sink) = &mut *locked(&self.sink) {
             let history = node.history()?;
             let taken = catch_unwind(AssertUnwindSafe(|| sink.take(&history)));
             taken.unwrap_or_else(|_| Err("the sink panicked".into()))?;
-            self.archived += history.count() as u64;
+            self.archived.fetch_add(history.count() as u64, SeqCst);
         }
-        self.epochs += 1;
+        self.epochs.fetch_add(1, SeqCst);
         Ok(())
     }
 }
@@ -83,28 +89,20 @@ pub(crate) fn resume(node: Settled) -> Result<Vec<Desk>, Stuck> {
 }
 
 struct State {
-    /// The desks of those that have come, and then of the node that has gone on.
+    /// The desks of those that have come, and then of the node that has gone on, until each thread has taken its own.
     desks: Vec<Option<Desk>>,
+    /// How many have come. (one may come again before another has taken its desk)
+    came: usize,
     round: u64,
     fault: Option<Fault>,
-    book: Book,
     outcome: Option<Outcome>,
 }
 
 impl State {
-    /// All have come: the node goes on, or the run is over.
-    fn go_on(&mut self, over: impl Fn() -> bool) {
+    /// The node has gone on, or the run is over.
+    fn conclude(&mut self, resumed: Result<Vec<Desk>, Outcome>) {
         self.round += 1;
-        let stage = Stage::Desks(self.desks.iter_mut().filter_map(Option::take).collect());
-        let closed = match self.fault.take() {
-            Some(fault) => Err(Stuck { why: fault.into(), stage }),
-            None => stage.close(&mut self.book),
-        };
-        let resumed = match closed {
-            Ok(_) if over() => Err(Outcome::Ended),
-            Ok(node) => resume(node).map_err(Outcome::Halted),
-            Err(stuck) => Err(Outcome::Halted(stuck)),
-        };
+        self.came = 0;
         match resumed {
             Ok(desks) => self.desks = desks.into_iter().map(Some).collect(),
             Err(outcome) => self.outcome = Some(outcome),
@@ -113,16 +111,19 @@ impl State {
 }
 
 pub(crate) struct Meeting {
+    pub(crate) book: Book,
     wanted: AtomicBool,
     state: Mutex<State>,
     changed: Condvar,
 }
 
 impl Meeting {
-    pub(crate) fn new(desks: usize, book: Book) -> Meeting {
+    pub(crate) fn new(desks: usize, sink: Option<Box<dyn Sink>>) -> Meeting {
+        let book = Book::default();
+        book.open(sink);
         let desks = (0..desks).map(|_| None).collect();
-        let state = State { desks, round: 0, fault: None, book, outcome: None };
-        Meeting { wanted: AtomicBool::new(false), state: Mutex::new(state), changed: Condvar::new() }
+        let state = State { desks, came: 0, round: 0, fault: None, outcome: None };
+        Meeting { book, wanted: AtomicBool::new(false), state: Mutex::new(state), changed: Condvar::new() }
     }
 
     /// Says that all are to come, and returns whether that is new.
@@ -140,16 +141,36 @@ impl Meeting {
         let number = usize::from(desk.number());
         let mut state = locked(&self.state);
         state.desks[number] = Some(desk);
+        state.came += 1;
         state.fault = state.fault.or(fault);
         let round = state.round;
-        if state.desks.iter().all(Option::is_some) && state.outcome.is_none() {
-            state.go_on(|| hub.is_over());
+        if state.came == state.desks.len() && state.outcome.is_none() {
+            let desks = state.desks.iter_mut().filter_map(Option::take).collect();
+            let fault = state.fault.take();
+            // (the sink is the program's own: it runs while nothing is locked that it may ask for)
+            drop(state);
+            let resumed = self.go_on(hub, desks, fault);
+            state = locked(&self.state);
+            state.conclude(resumed);
             self.wanted.store(false, SeqCst);
             self.changed.notify_all();
         }
         let waits = |state: &mut State| state.round == round && state.outcome.is_none();
         let mut state = self.changed.wait_while(state, waits).unwrap_or_else(PoisonError::into_inner);
         if state.outcome.is_some() { None } else { state.desks[number].take() }
+    }
+
+    /// All have come: the node goes on, or the run is over.
+    fn go_on(&self, hub: &Hub, desks: Vec<Desk>, fault: Option<Fault>) -> Result<Vec<Desk>, Outcome> {
+        let closed = match fault {
+            Some(fault) => Err(Stuck { why: fault.into(), stage: Stage::Desks(desks) }),
+            None => Stage::Desks(desks).close(&self.book),
+        };
+        match closed {
+            Ok(_) if hub.is_over() => Err(Outcome::Ended),
+            Ok(node) => resume(node).map_err(Outcome::Halted),
+            Err(stuck) => Err(Outcome::Halted(stuck)),
+        }
     }
 
     /// A thread is lost, and with it the run.
@@ -179,20 +200,19 @@ impl Meeting {
         locked(&self.state).outcome.is_some()
     }
 
-    /// How the run is over, once it is. If it halted, it may go on then.
+    /// How the run is over, once it is. From here on it is over, unless it is begun again.
     pub(crate) fn take_outcome(&self) -> Option<Outcome> {
         let mut state = locked(&self.state);
-        let outcome = state.outcome.take();
-        match outcome {
-            Some(Outcome::Ended) => state.outcome = Some(Outcome::Ended),
-            Some(Outcome::Halted(_)) => self.wanted.store(false, SeqCst),
-            Some(Outcome::Lost) | None => state.outcome = Some(Outcome::Lost),
+        match state.outcome {
+            Some(Outcome::Ended) => Some(Outcome::Ended),
+            _ => state.outcome.replace(Outcome::Lost),
         }
-        outcome
     }
 
-    /// What is in the book.
-    pub(crate) fn with_book<T>(&self, read: impl FnOnce(&mut Book) -> T) -> T {
-        read(&mut locked(&self.state).book)
+    /// The threads begin, perhaps after a halt.
+    pub(crate) fn begin(&self) {
+        let mut state = locked(&self.state);
+        (state.outcome, state.came) = (None, 0);
+        self.wanted.store(false, SeqCst);
     }
 }

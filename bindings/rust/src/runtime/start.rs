@@ -2,7 +2,7 @@
 
 use super::archive::Sink;
 use super::hub::Hub;
-use super::meeting::{Book, Meeting};
+use super::meeting::Meeting;
 use super::run::Runtime;
 use super::worker::Worker;
 use crate::{Config, Fault, open};
@@ -73,8 +73,7 @@ impl Builder {
     pub fn start(self) -> Result<Runtime, StartFault> {
         let processors = || std::thread::available_parallelism().map_or(1, |count| count.get().min(64));
         let desks = open(self.desks.unwrap_or_else(processors), self.config)?;
-        let book = Book { sink: self.sink, ..Book::default() };
-        let hub = Hub::new(desks.len(), self.every.unwrap_or(100_000), Meeting::new(desks.len(), book));
+        let hub = Hub::new(desks.len(), self.every.unwrap_or(100_000), Meeting::new(desks.len(), self.sink));
         let hub = Closing(Some(Arc::new(hub)));
         let workers: Result<_, Fault> = desks.into_iter().map(|desk| Worker::new(hub.of(), desk)).collect();
         launch(hub, workers?).map_err(|(fault, ..)| StartFault::Thread(fault))
@@ -149,6 +148,7 @@ pub(crate) fn launch(hub: Closing, workers: Vec<Worker>) -> Result<Runtime, (io:
             Err(fault) => return Err((fault, hub, workers)),
         }
     }
+    hub.of().meeting.begin();
     let mut threads = Threads::new();
     for ((thread, give), worker) in started.into_iter().zip(workers) {
         let _ = give.send(worker);
