@@ -85,10 +85,10 @@ fn audit_all<R: Read + Drop, W: Write>(
     let mut audit = audit;
     for _ in 0..u64::MAX {
         let place = first_of(sources);
-        if place >= sources.len() {
+        let Some(source) = sources.get_mut(place) else {
             return Ok(audit);
-        }
-        audit = step(alloc, audit, &mut sources[place], several, asked, out)?;
+        };
+        audit = step(alloc, audit, source, several, asked, out)?;
     }
     Err(Refusal::Memory)
 }
