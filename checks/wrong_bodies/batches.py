@@ -388,7 +388,7 @@ class Trials:
         full = {name for name in said.verdicts if any(same(name, it) for it in changed)}
         others = {name: it for name, it in said.verdicts.items() if not within(name, full)}
         apart = [name for name in others if not said.is_above(name, full)]
-        return bool(apart) and all(others[name] == "proved" for name in apart)
+        return bool(apart) and all(is_proved(others[name]) for name in apart)
 
     def judge(self, edit: Edit, said: Said) -> None:
         """Takes the verdict of a sound check."""
@@ -399,7 +399,7 @@ class Trials:
             if said.own(said.goals, name):
                 edit.verdict, edit.reason = "refused", f"{name}: {said.own(said.goals, name)[0]}"
                 return
-        if all(said.verdicts[name] == "proved" for name in own):
+        if all(is_proved(said.verdicts[name]) for name in own):
             edit.verdict, edit.reason = "proved", f"{', '.join(own)}: the contract lets it through"
 
     def try_alone(self, edit: Edit) -> None:
@@ -452,6 +452,11 @@ class Trials:
         if unknown:
             raise Broken(f"{self.crate}: {unknown[0][:200]}")
         return understood(text, self.crate, seconds)
+
+
+def is_proved(verdict: str) -> bool:
+    """Whether a function is proved. The prover says behind it if the function may wait, abort or serve."""
+    return re.fullmatch(r"proved(, may (wait|abort|serve))*", verdict) is not None
 
 
 def same(name: str, path: str) -> bool:
