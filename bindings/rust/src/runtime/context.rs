@@ -6,7 +6,7 @@ use super::calls::{Call, Calls, Open, Reply, fresh_number, number_of};
 use super::inbox::Task;
 use super::payloads::News;
 use super::timing::{Key, Timer};
-use super::worker::Worker;
+use super::worker::{Parent, Worker};
 use super::{ANSWER, MESSAGE, OVER};
 use crate::{Fault, Pid, Reason, Ref};
 use std::fmt;
@@ -21,6 +21,7 @@ pub struct Context<'a, M> {
     pub(crate) worker: &'a mut Worker,
     pub(crate) me: &'a Address<M>,
     pub(crate) calls: &'a mut Calls,
+    pub(crate) parent: Option<Pid>,
 }
 
 impl<M: Send + 'static> fmt::Debug for Context<'_, M> {
@@ -78,7 +79,7 @@ impl<M: Send + 'static> Context<'_, M> {
     ///
     /// [`Fault::Full`] if no slot is free, [`Fault::Worn`] or [`Fault::Memory`]. The behaviour is dropped.
     pub fn spawn<B: Behaviour>(&mut self, behaviour: B) -> Result<Address<B::Message>, Fault> {
-        self.worker.spawn(Some((self.me.pid(), false)), behaviour)
+        self.worker.spawn(Parent::Process { pid: self.me.pid(), linked: false }, behaviour)
     }
 
     /// Spawns a process on the same desk that is linked with this one from the first.
@@ -87,7 +88,7 @@ impl<M: Send + 'static> Context<'_, M> {
     ///
     /// As [`spawn`](Context::spawn).
     pub fn spawn_linked<B: Behaviour>(&mut self, behaviour: B) -> Result<Address<B::Message>, Fault> {
-        self.worker.spawn(Some((self.me.pid(), true)), behaviour)
+        self.worker.spawn(Parent::Process { pid: self.me.pid(), linked: true }, behaviour)
     }
 
     /// Spawns a process on a desk, through the inbox of that desk. Its address is the answer of the call.
@@ -97,7 +98,7 @@ impl<M: Send + 'static> Context<'_, M> {
         let (call, reply) = self.open(fresh_number(), None, None);
         match self.worker.hub.places.get(usize::from(desk)) {
             Some(place) => {
-                place.post(Task::Do(Box::new(move |worker| reply.send(worker.spawn(None, behaviour)))));
+                place.post(Task::Do(Box::new(move |worker| reply.send(worker.spawn(Parent::Outside, behaviour)))));
             }
             None => reply.send(Err(Fault::BadDesks)),
         }
@@ -195,6 +196,17 @@ impl<M: Send + 'static> Context<'_, M> {
         } else {
             hub.post(slot.pid(), ANSWER, call);
         }
+    }
+
+    /// Spawns a child of a supervisor, linked with it.
+    pub(crate) fn spawn_supervised<B: Behaviour>(&mut self, behaviour: B) -> Result<Address<B::Message>, Fault> {
+        self.worker.spawn(Parent::Supervisor(self.me.pid()), behaviour)
+    }
+
+    /// Whether a signal of this process is one of the parent, which is the process that spawned this one, or of those
+    /// outside.
+    pub(crate) fn is_of_parent(&self, from: Pid) -> bool {
+        self.parent == Some(from) || self.worker.porter == from
     }
 
     fn open<R: Send + 'static>(

@@ -3,7 +3,9 @@
 use super::inbox::{Place, Task};
 use super::meeting::Meeting;
 use super::payloads::Slot;
+use super::supervisor::Supervisor;
 use crate::Pid;
+use std::any::type_name;
 use std::sync::Arc;
 use std::sync::atomic::{AtomicU8, AtomicU64, AtomicUsize, Ordering::SeqCst, fence};
 use std::time::{Duration, Instant};
@@ -123,10 +125,13 @@ impl Hub {
         self.order() >= END && self.alive.load(SeqCst) == 0
     }
 
-    /// A live process, one whose handler runs first, and the name of its behaviour.
+    /// A live process, and the name of its behaviour: one whose handler runs, if there is one, and else no supervisor,
+    /// since that may wait for a child.
     pub(crate) fn somebody(&self) -> Option<(Pid, &'static str)> {
-        let running = (0..).zip(&self.places).filter_map(|(shard, place)| self.slot(place.running(shard)?));
-        let living = self.places.iter().flat_map(Place::slots);
-        running.chain(living).next().map(|slot| (slot.pid(), slot.name()))
+        let mut running = (0..).zip(&self.places).filter_map(|(shard, place)| self.slot(place.running(shard)?));
+        let living = || self.places.iter().flat_map(Place::slots);
+        let waits = |slot: &Arc<dyn Slot>| slot.name() == type_name::<Supervisor>();
+        let found = running.next().or_else(|| living().min_by_key(waits));
+        found.map(|slot| (slot.pid(), slot.name()))
     }
 }

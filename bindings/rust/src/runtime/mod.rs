@@ -51,27 +51,35 @@
 //! A handler that panics has crashed its process, and no other: see [`PANIC`]. The panic's text is beside the news of it:
 //! [`Down::panic`], [`Exit::panic`] and [`CallFault::Down`].
 //!
+//! # Supervisors
+//!
+//! A [`Supervisor`] starts its children, and starts them again when they exit. A [`Name`] leads to the child that runs now.
+//!
 //! # What is proved, and what is not
 //!
 //! Proved is what is below: the table, and the crew that says which process is told what ([`Crew`](crate::Crew)). So
 //! messages arrive in order and once, no wake-up of a crew is lost, and each exit is told once.
 //!
 //! Not proved, since nothing checks Rust, but tested: the threads and their rest, the values beside the table, timers,
-//! calls, and how the threads meet. `unsafe` is not used here.
+//! calls, supervisors, and how the threads meet. `unsafe` is not used here.
 
 mod address;
 mod archive;
 mod behaviour;
 mod calls;
+mod child;
 mod context;
 mod ending;
 mod hub;
 mod inbox;
+mod limit;
 mod meeting;
+mod name;
 mod payloads;
 mod process;
 mod run;
 mod start;
+mod supervisor;
 mod timing;
 mod worker;
 
@@ -80,10 +88,13 @@ pub use address::Address;
 pub use archive::{HistoryFile, Refusal, Sink};
 pub use behaviour::{Behaviour, Down, Event, Exit, Next};
 pub use calls::{Answer, Call, CallFault, Reply};
+pub use child::{Child, ChildFault, ChildInfo, Restart, Shutdown, Started};
 pub use context::Context;
 pub use ending::{Halted, StopFault, Summary};
+pub use name::Name;
 pub use run::{Handle, Runtime, SpawnFault};
 pub use start::{Builder, StartFault};
+pub use supervisor::{Supervisor, ToSupervisor};
 pub use timing::Timer;
 
 /// The reason of a process whose handler has panicked. No behaviour should stop with it.

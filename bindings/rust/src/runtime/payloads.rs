@@ -73,6 +73,11 @@ impl<M> Mailbox<M> {
         }
     }
 
+    /// Whether the process has not exited.
+    pub(crate) fn is_open(&self) -> bool {
+        self.lock().is_some()
+    }
+
     pub(crate) fn take(&self, number: i64) -> Option<M> {
         self.lock().as_mut()?.messages.remove(&number)
     }

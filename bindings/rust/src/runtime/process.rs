@@ -5,6 +5,7 @@ use super::behaviour::{Behaviour, Down, Event, Exit};
 use super::calls::{Answer, CallFault, Calls, number_of};
 use super::context::{Context, demonitor};
 use super::payloads::{News, Slot, quietly};
+use super::supervisor::is_supervisor;
 use super::worker::Worker;
 use super::{ANSWER, OVER};
 use crate::crew::{Next, What};
@@ -16,19 +17,23 @@ pub(crate) trait Actor: Send {
     fn told(&mut self, worker: &mut Worker, what: What) -> Next;
     /// It has exited.
     fn ended(self: Box<Self>, worker: &mut Worker, why: Reason);
+    /// Whether it is a supervisor.
+    fn supervises(&self) -> bool;
 }
 
 pub(crate) struct Process<B: Behaviour> {
     behaviour: B,
     me: Address<B::Message>,
     calls: Calls,
+    /// The process that spawned it.
+    parent: Option<Pid>,
     /// What it waits for.
     next: Next,
 }
 
 impl<B: Behaviour> Process<B> {
-    pub(crate) fn new(behaviour: B, me: Address<B::Message>) -> Process<B> {
-        Process { behaviour, me, calls: Calls::new(), next: Next::Wait(Pick::Any) }
+    pub(crate) fn new(behaviour: B, me: Address<B::Message>, parent: Option<Pid>) -> Process<B> {
+        Process { behaviour, me, calls: Calls::new(), parent, next: Next::Wait(Pick::Any) }
     }
 
     /// What an item is to the handler, or `None` if it is nothing to it, such as an answer that comes too late.
@@ -86,7 +91,7 @@ impl<B: Behaviour> Actor for Process<B> {
                 None => return self.next,
             },
         };
-        let mut cx = Context { worker, me: &self.me, calls: &mut self.calls };
+        let mut cx = Context { worker, me: &self.me, calls: &mut self.calls, parent: self.parent };
         let next = match event {
             Some(event) => self.behaviour.handle(&mut cx, event),
             None => self.behaviour.started(&mut cx),
@@ -102,5 +107,9 @@ impl<B: Behaviour> Actor for Process<B> {
         }
         me.mailbox.close();
         quietly(|| behaviour.ended(why));
+    }
+
+    fn supervises(&self) -> bool {
+        is_supervisor::<B>()
     }
 }

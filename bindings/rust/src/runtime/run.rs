@@ -8,7 +8,7 @@ use super::hub::{END, Hub, KILL, STOP};
 use super::inbox::Task;
 use super::meeting::{Outcome, Stuck};
 use super::start::{Builder, Closing, Threads, is_inside};
-use super::worker::Worker;
+use super::worker::{Parent, Worker};
 use crate::{Fault, Pid, Reason};
 use std::error::Error;
 use std::fmt;
@@ -103,7 +103,8 @@ impl Runtime {
         self.finish()
     }
 
-    /// Tells all processes to exit, by an exit signal `shutdown`, waits for them for five seconds at most, and ends.
+    /// Tells all processes to exit, by an exit signal `shutdown`, waits for them for five seconds at most, and ends. The
+    /// children of a [`Supervisor`](super::Supervisor) are told by that, from the last to the first.
     ///
     /// # Errors
     ///
@@ -184,7 +185,7 @@ impl Handle {
         let place = self.0.places.get(desk).ok_or(SpawnFault::Table(Fault::BadDesks))?;
         let (give, get) = sync_channel(1);
         place.post(Task::Ask(Box::new(move |worker| {
-            let _ = give.send(worker.spawn(None, behaviour));
+            let _ = give.send(worker.spawn(Parent::Outside, behaviour));
         })));
         get.recv().map_err(|_| SpawnFault::Over)?.map_err(SpawnFault::Table)
     }

@@ -19,9 +19,27 @@ use std::sync::atomic::Ordering::SeqCst;
 const BUDGET: u32 = 256;
 const MOST: usize = 256;
 
+/// Who spawned a process.
+#[derive(Clone, Copy)]
+pub(crate) enum Parent {
+    Outside,
+    Process { pid: Pid, linked: bool },
+    Supervisor(Pid),
+}
+
+impl Parent {
+    fn pid(self) -> Option<Pid> {
+        match self {
+            Parent::Outside => None,
+            Parent::Process { pid, .. } | Parent::Supervisor(pid) => Some(pid),
+        }
+    }
+}
+
 /// A process of the desk. Its tag is its place among the seats.
 struct Seat {
     pid: Pid,
+    parent: Parent,
     /// The order that it was told.
     told: u8,
     /// Why it has exited, if its handler panicked. (the journal that says so may be gone as it is told)
@@ -169,10 +187,14 @@ impl Worker {
     fn tell(&mut self, Job { pid, tag, what }: Job) {
         let place = usize::try_from(tag).expect("the place of a seat");
         let mut actor = self.seats[place].as_mut().and_then(|seat| seat.actor.take()).expect("a process of this desk");
-        if let What::Exit(why, _) = what {
-            let crashed = self.seats[place].take().is_some_and(|seat| seat.crashed);
+        if let What::Exit(why, next) = what {
+            let seat = self.seats[place].take().expect("a process of this desk");
             self.free.push(place);
-            self.leave(pid, actor, if crashed { PANIC } else { why });
+            if actor.supervises() && !matches!(next, Next::Stop(_)) {
+                // (its children may live, and now nobody else tells them the order)
+                self.told = GO_ON;
+            }
+            self.leave(pid, actor, if seat.crashed { PANIC } else { why });
             return;
         }
         self.place().runs(Some(pid));
@@ -233,13 +255,18 @@ impl Worker {
         }
         let reason = if order == KILL { Reason::Kill } else { Reason::Shutdown };
         for place in 0..self.seats.len() {
-            if let Some(seat) = self.seats[place].as_mut().filter(|seat| seat.told < order) {
-                seat.told = order;
-                let pid = seat.pid;
+            let ends = |seat: &&Seat| seat.told < order && (order == KILL || !self.is_supervised(seat));
+            if let Some(pid) = self.seats[place].as_ref().filter(ends).map(|seat| seat.pid) {
                 self.signal(pid, reason);
+                self.seats[place].as_mut().expect("this seat").told = order;
             }
         }
         self.told = order;
+    }
+
+    /// Whether a supervisor lives that ends this process.
+    fn is_supervised(&self, seat: &Seat) -> bool {
+        matches!(seat.parent, Parent::Supervisor(pid) if self.place().slot(pid).is_some())
     }
 
     /// Sends a message in the name of a process of this desk. It returns `false` if the desk refuses that.
@@ -268,29 +295,27 @@ impl Worker {
         answer
     }
 
-    /// Spawns a process, perhaps as a child of one of this desk, perhaps linked with it.
-    pub(crate) fn spawn<B: Behaviour>(
-        &mut self,
-        parent: Option<(Pid, bool)>,
-        behaviour: B,
-    ) -> Result<Address<B::Message>, Fault> {
+    /// Spawns a process, perhaps as a child of one of this desk.
+    pub(crate) fn spawn<B: Behaviour>(&mut self, parent: Parent, behaviour: B) -> Result<Address<B::Message>, Fault> {
         let place = self.free.last().copied().unwrap_or(self.seats.len());
         let desk = self.desk.as_mut().expect("a desk, outside of a meeting");
         let spawned = match parent {
-            Some((parent, linked)) => self.crew.spawn_child(desk, parent, linked, place as u64, Next::Proceed),
-            None => self.crew.spawn(desk, place as u64, Next::Proceed),
+            Parent::Outside => self.crew.spawn(desk, place as u64, Next::Proceed),
+            Parent::Process { pid, linked } => self.crew.spawn_child(desk, pid, linked, place as u64, Next::Proceed),
+            Parent::Supervisor(pid) => self.crew.spawn_child(desk, pid, true, place as u64, Next::Proceed),
         };
         let pid = self.noted(spawned)?;
         let address = Address::new(pid, std::any::type_name::<B>(), &self.hub);
         self.place().admit(address.mailbox.clone());
         self.hub.alive.fetch_add(1, SeqCst);
         self.hub.spawned.fetch_add(1, SeqCst);
-        self.seat(place, pid, Box::new(Process::new(behaviour, address.clone())));
+        let process = Process::new(behaviour, address.clone(), parent.pid());
+        self.seat(place, pid, parent, Box::new(process));
         Ok(address)
     }
 
-    fn seat(&mut self, place: usize, pid: Pid, actor: Box<dyn Actor>) {
-        let seat = Seat { pid, told: GO_ON, crashed: false, actor: Some(actor) };
+    fn seat(&mut self, place: usize, pid: Pid, parent: Parent, actor: Box<dyn Actor>) {
+        let seat = Seat { pid, parent, told: GO_ON, crashed: false, actor: Some(actor) };
         match self.free.pop() {
             Some(_) => self.seats[place] = Some(seat),
             None => self.seats.push(Some(seat)),
@@ -359,7 +384,7 @@ impl Worker {
 }
 
 /// What a panic says.
-fn text_of(what: &(dyn Any + Send)) -> &str {
+pub(crate) fn text_of(what: &(dyn Any + Send)) -> &str {
     let text = what.downcast_ref::<&str>().copied();
     text.or_else(|| what.downcast_ref::<String>().map(String::as_str)).unwrap_or("a panic without a text")
 }

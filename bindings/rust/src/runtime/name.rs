@@ -1,0 +1,88 @@
+//! Names of processes that are started again.
+
+use super::address::Address;
+use super::inbox::locked;
+use std::fmt;
+use std::sync::{Arc, Mutex};
+
+/// A name for a child of a supervisor, which leads to the child that runs now: a registered name of Erlang, with the type
+/// of the messages.
+///
+/// A child that is started again is another process, with another address. Its name stays: the supervisor gives it to
+/// each process that it starts with it ([`Child::named`](super::Child::named)). A name may be cloned and go to any
+/// thread. It keeps no process alive, and is a name for one child: of two with the same name it is that of the last one.
+///
+/// Two names are equal if one is a clone of the other.
+pub struct Name<M>(Arc<Named<M>>);
+
+struct Named<M> {
+    text: String,
+    process: Mutex<Option<Address<M>>>,
+}
+
+impl<M: Send + 'static> Name<M> {
+    /// A name that no process has. The text is for those who read the list of children.
+    #[must_use]
+    pub fn new(text: impl Into<String>) -> Name<M> {
+        Name(Arc::new(Named { text: text.into(), process: Mutex::new(None) }))
+    }
+
+    /// Its text.
+    #[must_use]
+    pub fn text(&self) -> &str {
+        &self.0.text
+    }
+
+    /// The process that has the name: Erlang's `whereis`. `None` if it has exited, and its successor is not there yet.
+    #[must_use]
+    pub fn whereis(&self) -> Option<Address<M>> {
+        let found = locked(&self.0.process).clone();
+        found.filter(|address| address.mailbox.is_open())
+    }
+
+    /// Sends the process that has the name a message from outside, from any thread, as [`Address::send`]. It returns
+    /// `false`, and the message is dropped, if no process has the name.
+    pub fn send(&self, message: M) -> bool {
+        self.whereis().is_some_and(|address| address.send(message))
+    }
+
+    /// Gives a process the name.
+    pub(crate) fn give(&self, to: Address<M>) {
+        let before = locked(&self.0.process).replace(to);
+        drop(before);
+    }
+
+    /// Takes the name from this process, if it has it.
+    pub(crate) fn take(&self, from: &Address<M>) {
+        let mut process = locked(&self.0.process);
+        let taken = if process.as_ref() == Some(from) { process.take() } else { None };
+        drop(process);
+        drop(taken);
+    }
+}
+
+impl<M> Clone for Name<M> {
+    fn clone(&self) -> Name<M> {
+        Name(self.0.clone())
+    }
+}
+
+impl<M> PartialEq for Name<M> {
+    fn eq(&self, other: &Name<M>) -> bool {
+        Arc::ptr_eq(&self.0, &other.0)
+    }
+}
+
+impl<M> Eq for Name<M> {}
+
+impl<M> fmt::Debug for Name<M> {
+    fn fmt(&self, f: &mut fmt::Formatter<'_>) -> fmt::Result {
+        write!(f, "Name({:?})", self.0.text)
+    }
+}
+
+impl<M> fmt::Display for Name<M> {
+    fn fmt(&self, f: &mut fmt::Formatter<'_>) -> fmt::Result {
+        f.write_str(&self.0.text)
+    }
+}
