@@ -190,6 +190,11 @@ timeout 120 "$chat/chat_load" "$chat/chat" "$work/chat.history" 40 10 3 10
 "$here/../bin/pt_audit" "$work/chat.history"
 echo "rust: the chat server passed"
 
+# The telephone exchange: lines crash in calls and are started again, each partner hears of it, and its history is legal
+timeout 120 "$chat/exchange" "$work/exchange.history" 200 2>"$work/panics" || { tail -n 20 "$work/panics"; exit 1; }
+"$here/../bin/pt_audit" "$work/exchange.history"
+echo "rust: the telephone exchange passed"
+
 # Python: tests beside the sources, and the package as pip installs it, without a network
 (
     cd "$here/python"

@@ -92,7 +92,14 @@ fn connect(mut stream: TcpStream, member: Address<ToMember>, texts: mpsc::Receiv
         member.send(ToMember::Closed)
     });
     std::thread::spawn(move || {
-        while texts.recv().is_ok_and(|text| stream.write_all(format!("{text}\n").as_bytes()).is_ok()) {}
+        while let Ok(text) = texts.recv() {
+            // (what waits as well is written by the same call of the system)
+            let mut lines = format!("{text}\n");
+            texts.try_iter().for_each(|text| lines.extend([&*text, "\n"]));
+            if stream.write_all(lines.as_bytes()).is_err() {
+                break;
+            }
+        }
         stream.shutdown(Shutdown::Both)
     });
     Ok(())

@@ -1,5 +1,6 @@
 //! The load of the chat: it starts the server, lets connections say numbered lines, of which some crash their processes
-//! once a second and come again, and looks that nothing is lost and nothing comes out of order.
+//! once a second and come again, and looks that nothing is lost and nothing comes out of order. It looks at the server's
+//! time while all are idle, and at its memory after half of the time and at the end. The last line is its verdict.
 //!
 //!     cargo build --release --examples
 //!     chat_load SERVER HISTORY CONNECTIONS RATE SECONDS CRASHES
@@ -253,9 +254,7 @@ impl Load {
         let crashes: u64 = self.tally.crashes.lock().expect("a tally").values().sum();
         let said: u64 = self.tally.said.lock().expect("a tally").values().map(|said| said.1).sum();
         let (heard, slowest) = (self.tally.heard.load(SeqCst), self.tally.slowest.load(SeqCst));
-        println!(
-            "said {said} heard {heard} crashes {crashes} slowest {slowest} us; nothing lost, nothing out of order"
-        );
+        println!("said {said} heard {heard} crashes {crashes} slowest {slowest} us");
         crashes
     }
 }
@@ -273,10 +272,9 @@ fn main() -> Result<(), Fault> {
     let mut summary = String::new();
     lines.read_line(&mut summary)?;
     let crashes = load.report();
-    println!(
-        "idle {idle} ticks in {} s; memory {early} kB after half of the time, {late} kB at the end",
-        IDLE.as_secs()
-    );
+    // (a tick is a hundredth of a second)
+    let share = idle as f64 / IDLE.as_secs_f64();
+    println!("idle {share} % of a core; memory {early} kB after half of the time, {late} kB at the end");
     println!("{}", summary.trim());
     if !child.wait()?.success() || !summary.contains(&format!("panics: {crashes} ")) {
         return Err("the server did not end well, or counts other crashes".into());
@@ -288,5 +286,7 @@ fn main() -> Result<(), Fault> {
     if load.time >= LONG && late > early + early / 4 {
         return Err("the memory of the server grows".into());
     }
+    let memory = if load.time >= LONG { "its memory is flat" } else { "the run is too short to judge its memory" };
+    println!("passed: nothing lost, nothing out of order, each crash one DOWN; idle it rests, and {memory}");
     Ok(())
 }

@@ -160,6 +160,42 @@ fn a_panic_is_a_crash_that_watchers_see() -> Result<(), Error> {
     Ok(())
 }
 
+/// A thread that has gone on crashes a process, whose watcher is on a desk that has not gone on yet.
+#[test]
+fn each_crash_is_heard_with_its_text_while_the_node_goes_on() -> Result<(), Error> {
+    let runtime = Runtime::builder().desks(4).going_on_every(10).start()?;
+    let (give, told) = channel();
+    for number in 0..2_000_u16 {
+        let desk = (number % 4) as u8;
+        let target = runtime.spawn_on(
+            desk,
+            acts(|_, event| match event {
+                Some(Event::Message(text)) => std::panic::panic_any::<&str>(text),
+                _ => Next::Wait,
+            }),
+        )?;
+        let give = give.clone();
+        let watches = acts::<(), _>(move |cx, event| match event {
+            None => {
+                cx.monitor(&target).expect("a monitor");
+                cx.send(&target, "quiet");
+                Next::Wait
+            }
+            Some(Event::Down(down)) => {
+                give.send((down.reason, down.panic.as_deref().map(str::to_owned))).expect("a test");
+                Next::DONE
+            }
+            Some(other) => panic!("{other:?}"),
+        });
+        runtime.spawn_on((desk + 1) % 4, watches)?;
+    }
+    for _ in 0..2_000 {
+        assert_eq!(got(&told), (PANIC, Some("quiet".into())));
+    }
+    assert!(runtime.stop()?.epochs > 100);
+    Ok(())
+}
+
 /// A process that exits by itself tells its reason, and no text.
 #[test]
 fn an_exit_without_a_panic_has_no_text() -> Result<(), Error> {

@@ -24,6 +24,7 @@ fn errors_go_to_other_threads() {
     goes::<runtime::SpawnFault>();
     goes::<runtime::StopFault>();
     goes::<runtime::CallFault>();
+    goes::<runtime::ChildFault>();
 }
 
 #[test]
@@ -41,6 +42,17 @@ fn types_go_to_other_threads_and_are_printed() {
     goes::<runtime::Call<u8>>();
     goes::<runtime::Timer>();
     goes::<runtime::Halted>();
+    goes::<runtime::Name<Vec<u8>>>();
+    goes::<runtime::ChildInfo>();
+    goes::<runtime::Started<Vec<u8>>>();
+}
+
+#[test]
+fn what_holds_closures_goes_to_one_thread_at_a_time() {
+    fn moves<T: Debug + Send + 'static>() {}
+    moves::<runtime::Supervisor>();
+    moves::<runtime::Child<Vec<u8>>>();
+    moves::<runtime::ToSupervisor>();
 }
 
 #[test]
@@ -61,6 +73,8 @@ fn values_are_keys() {
     key::<Next>();
     key::<Job>();
     key::<NotTaken>();
+    key::<runtime::Restart>();
+    key::<runtime::Shutdown>();
     in_order::<Pid>();
     in_order::<Ref>();
     in_order::<LinkId>();

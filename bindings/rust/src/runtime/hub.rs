@@ -120,6 +120,11 @@ impl Hub {
         }
     }
 
+    /// How many epochs have ended. While a handler runs, none ends.
+    pub(crate) fn epochs(&self) -> u64 {
+        self.meeting.book.epochs.load(SeqCst)
+    }
+
     /// Whether the run is over: it is to end, and no process is left.
     pub(crate) fn is_over(&self) -> bool {
         self.order() >= END && self.alive.load(SeqCst) == 0

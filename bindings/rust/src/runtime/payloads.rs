@@ -32,7 +32,8 @@ struct Kept<M> {
     last: i64,
     messages: HashMap<i64, M>,
     answers: HashMap<i64, Given>,
-    panics: HashMap<News, Arc<str>>,
+    /// The texts of panics, each with the epoch in which it was put.
+    panics: HashMap<News, (u64, Arc<str>)>,
 }
 
 /// A mailbox, whatever its messages are.
@@ -42,10 +43,10 @@ pub(crate) trait Slot: Send + Sync {
     fn name(&self) -> &'static str;
     /// Puts the answer of a call. It returns `false`, and the answer is dropped, if the process has exited.
     fn put_answer(&self, call: i64, given: Given) -> bool;
-    /// Puts the text of a panic beside the news of it.
-    fn put_panic(&self, news: News, text: Arc<str>);
-    /// Drops the texts beside all other news than these.
-    fn keep_panics(&self, of: &dyn Fn(&News) -> bool);
+    /// Puts the text of a panic in this epoch beside the news of it.
+    fn put_panic(&self, news: News, text: Arc<str>, epoch: u64);
+    /// Drops the texts that were put before this epoch, beside all other news than these.
+    fn keep_panics(&self, epoch: u64, of: &dyn Fn(&News) -> bool);
     /// Drops all that is kept, since the process has exited.
     fn close(&self);
 }
@@ -87,7 +88,7 @@ impl<M> Mailbox<M> {
     }
 
     pub(crate) fn take_panic(&self, news: News) -> Option<Arc<str>> {
-        self.lock().as_mut()?.panics.remove(&news)
+        self.lock().as_mut()?.panics.remove(&news).map(|(_, text)| text)
     }
 }
 
@@ -111,15 +112,15 @@ impl<M: Send> Slot for Mailbox<M> {
         back.is_none()
     }
 
-    fn put_panic(&self, news: News, text: Arc<str>) {
+    fn put_panic(&self, news: News, text: Arc<str>, epoch: u64) {
         if let Some(kept) = &mut *self.lock() {
-            kept.panics.insert(news, text);
+            kept.panics.insert(news, (epoch, text));
         }
     }
 
-    fn keep_panics(&self, of: &dyn Fn(&News) -> bool) {
+    fn keep_panics(&self, epoch: u64, of: &dyn Fn(&News) -> bool) {
         if let Some(kept) = &mut *self.lock() {
-            kept.panics.retain(|news, _| of(news));
+            kept.panics.retain(|news, (put, _)| *put >= epoch || of(news));
         }
     }
 

@@ -14,7 +14,6 @@ use std::error::Error;
 use std::fmt;
 use std::ops::Deref;
 use std::sync::Arc;
-use std::sync::atomic::Ordering::SeqCst;
 use std::sync::mpsc::{RecvTimeoutError, sync_channel};
 use std::time::Duration;
 
@@ -223,7 +222,7 @@ impl Handle {
     /// How many epochs have ended.
     #[must_use]
     pub fn epochs(&self) -> u64 {
-        self.0.meeting.book.epochs.load(SeqCst)
+        self.0.epochs()
     }
 
     /// Whether the run is over: it halted, or all processes have exited after a call to wait for that.

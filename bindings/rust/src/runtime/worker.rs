@@ -228,17 +228,17 @@ impl Worker {
         if let Some(seat) = &mut self.seats[place] {
             seat.crashed = true;
         }
-        let text: Arc<str> = text_of(&*what).into();
+        let (text, epoch): (Arc<str>, u64) = (text_of(&*what).into(), self.hub.epochs());
         quietly(|| drop(what));
         let desk = self.desk.as_mut().expect("a desk, outside of a meeting");
         for (monitor, owner) in desk.watchers(pid).into_iter().flatten() {
             if let Some(slot) = self.hub.slot(owner) {
-                slot.put_panic(News::Down(monitor), text.clone());
+                slot.put_panic(News::Down(monitor), text.clone(), epoch);
             }
         }
         for (peer, _) in desk.links(pid).into_iter().flatten() {
             if let Some(slot) = self.hub.slot(peer) {
-                slot.put_panic(News::Exit(pid), text.clone());
+                slot.put_panic(News::Exit(pid), text.clone(), epoch);
             }
         }
         let exited = desk.exit(pid, PANIC);
@@ -362,10 +362,12 @@ impl Worker {
     fn begin_again(&mut self, desk: Desk) {
         let again = self.crew.begin_again(&desk);
         let _ = self.noted(again);
-        // in settling all news came: a text beside news that does not wait is beside none
+        // in settling all news came: a text beside news that does not wait is beside none, unless a thread that was faster
+        // has put it since
+        let epoch = self.hub.epochs();
         for slot in self.place().slots() {
             let waiting: Vec<News> = desk.waiting(slot.pid()).into_iter().flatten().filter_map(news_of).collect();
-            slot.keep_panics(&|news| waiting.contains(news));
+            slot.keep_panics(epoch, &|news| waiting.contains(news));
         }
         self.desk = Some(desk);
     }
