@@ -200,14 +200,7 @@ fn got<T>(from: &Receiver<T>) -> T {
 
 /// The process that has the name, once there is one.
 fn awaited<M: Send + 'static>(name: &Name<M>) -> Address<M> {
-    let until = Instant::now() + LONG;
-    loop {
-        if let Some(address) = name.whereis() {
-            return address;
-        }
-        assert!(Instant::now() < until, "nobody has the name {name}");
-        std::thread::yield_now();
-    }
+    name.wait(LONG).expect("a process with this name")
 }
 
 #[test]
@@ -232,7 +225,7 @@ fn one_for_one_starts_that_child_again() {
     }
     assert_eq!(b.whereis().map(|address| address.pid()), after[1].pid);
     scene.stop();
-    assert_eq!(b.whereis(), None);
+    assert_eq!((b.whereis(), b.wait(Duration::from_millis(5))), (None, None));
     assert!(!b.send(Do::Crash));
 }
 

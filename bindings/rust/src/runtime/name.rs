@@ -3,7 +3,8 @@
 use super::address::Address;
 use super::inbox::locked;
 use std::fmt;
-use std::sync::{Arc, Mutex};
+use std::sync::{Arc, Condvar, Mutex, PoisonError};
+use std::time::Duration;
 
 /// A name for a child of a supervisor, which leads to the child that runs now: a registered name of Erlang, with the type
 /// of the messages.
@@ -18,13 +19,14 @@ pub struct Name<M>(Arc<Named<M>>);
 struct Named<M> {
     text: String,
     process: Mutex<Option<Address<M>>>,
+    given: Condvar,
 }
 
 impl<M: Send + 'static> Name<M> {
     /// A name that no process has. The text is for those who read the list of children.
     #[must_use]
     pub fn new(text: impl Into<String>) -> Name<M> {
-        Name(Arc::new(Named { text: text.into(), process: Mutex::new(None) }))
+        Name(Arc::new(Named { text: text.into(), process: Mutex::new(None), given: Condvar::new() }))
     }
 
     /// Its text.
@@ -40,6 +42,16 @@ impl<M: Send + 'static> Name<M> {
         found.filter(|address| address.mailbox.is_open())
     }
 
+    /// The same, but it waits until a process has the name, for so long at most. A behaviour should not: it would hold up
+    /// its desk, and with it perhaps the supervisor.
+    #[must_use]
+    pub fn wait(&self, limit: Duration) -> Option<Address<M>> {
+        let vacant = |process: &mut Option<Address<M>>| !process.as_ref().is_some_and(|it| it.mailbox.is_open());
+        let waited = self.0.given.wait_timeout_while(locked(&self.0.process), limit, vacant);
+        let found = waited.unwrap_or_else(PoisonError::into_inner).0.clone();
+        found.filter(|address| address.mailbox.is_open())
+    }
+
     /// Sends the process that has the name a message from outside, from any thread, as [`Address::send`]. It returns
     /// `false`, and the message is dropped, if no process has the name.
     pub fn send(&self, message: M) -> bool {
@@ -49,6 +61,7 @@ impl<M: Send + 'static> Name<M> {
     /// Gives a process the name.
     pub(crate) fn give(&self, to: Address<M>) {
         let before = locked(&self.0.process).replace(to);
+        self.0.given.notify_all();
         drop(before);
     }
 

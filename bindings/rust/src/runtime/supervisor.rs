@@ -52,13 +52,13 @@ enum Strategy {
 ///     .permanent(|| Line(12));
 /// let lines = runtime.spawn(lines)?;
 /// let limit = Duration::from_secs(5);
-/// let before = runtime.call(&lines, limit, ToSupervisor::which_children)?;
-/// assert!(before.len() == 2 && before.iter().all(|child| child.is_alive()));
-/// line.send("noise");
-/// // another process has the name soon
-/// while line.whereis().is_none_or(|address| Some(address.pid()) == before[0].pid) {
-///     std::thread::yield_now();
-/// }
+/// let first = line.wait(limit).expect("a process with this name");
+/// first.send("noise");
+/// // soon another process has the name
+/// while line.wait(limit).expect("its successor") == first {}
+/// let list = runtime.call(&lines, limit, ToSupervisor::which_children)?;
+/// assert!(list.iter().all(|child| child.is_alive()));
+/// assert_eq!((list.len(), list[0].started), (2, 2));
 /// runtime.stop()?;
 /// # Ok::<(), Box<dyn std::error::Error>>(())
 /// ```
