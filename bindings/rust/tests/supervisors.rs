@@ -556,6 +556,118 @@ fn a_restart_that_fails_is_tried_again_and_counts() {
     }
 }
 
+/// It neither gives up nor gets a child. It answers, and it can be told to exit.
+#[test]
+fn a_supervisor_that_tries_for_ever_is_still_there() {
+    let scene = Scene::new();
+    let f = Name::new("f");
+    let supervisor = Supervisor::one_for_one()
+        .limit(1_000, Duration::ZERO)
+        .permanent(scene.worker("a"))
+        .child(Child::permanent(failing(&scene, "f", |count| count > 1)).named(&f));
+    let supervisor = scene.spawn(supervisor);
+    scene.hears(&["+a", "+f"]);
+    awaited(&f).send(Do::Crash);
+    scene.hears(&["-f crash"]);
+    for _ in 0..20 {
+        assert_eq!(scene.children(&supervisor)[1].started, 1);
+    }
+    assert_eq!(scene.runtime.call(&supervisor, LONG, ToSupervisor::terminate_child(0)), Ok(Ok(())));
+    scene.hears(&["-a shutdown"]);
+    let alive: Vec<_> = scene.children(&supervisor).iter().map(ChildInfo::is_alive).collect();
+    assert_eq!(alive, [false; 2]);
+    scene.stop();
+}
+
+/// While a supervisor tries to start a child again, somebody starts that child, terminates it, or has it forgotten.
+#[test]
+fn a_child_that_is_tried_again_may_be_asked_for_meanwhile() -> Result<(), Error> {
+    let scene = Scene::new();
+    let (ask, made) = (scene.runtime.handle(), Arc::new(AtomicU64::new(0)));
+    let (count, mut make, f) = (made.clone(), scene.worker("f"), Name::new("f"));
+    let child = Child::permanent(move || {
+        // (every second one is made)
+        assert!(count.fetch_add(1, SeqCst) % 2 == 0, "a closure panics");
+        make()
+    });
+    let supervisor = Supervisor::one_for_all().limit(1, LONG).permanent(scene.worker("a")).child(child.named(&f));
+    let supervisor = scene.spawn(supervisor);
+    scene.hears(&["+a", "+f"]);
+    for place in [1, 1] {
+        ask.call(&supervisor, LONG, ToSupervisor::terminate_child(place))??;
+    }
+    scene.hears(&["-f shutdown"]);
+    let fault = ask.call(&supervisor, LONG, ToSupervisor::restart_child(1))?;
+    assert_eq!(fault, Err(ChildFault::Panicked("a closure panics".into())));
+    let pid = ask.call(&supervisor, LONG, ToSupervisor::restart_child(1))??;
+    assert_eq!((made.load(SeqCst), f.whereis().map(|address| address.pid())), (3, Some(pid)));
+    scene.hears(&["+f"]);
+    assert!(scene.pids(&supervisor).iter().all(Option::is_some));
+    scene.stop();
+    Ok(())
+}
+
+/// A storm of requests on a child that is tried again for ever.
+#[test]
+fn requests_end_the_tries_for_a_child() -> Result<(), Error> {
+    let scene = Scene::new();
+    let (ask, f) = (scene.runtime.handle(), Name::new("f"));
+    let child = Child::permanent(failing(&scene, "f", |count| count > 1 && count % 50 != 0)).named(&f);
+    let supervisor = Supervisor::one_for_one().limit(1_000, Duration::ZERO).child(child).permanent(scene.worker("a"));
+    let supervisor = scene.spawn(supervisor);
+    scene.hears(&["+f", "+a"]);
+    for _ in 0..20 {
+        awaited(&f).send(Do::Crash);
+        scene.hears(&["-f crash"]);
+        loop {
+            match ask.call(&supervisor, LONG, ToSupervisor::restart_child(0))? {
+                Ok(_) | Err(ChildFault::Running) => break,
+                Err(fault) => assert_eq!(fault, ChildFault::Panicked("a closure panics".into())),
+            }
+        }
+        scene.hears(&["+f"]);
+    }
+    awaited(&f).send(Do::Crash);
+    scene.hears(&["-f crash"]);
+    ask.call(&supervisor, LONG, ToSupervisor::terminate_child(0))??;
+    let before = scene.children(&supervisor);
+    std::thread::sleep(Duration::from_millis(20));
+    assert!(!before[0].is_alive() && scene.children(&supervisor) == before);
+    ask.call(&supervisor, LONG, ToSupervisor::delete_child(0))??;
+    assert_eq!(scene.children(&supervisor), before[1..]);
+    scene.runtime.stop()?;
+    Ok(())
+}
+
+#[test]
+fn a_child_that_crashes_as_it_begins_counts_as_one_that_has_exited() {
+    for supervisor in [Supervisor::one_for_one as fn() -> Supervisor, Supervisor::one_for_all, Supervisor::rest_for_one]
+    {
+        let scene = Scene::new();
+        let supervisor = scene.spawn(supervisor().limit(2, LONG).permanent(scene.worker("a")).permanent(|| Crashes));
+        while scene.runtime.call(&supervisor, LONG, ToSupervisor::which_children).is_ok() {}
+        assert_eq!(scene.runtime.stop().expect("all exit").panics, 3);
+        drop(scene.give);
+        let (starts, ends): (Vec<_>, Vec<_>) = scene.notes.iter().partition(|note| note.starts_with('+'));
+        assert!(starts.len() == ends.len() && ends.iter().all(|note| note == "-a shutdown"), "{starts:?} {ends:?}");
+    }
+}
+
+/// Crashes as it begins.
+struct Crashes;
+
+impl Behaviour for Crashes {
+    type Message = ();
+
+    fn started(&mut self, _: &mut Context<'_, ()>) -> Next {
+        panic!("a worker crashes as it begins")
+    }
+
+    fn handle(&mut self, _: &mut Context<'_, ()>, _: Event<()>) -> Next {
+        Next::Wait
+    }
+}
+
 /// All are ended again that were started before the one that was not made.
 #[test]
 fn a_restart_of_all_that_fails_is_one_of_all_again() {

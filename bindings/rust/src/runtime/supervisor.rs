@@ -81,7 +81,7 @@ enum Strategy {
 ///
 /// A start fails if the closure that makes the child panics, or no slot of the desk is free:
 /// - **As the supervisor begins**: it ends those that it has started, and exits with `shutdown`.
-/// - **As a child is started again**: it is tried again at once, after the others of the desk have had their turn. Each try
+/// - **As a child is started again**: it is tried again at once, after what has come to the supervisor meanwhile. Each try
 ///   counts for the limit, as if the child had exited.
 /// - **At the request of [`ToSupervisor::start_child`]** or `restart_child`: the one who asked is told, and it is not tried
 ///   again.
@@ -163,7 +163,7 @@ impl Supervisor {
     }
 
     /// How many restarts it makes at most in a time: Erlang's `intensity` and `period`. Without this 3 in five seconds. A
-    /// restart counts while less than this time has gone by since.
+    /// restart counts while less than this time has gone by since, so with a time of zero none counts.
     #[must_use]
     pub fn limit(mut self, most: usize, within: Duration) -> Supervisor {
         self.limit = Limit::new(most, within);
@@ -269,7 +269,10 @@ impl Supervisor {
                     self.leaving.insert(place);
                     self.asked = Some(reply);
                 }
-                answer => cx.reply(reply, answer),
+                answer => {
+                    self.missing.remove(&place);
+                    cx.reply(reply, answer);
+                }
             },
             Request::Restart(place, reply) => {
                 let answer = self.is_idle(place).and_then(|()| self.start_asked(cx, place));
@@ -305,9 +308,11 @@ impl Supervisor {
         if let Some(reply) = self.asked.take() {
             cx.reply(reply, Ok(()));
         }
-        match self.stopping {
-            Some(reason) => Next::Stop(reason),
-            None => self.start_missing(cx),
+        match (self.stopping, self.failed) {
+            (Some(reason), _) => Next::Stop(reason),
+            // (it is told at once that this time is over, unless something else has come)
+            (None, Some(_)) => Next::WaitFor(Duration::ZERO),
+            (None, None) => self.start_missing(cx),
         }
     }
 
@@ -337,12 +342,12 @@ impl Supervisor {
                 Ok(_) => _ = self.missing.remove(&place),
                 // (the run halts, and then it is tried again)
                 Err(ChildFault::Table(Fault::Memory | Fault::Worn)) => return Next::Proceed,
-                Err(_) if self.begun => {
-                    self.failed = Some(place);
-                    return Next::Proceed;
-                }
                 Err(_) => {
-                    self.stop(Reason::Shutdown);
+                    if self.begun {
+                        self.failed = Some(place);
+                    } else {
+                        self.stop(Reason::Shutdown);
+                    }
                     return self.advance(cx);
                 }
             }
@@ -354,6 +359,9 @@ impl Supervisor {
     /// Starts a child at request. If there was no memory to watch it, it is watched as the run goes on.
     fn start_asked(&mut self, cx: &mut Context<'_, ToSupervisor>, place: u64) -> Result<Pid, ChildFault> {
         let started = self.start(cx, place);
+        if started.is_ok() {
+            self.missing.remove(&place);
+        }
         match self.children.get(&place).and_then(Listed::pid) {
             Some(pid) if started.is_err() => {
                 self.missing.insert(place);
@@ -388,8 +396,9 @@ impl Behaviour for Supervisor {
             Event::Message(ToSupervisor(request)) => self.serve(cx, request),
             Event::Down(down) => self.lose(cx, &down),
             Event::Exit(exit) if cx.is_of_parent(exit.pid) => self.stop(exit.reason),
-            Event::Proceed => {
-                if let Some(place) = self.failed.take() {
+            Event::Timeout if self.leaving.is_empty() => {
+                // (unless somebody has asked for something else meanwhile)
+                if let Some(place) = self.failed.take().filter(|place| self.missing.contains(place)) {
                     self.restart(cx, place);
                 }
             }
