@@ -693,7 +693,7 @@ fn children_are_added_ended_and_forgotten_at_request() -> Result<(), Error> {
     assert_eq!(started.place, 0);
     started.address.send(Do::Crash);
     scene.hears(&["+a", "-a crash", "+a"]);
-    let started = ask.call(&supervisor, LONG, ToSupervisor::start_child(Child::temporary(scene.worker("t"))))??;
+    let started = ask.call(&supervisor, LONG, ToSupervisor::start_child(Child::once(scene.worker("t")())))??;
     assert_eq!((started.place, scene.pids(&supervisor)[1]), (1, Some(started.address.pid())));
     scene.hears(&["+t"]);
     assert_eq!(ask.call(&supervisor, LONG, ToSupervisor::restart_child(0))?, Err(ChildFault::Running));
@@ -838,6 +838,26 @@ fn a_child_that_would_not_end_is_named_and_not_its_supervisor() {
     let fault = scene.runtime.stop_within(Duration::from_millis(200)).expect_err("a process that stays");
     let StopFault::WouldNotEnd { behaviour, summary: Some(summary), .. } = fault else { panic!("{fault}") };
     assert!(behaviour.ends_with("::Worker") && summary.spawned == 3, "{behaviour}");
+}
+
+/// If its supervisor is killed as the run stops, the run itself tells the child.
+#[test]
+fn a_child_whose_supervisor_is_killed_as_the_run_stops_is_told_by_the_run() {
+    let scene = Scene::new();
+    let child = Child::permanent(scene.make("s", Manner::Stays)).shutdown(Shutdown::Infinity);
+    let supervisor = scene.spawn(Supervisor::one_for_one().child(child));
+    scene.hears(&["+s"]);
+    let (handle, Scene { runtime, notes, give }) = (scene.runtime.handle(), scene);
+    let kills = std::thread::spawn(move || {
+        let first = got(&notes);
+        handle.exit(&supervisor, Reason::Kill);
+        let others = [got(&notes), got(&notes)];
+        (first, others)
+    });
+    runtime.stop_within(Duration::from_millis(500)).expect_err("a process that stays");
+    drop(give);
+    let (first, others) = kills.join().expect("three notes");
+    assert_eq!((&*first, others), ("?s shutdown", ["?s killed".to_owned(), "?s shutdown".to_owned()]));
 }
 
 /// A child with values that count themselves, which crashes at every so many messages.

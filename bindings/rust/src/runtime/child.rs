@@ -171,6 +171,12 @@ impl<M: Send + 'static> Child<M> {
         Child::new(Restart::Temporary, make)
     }
 
+    /// A temporary child whose behaviour is there already, as that of a connection.
+    pub fn once<B: Behaviour<Message = M>>(behaviour: B) -> Child<M> {
+        let mut behaviour = Some(behaviour);
+        Child::temporary(move || behaviour.take().expect("a child that was made before"))
+    }
+
     fn new<B: Behaviour<Message = M>>(restart: Restart, mut make: impl FnMut() -> B + Send + 'static) -> Child<M> {
         Child {
             make: Box::new(move |cx| cx.spawn_supervised(make())),
