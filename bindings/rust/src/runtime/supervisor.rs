@@ -127,19 +127,19 @@ impl fmt::Debug for Supervisor {
 }
 
 impl Supervisor {
-    /// A supervisor without a child, which starts one child again by itself.
+    /// A supervisor without a child, which starts a child that has exited again, and no other.
     #[must_use]
     pub fn one_for_one() -> Supervisor {
         Supervisor::new(Strategy::OneForOne)
     }
 
-    /// A supervisor without a child, which starts all children again with one.
+    /// A supervisor without a child, which starts all children again if one has exited.
     #[must_use]
     pub fn one_for_all() -> Supervisor {
         Supervisor::new(Strategy::OneForAll)
     }
 
-    /// A supervisor without a child, which starts those again with a child that were added after it.
+    /// A supervisor without a child, which starts a child that has exited again, and those that were added after it.
     #[must_use]
     pub fn rest_for_one() -> Supervisor {
         Supervisor::new(Strategy::RestForOne)
@@ -264,16 +264,16 @@ impl Supervisor {
                     self.forget(place);
                 }
             }
-            Request::Terminate(place, reply) => match self.is_idle(place) {
-                Err(ChildFault::Running) => {
-                    self.leaving.insert(place);
-                    self.asked = Some(reply);
+            Request::Terminate(place, reply) => {
+                self.missing.remove(&place);
+                match self.is_idle(place) {
+                    Err(ChildFault::Running) => {
+                        self.leaving.insert(place);
+                        self.asked = Some(reply);
+                    }
+                    answer => cx.reply(reply, answer),
                 }
-                answer => {
-                    self.missing.remove(&place);
-                    cx.reply(reply, answer);
-                }
-            },
+            }
             Request::Restart(place, reply) => {
                 let answer = self.is_idle(place).and_then(|()| self.start_asked(cx, place));
                 cx.reply(reply, answer);
