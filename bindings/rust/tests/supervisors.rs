@@ -229,6 +229,22 @@ fn one_for_one_starts_that_child_again() {
     assert!(!b.send(Do::Crash));
 }
 
+/// The one who waits finds the process that is there or the next one, however often it exits meanwhile.
+#[test]
+fn a_name_is_waited_for_while_its_process_crashes() {
+    let scene = Scene::new();
+    let a = Name::new("a");
+    let child = Child::permanent(scene.worker("a")).named(&a);
+    scene.spawn(Supervisor::one_for_one().limit(usize::MAX, LONG).child(child));
+    for _ in 0..500 {
+        let process = awaited(&a);
+        process.send(Do::Crash);
+        while awaited(&a) == process {}
+    }
+    drop(scene.give);
+    assert!(scene.runtime.stop().expect("all exit").panics >= 500);
+}
+
 #[test]
 fn one_for_all_starts_all_again() {
     let scene = Scene::new();

@@ -48,8 +48,9 @@ impl<M: Send + 'static> Name<M> {
     pub fn wait(&self, limit: Duration) -> Option<Address<M>> {
         let vacant = |process: &mut Option<Address<M>>| !process.as_ref().is_some_and(|it| it.mailbox.is_open());
         let waited = self.0.given.wait_timeout_while(locked(&self.0.process), limit, vacant);
-        let found = waited.unwrap_or_else(PoisonError::into_inner).0.clone();
-        found.filter(|address| address.mailbox.is_open())
+        let (process, waited) = waited.unwrap_or_else(PoisonError::into_inner);
+        // (the process may exit at any time: it had not as it was found)
+        if waited.timed_out() { None } else { process.clone() }
     }
 
     /// Sends the process that has the name a message from outside, from any thread, as [`Address::send`]. It returns
