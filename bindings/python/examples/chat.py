@@ -1,12 +1,12 @@
-"""A TCP chat, and the load that it is tried with: a process for each room and for each connection, in an asyncio program.
+"""A TCP chat in asyncio: a process for each room and for each connection.
 
 The first line of a connection is the number of its room; each line after it goes to all who are in the room. At the line
-`crash` the connection's process raises an exception: its room gets the DOWN, tells the others, and tells the program.
+`crash` the connection's process raises an exception: its room gets the `DOWN`, tells the others, and tells the program.
 
-    python3 examples/chat.py [--connections 20] [--crashing 4] [--rate 20] [--seconds 3] [--archive FILE]
+    python3 examples/chat.py [PORT] [--archive HISTORY] [--rooms 20]
 
-Some of the connections crash once a second and come again. It is looked whether all who stay hear each line, in order, and
-of each crash once. FILE gets the history of the run, for `pt_audit`. `--serve PORT` is the server alone.
+It prints its address, and serves until SIGTERM or SIGINT. Then it prints how many crashes its rooms told it of, and what the
+run was. The file HISTORY gets the history of the run, which `pt_audit` judges. `chat_load.py` is the other end.
 """
 
 from __future__ import annotations
@@ -14,30 +14,32 @@ from __future__ import annotations
 import argparse
 import asyncio
 import logging
-import time
-from collections import Counter
+import signal
 from typing import NamedTuple, Optional
 
-from pundewo import Pid, Ref
+from pundewo import Fault, Pid, Reason, Ref
 from pundewo.runtime import (
-    Address, Behaviour, Context, Down, Event, HistoryFile, Mailbox, Message, Next, Request, Runtime,
+    Address, Behaviour, Context, Down, Event, HistoryFile, Mailbox, Message, Next, RunOver, Runtime,
 )
 
-ROOMS = 4
-# So many seconds after the last line all has come, also on a busy machine.
-PATIENCE = 60
+# The longest line, how much may wait for who does not read, and for how many seconds lines are gathered before they go out.
+LONGEST, UNREAD, GATHERS = 2**16, 2**22, 0.02
 
 
 class Join(NamedTuple):
     member: Address
 
 
-class Told(NamedTuple):
-    text: str
+class Say(NamedTuple):
+    line: bytes
 
 
 class Heard(NamedTuple):
-    line: str
+    line: bytes
+
+
+class Told(NamedTuple):
+    line: bytes
 
 
 class Gone(NamedTuple):
@@ -46,47 +48,46 @@ class Gone(NamedTuple):
 
 
 class Room(Behaviour):
-    """It tells its members what one of them says, and the news who is gone."""
+    """It tells its members what one of them says, and who is gone. It tells the program that too."""
 
     def __init__(self, news: Address):
         self.news = news
         self.members: dict[Ref, Address] = {}
 
-    def tell(self, cx: Context, text: str) -> None:
+    def tell(self, cx: Context, line: bytes) -> None:
+        told = Told(line + b"\n")
         for member in self.members.values():
-            cx.send(member, Told(text))
+            cx.send(member, told)
 
     def handle(self, cx: Context, event: Event) -> None:
         if isinstance(event, Down):
             del self.members[event.monitor]
-            self.tell(cx, f"gone {event.pid} {event.crash or 'by itself'}")
+            self.tell(cx, f"gone {event.pid} {event.crash or 'by itself'}".encode())
             cx.send(self.news, Gone(event.pid, event.crash))
-        elif isinstance(event, Request):
-            cx.reply(event, len(self.members))
         elif isinstance(event, Message) and isinstance(event.value, Join):
             self.members[cx.monitor(event.value.member)] = event.value.member
-            cx.send(event.value.member, Told("welcome"))
+            cx.send(event.value.member, Told(b"welcome\n"))
         elif isinstance(event, Message):
-            self.tell(cx, event.value)
+            self.tell(cx, event.value.line)
 
 
 class Member(Behaviour):
-    """A connection."""
+    """The process of a connection."""
 
-    def __init__(self, rooms: list[Address], writer: asyncio.StreamWriter):
-        self.rooms, self.writer = rooms, writer
+    def __init__(self, rooms: list[Address], connection: Connection):
+        self.rooms, self.connection = rooms, connection
         self.room: Optional[Address] = None
 
     def handle(self, cx: Context, event: Event) -> Optional[Next]:
         value = event.value if isinstance(event, Message) else None
         if isinstance(value, Told):
-            self.writer.write(f"{value.text}\n".encode())
-        elif not isinstance(value, Heard):
+            self.connection.write(value.line)
+        elif not isinstance(value, Heard):  # the connection is closed
             return Next.stop()
-        elif value.line == "crash":
+        elif value.line == b"crash":
             raise RuntimeError("it crashed")
         elif self.room is not None:
-            cx.send(self.room, value.line)
+            cx.send(self.room, Say(value.line))
         elif value.line.isdigit() and int(value.line) < len(self.rooms):
             self.room = self.rooms[int(value.line)]
             cx.send(self.room, Join(cx.me))
@@ -94,148 +95,113 @@ class Member(Behaviour):
             return Next.stop()
         return None
 
-    def ended(self, why: object) -> None:
-        self.writer.close()
+    def ended(self, why: Reason) -> None:
+        self.connection.close()
 
 
 class Chat:
     """The server on a run."""
 
-    def __init__(self, runtime: Runtime):
+    def __init__(self, runtime: Runtime, rooms: int):
         self.runtime = runtime
+        self.loop = asyncio.get_running_loop()
         self.news: Mailbox = runtime.mailbox()
-        self.rooms = [runtime.spawn(Room(self.news.address)) for _ in range(ROOMS)]
+        self.rooms = [runtime.spawn(Room(self.news.address)) for _ in range(rooms)]
+        self.written: list[Connection] = []
 
-    async def connected(self, reader: asyncio.StreamReader, writer: asyncio.StreamWriter) -> None:
-        member = self.runtime.spawn(Member(self.rooms, writer))
+    def write_soon(self, connection: Connection) -> None:
+        if not self.written:
+            self.loop.call_later(GATHERS, self.flush)
+        self.written.append(connection)
+
+    def flush(self) -> None:
+        written, self.written = self.written, []
+        for connection in written:
+            connection.flush()
+
+
+class Connection(asyncio.Protocol):
+    """A connection: what comes is sent to its process. What that writes within some time goes out at once, since sending is
+    what takes most."""
+
+    def __init__(self, chat: Chat):
+        self.chat = chat
+        self.transport: Optional[asyncio.Transport] = None
+        self.member: Optional[Address] = None
+        self.came, self.lines = b"", list[bytes]()
+
+    def connection_made(self, transport: asyncio.BaseTransport) -> None:
+        assert isinstance(transport, asyncio.Transport)
+        transport.set_write_buffer_limits(high=UNREAD)
+        self.transport = transport
         try:
-            while line := await reader.readline():
-                member.send(Heard(line.decode(errors="replace").rstrip("\n")))
-        except (ConnectionError, ValueError):  # it is broken, or a line is too long
-            pass
-        member.send(None)
+            self.member = self.chat.runtime.spawn(Member(self.chat.rooms, self))
+        except (Fault, RunOver):  # there are too many, or the run ends
+            transport.close()
 
-    async def serve(self, port: int) -> asyncio.base_events.Server:
-        return await asyncio.start_server(self.connected, "127.0.0.1", port)
+    def data_received(self, data: bytes) -> None:
+        *lines, self.came = (self.came + data).split(b"\n")
+        if self.member is not None:
+            for line in lines:
+                self.member.send(Heard(line))
+        if len(self.came) > LONGEST:
+            self.close()
 
+    def connection_lost(self, _: Optional[Exception]) -> None:
+        if self.member is not None:
+            self.member.send(None)
 
-class Load:
-    """Connections that talk, and what they hear."""
+    def pause_writing(self) -> None:
+        """Who does not read is hung up."""
+        if self.transport is not None:
+            self.transport.abort()
 
-    def __init__(self, port: int, rate: float, seconds: float):
-        self.port, self.rate, self.seconds = port, rate, seconds
-        self.speakers = 0
-        self.said: dict[str, tuple[int, int]] = {}
-        self.crashes: Counter[int] = Counter()
-        self.slowest, self.heard = 0.0, 0
-        self.talked = asyncio.Event()
+    def write(self, line: bytes) -> None:
+        if not self.lines:
+            self.chat.write_soon(self)
+        self.lines.append(line)
 
-    async def join(self, room: int) -> tuple[asyncio.StreamReader, asyncio.StreamWriter]:
-        reader, writer = await asyncio.open_connection("127.0.0.1", self.port)
-        writer.write(f"{room}\n".encode())
-        if await reader.readline() != b"welcome\n":
-            raise AssertionError("no welcome")
-        return reader, writer
+    def flush(self) -> None:
+        if self.lines and self.transport is not None and not self.transport.is_closing():
+            self.transport.write(b"".join(self.lines))
+        self.lines.clear()
 
-    async def speak(self, room: int, writer: asyncio.StreamWriter, seconds: float) -> None:
-        """Says lines: the number of the speaker, that of the line, and when it was said."""
-        self.speakers += 1
-        speaker = f"s{self.speakers}"
-        for number in range(int(self.rate * seconds)):
-            writer.write(f"{speaker} {number} {time.monotonic()}\n".encode())
-            self.said[speaker] = room, number + 1
-            await asyncio.sleep(1 / self.rate)
-
-    async def stay(self, room: int, reader: asyncio.StreamReader, writer: asyncio.StreamWriter) -> None:
-        """Hears all that is said in the room, in order, and each crash once."""
-        heard: Counter[str] = Counter()
-        speaking = asyncio.ensure_future(self.speak(room, writer, self.seconds))
-
-        def expected() -> Counter[str]:
-            lines = Counter({speaker: count for speaker, (its, count) in self.said.items() if its == room})
-            return lines + Counter(gone=self.crashes[room])
-
-        over = time.monotonic() + self.seconds + PATIENCE
-        while time.monotonic() < over and not (self.talked.is_set() and heard == expected()):
-            try:
-                words = (await asyncio.wait_for(reader.readline(), 0.2)).decode().split()
-            except asyncio.TimeoutError:
-                continue
-            if words[0] != "gone":
-                if int(words[1]) != heard[words[0]]:
-                    raise AssertionError(f"{words[0]} said {words[1]}, and {heard[words[0]]} did not come")
-                self.slowest = max(self.slowest, time.monotonic() - float(words[2]))
-            heard[words[0]] += 1
-        await speaking
-        writer.close()
-        if heard != expected():
-            raise AssertionError(f"room {room}: of {expected()} there came {heard}")
-        self.heard += sum(heard.values())
-
-    async def crash(self, room: int, reader: asyncio.StreamReader, writer: asyncio.StreamWriter) -> None:
-        """Crashes once a second, and comes again."""
-        left = self.seconds
-        while left > 0:
-            await self.speak(room, writer, min(left, 1))
-            left -= 1
-            self.crashes[room] += 1
-            writer.write(b"crash\n")
-            await reader.read()
-            writer.close()
-            if left > 0:
-                reader, writer = await self.join(room)
-        writer.close()
-
-    async def talk(self, connections: int, crashing: int) -> None:
-        """Lets all connections talk, once all have joined."""
-        joined = [await self.join(number % ROOMS) for number in range(connections)]
-        crashes = [self.crash(number % ROOMS, *joined[number]) for number in range(crashing)]
-        stays = [self.stay(number % ROOMS, *joined[number]) for number in range(crashing, connections)]
-        staying = asyncio.gather(*stays)
-        await asyncio.gather(*crashes)
-        self.talked.set()
-        await staying
+    def close(self) -> None:
+        self.flush()
+        if self.transport is not None:
+            self.transport.close()
 
 
-async def count_crashes(news: Mailbox) -> int:
-    """How many of those who are gone crashed."""
-    count = 0
+async def count_crashes(news: Mailbox, crashed: list[Pid]) -> None:
+    """Notes whose crash the rooms told."""
     async for event in news:
-        count += isinstance(event, Message) and event.value.crash is not None
-    return count
+        if isinstance(event, Message) and isinstance(event.value, Gone) and event.value.crash is not None:
+            crashed.append(event.value.pid)
 
 
 async def main() -> None:
-    words = argparse.ArgumentParser(description="A TCP chat, and the load that it is tried with.")
-    words.add_argument("--connections", type=int, default=20)
-    words.add_argument("--crashing", type=int, default=4)
-    words.add_argument("--rate", type=float, default=20.0)
-    words.add_argument("--seconds", type=float, default=3.0)
+    words = argparse.ArgumentParser(description="A TCP chat.")
+    words.add_argument("port", type=int, nargs="?", default=0)
     words.add_argument("--archive")
-    words.add_argument("--serve", type=int)
+    words.add_argument("--rooms", type=int, default=20)
     given = words.parse_args()
     logging.getLogger("pundewo").setLevel(logging.CRITICAL)  # (crashes are what is tried here)
     archive = None if given.archive is None else HistoryFile(given.archive)
-    async with Runtime(2, going_on_every=2_000, archive=archive) as runtime:
-        chat = Chat(runtime)
-        server = await chat.serve(given.serve or 0)
-        port = server.sockets[0].getsockname()[1]
-        if given.serve is not None:
-            print(f"127.0.0.1:{port}", flush=True)
-            await server.serve_forever()
-        crashes = asyncio.ensure_future(count_crashes(chat.news))
-        load = Load(port, given.rate, given.seconds)
-        await load.talk(given.connections, given.crashing)
-        while any([await room.call("who") for room in chat.rooms]):
-            await asyncio.sleep(0.01)
+    loop, over = asyncio.get_running_loop(), asyncio.Event()
+    for name in (signal.SIGTERM, signal.SIGINT):
+        loop.add_signal_handler(name, over.set)
+    crashed: list[Pid] = []
+    async with Runtime(archive=archive) as runtime:
+        chat = Chat(runtime, given.rooms)
+        server = await loop.create_server(lambda: Connection(chat), "127.0.0.1", given.port)
+        host, port = server.sockets[0].getsockname()
+        print(f"{host}:{port}", flush=True)
+        counting = asyncio.ensure_future(count_crashes(chat.news, crashed))
+        await over.wait()
         server.close()
-        if runtime.waiting():
-            raise AssertionError(f"{runtime.waiting()} messages are kept")
-    told, crashed = await crashes, sum(load.crashes.values())
-    if told != crashed or runtime.summary().crashes != crashed:
-        raise AssertionError(f"{crashed} crashed, and the program was told of {told}")
-    print(f"{load.heard} lines came, each once and in order, the slowest after {load.slowest * 1000:.0f} ms; "
-          f"{crashed} crashes, each told once; {runtime.summary()}")
+        waiting = runtime.waiting()
+    await counting
+    print(f"told of {len(crashed)} crashes of {len(set(crashed))} processes, {waiting} messages wait, {runtime.summary()}")
 
 
 if __name__ == "__main__":

@@ -23,7 +23,7 @@ from typing import Any, Callable, Iterator, Optional, Sequence, TypeVar
 from ._library import (
     BUILD, CAccount, CAnswer, CBody, CConfig, CEvent, CHandle, CIds, CItem, CJob, CLeftOver, CLoss, CNext, CPick, CPid, CReason,
     CRef, CSignal, CTurned, body_of, c_body, c_next, c_pick, c_pid, c_reason, c_ref, event_of, ids_of, item_of, job_of,
-    left_over_of, lib, next_of, own, pick_of, pid_of, reason_of, ref_of,
+    left_over_of, lib, next_of, own, pick_of, pid_of, reason_of, ref_of, text_of,
 )
 from .values import (
     ANY, EVENTS, ITEMS, JOBS, KILL, KILLED, NEXTS, NOPROC, NORMAL, PICKS, PROCEED, REASONS, RUNNING, SHUTDOWN, SIGNALS, U8,
@@ -105,7 +105,7 @@ class _Held:
 
     def _call(self, call: Callable[..., int], *words: Any) -> int:
         """The code that a call returns. The library takes no lock, so a second thread is told here."""
-        if not self._lock.acquire(blocking=False):
+        if not self._lock.acquire(False):
             raise self._busy()
         try:
             return call(self._at, *words)
@@ -152,10 +152,15 @@ class _Held:
         raise _fault(call, words, code)
 
     def _each(self, call: Callable[..., int], kind: type[T], convert: Callable[[T], V], start: int = 0) -> Iterator[V]:
+        # (the library writes the whole struct each time)
+        out = kind()
+        at = c.byref(out)  # type: ignore[arg-type]
         for place in itertools.count(start):
-            out = self._find(call, kind(), place)
-            if out is None:
+            code = self._call(call, place, at)
+            if code == Code.NOTHING:
                 return
+            if code:
+                raise _fault(call, (), code)
             yield convert(out)
 
 
@@ -190,7 +195,12 @@ class Desk(_Held):
         Fault: GONE if the sender is not alive here, UNKNOWN, NOPROC if the desk sees that the receiver has exited, WORN,
         MEMORY.
         """
-        self._must(lib.pt_send, c_pid("sender", sender), c_pid("to", to), c_body("body", body))
+        self._send(c_pid("sender", sender), c_pid("to", to), c_body("body", body))
+
+    def _send(self, sender: CPid, to: CPid, body: CBody) -> None:
+        code = self._call(lib.pt_send, sender, to, body)
+        if code:
+            raise _fault(lib.pt_send, (sender, to), code)
 
     def exit_signal(self, sender: Pid, to: Pid, reason: Reason) -> None:
         """Sends an exit signal that no link carries: Erlang's `exit/2`.
@@ -452,15 +462,20 @@ class Crew(_Held):
         stamp for a process it stays in the queue, and `refused` is true.
         """
         budget, most = number("budget", budget, 0, U32), number("most", most, 0, U16)
-        jobs, count, out = (CJob * most)(), c.c_size_t(), CTurned()
+        jobs = (CJob * most)()
+        count, turned = self._step(desk, budget, jobs)
+        return [job_of(jobs[place]) for place in range(count)], turned
+
+    def _step(self, desk: Desk, budget: int, jobs: c.Array[CJob]) -> tuple[int, Turned]:
+        """The same, with the jobs in an array; returns how many there are, and what the turn did."""
+        count, out = c.c_size_t(), CTurned()
         with self._over(desk) as at:
-            self._must(lib.pt_crew_step, at, budget, jobs, most, c.byref(count), c.byref(out))
-        turned = unchecked(Turned, (out.posted, out.handled, Code(out.stopped) if out.stopped else None))
-        return [job_of(jobs[place]) for place in range(count.value)], turned
+            self._must(lib.pt_crew_step, at, budget, jobs, len(jobs), c.byref(count), c.byref(out))
+        return count.value, unchecked(Turned, (out.posted, out.handled, Code(out.stopped) if out.stopped else None))
 
     def answer(self, p: Pid, does: Next) -> bool:
         """What a running process does next. Returns False, and nothing has changed, if p is not running."""
-        return self._answer([CAnswer(c_pid("p", p), c_next("does", does))]) == 1
+        return self._answer((CAnswer * 1)(CAnswer(c_pid("p", p), c_next("does", does)))) == 1
 
     def answer_all(self, answers: Sequence[tuple[Pid, Next]]) -> int:
         """Takes the answers in order, up to the first of a process that is not running. Returns how many were taken."""
@@ -468,12 +483,13 @@ class Crew(_Held):
             given = [(pid, does) for pid, does in answers]
         except (TypeError, ValueError):
             raise TypeError(f"answers is {shown(answers)}, and must be a sequence of pairs of Pid and Next") from None
-        return self._answer([CAnswer(c_pid(f"answers[{place}].pid", pid), c_next(f"answers[{place}].next", does))
-                             for place, (pid, does) in enumerate(given)])
+        crossing = [CAnswer(c_pid(f"answers[{place}].pid", pid), c_next(f"answers[{place}].next", does))
+                    for place, (pid, does) in enumerate(given)]
+        return self._answer((CAnswer * len(crossing))(*crossing))
 
-    def _answer(self, answers: list[CAnswer]) -> int:
+    def _answer(self, answers: c.Array[CAnswer]) -> int:
         taken = c.c_size_t()
-        code = self._call(lib.pt_crew_answer, (CAnswer * len(answers))(*answers), len(answers), c.byref(taken))
+        code = self._call(lib.pt_crew_answer, answers, len(answers), c.byref(taken))
         if code not in (Code.OK, Code.NOT_RUNNING):
             raise _fault(lib.pt_crew_answer, (), code)
         return taken.value
@@ -485,7 +501,9 @@ class Crew(_Held):
         """
         with self._over(desk) as at:
             code = self._call(lib.pt_crew_note_loss, at, 0)
-        if code not in (Code.OK, Code.NOTHING):
+        if code == Code.NOTHING:
+            return None
+        if code:
             raise _fault(lib.pt_crew_note_loss, (), code)
         return desk.next_loss()
 
@@ -548,6 +566,10 @@ class History(_Held):
     def events(self) -> Iterator[Event]:
         """The events, the first one first."""
         return self._each(lib.pt_history_at, CEvent, event_of)
+
+    def lines(self) -> Iterator[str]:
+        """The text of each event, as `str` returns it, in less time."""
+        return self._each(lib.pt_history_at, CEvent, text_of)
 
     def left_over(self) -> Iterator[LeftOver]:
         """The letters left over, by sending desk, then by receiving desk."""

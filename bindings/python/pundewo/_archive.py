@@ -2,6 +2,7 @@
 
 from __future__ import annotations
 
+import itertools
 import os
 from typing import Callable, Union
 
@@ -27,6 +28,8 @@ class HistoryFile:
         with open(self.path, "r+b") as file:
             file.truncate(self._end)
             file.seek(self._end)
-            file.writelines(f"{event}\n".encode() for event in history)
+            lines = history.lines()
+            while some := "\n".join(itertools.islice(lines, 1000)):
+                file.write(f"{some}\n".encode())
             file.flush()
             self._end = file.tell()

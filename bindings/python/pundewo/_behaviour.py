@@ -22,6 +22,10 @@ GO_ON, STOP, KILLS, OVER = range(4)
 # What is to be done at a time.
 Alarm = int
 
+# The kinds that messages have in a history: a message, an answer, a request. From NEWS on: the news, under its number, that
+# a process could not be monitored or called since it had exited.
+MESSAGE, ANSWER, REQUEST, NEWS = 1, 2, 3, 16
+
 # The longest time that a limit may be: some thirty years.
 LONGEST = 1e9
 
@@ -216,3 +220,10 @@ class Behaviour(ABC):
 
     def ended(self, why: Reason) -> None:
         """The process has exited, in whatever way, for this reason."""
+
+
+def behaviour_of(value: object) -> Behaviour:
+    """The value, which is a behaviour."""
+    if isinstance(value, Behaviour):
+        return value
+    raise TypeError(f"behaviour is {shown(value)}, and must be of type Behaviour")

@@ -8,16 +8,16 @@ from collections import deque
 from threading import get_ident
 from typing import Any, Callable, Deque, Optional
 
-from . import Code, Config, Crew, Fault, Gathered, Item, Job, Settled, gather, open_node
-from . import Next as Does
+from . import Code, Config, Crew, Fault, Gathered, Item, Settled, gather, open_node
 from ._archive import Sink
 from ._behaviour import (
-    CRASH, GO_ON, KILLS, OVER, PROCEED, STOP, TIMEOUT, Answer, Behaviour, Call, CallFault, Down, Event, Exit, Message, Next,
-    RunOver, ServerDown,
+    CRASH, GO_ON, KILLS, MESSAGE, OVER, PROCEED, STOP, TIMEOUT, Answer, Behaviour, Call, CallFault, Down, Event, Exit, Message,
+    Next, RunOver, ServerDown, behaviour_of,
 )
-from ._process import Address, Porter, Seat
-from ._sending import MESSAGE, Sending, Task, kind_of
-from .values import ANY, KILL, NORMAL, SHUTDOWN, U8, Pick, Pid, Reason, Ref, of_type
+from ._library import CAnswer, CJob, item_of, reader, reason_of
+from ._process import WAITS, Address, Porter, Seat, does
+from ._sending import Sending, Task, kind_of
+from .values import ITEMS, JOBS, KILL, NORMAL, SHUTDOWN, U8, Pick, Pid, Reason, Ref, unchecked
 
 log = logging.getLogger("pundewo")
 
@@ -25,7 +25,15 @@ log = logging.getLogger("pundewo")
 HALTS = KeyboardInterrupt, SystemExit
 
 # How many letters a turn handles at most, and how many jobs a step has.
-BUDGET, MOST = 256, 64
+BUDGET, MOST = 1024, 256
+
+# What is read of a job at once: what it is, whose, and of a message who sent it, its kind and its number.
+Job = tuple[int, ...]
+JOB = reader(CJob, "code", "tag", "item.code", "item.pid.shard", "item.pid.slot", "item.pid.version", "item.body.kind",
+             "item.body.num")
+START, ITEM, TIMES_OUT, EXITED = map(JOBS.index, ("start", "item", "timeout", "exit"))
+USER = ITEMS.index("user")
+PROCEEDS = does("proceed")
 
 
 class Engine(Sending):
@@ -42,8 +50,10 @@ class Engine(Sending):
         self.running: Optional[Seat] = None
         self.seats: dict[int, Seat] = {}
         self.inbox: Deque[Task] = deque()
-        self._jobs: list[Deque[Job]] = [deque() for _ in self.desks]
-        self._answers: list[list[tuple[Pid, Does]]] = [[] for _ in self.desks]
+        # what each desk's processes are told in this round: as the library wrote it, and what was read of that
+        self._rows = [(CJob * MOST)() for _ in self.desks]
+        self._jobs: list[Deque[tuple[int, Job]]] = [deque() for _ in self.desks]
+        self._answers: list[list[bytes]] = [[] for _ in self.desks]
         self._untold = self._taken = False
         # the numbers of the desks whose crews have not begun again
         self._stale: list[int] = []
@@ -52,7 +62,7 @@ class Engine(Sending):
         self.spawned = self.crashes = self.epochs = self.archived = 0
         self.killed: list[Pid] = []
         for number in range(desks):
-            self.porters.append(self.spawn(Porter(), number).pid)
+            self.porters.append(self.spawn(Porter(), number))
         self.spawned = 0
 
     # What those outside want
@@ -85,7 +95,7 @@ class Engine(Sending):
         elif call.is_open:
             self._outside.add(call)
             try:
-                self.call(self.pids[self.porters[to.pid.shard]], to, value, limit, call)
+                self.call(self.pids[self.porters[to.pid.shard].pid], to, value, limit, call)
             except Fault as fault:
                 self._resolve(Answer(call, None, CallFault(f"the server was not asked: {fault}")))
 
@@ -186,9 +196,9 @@ class Engine(Sending):
         if self.order == GO_ON or not self._untold:
             return
         for seat in [seat for seat in self.seats.values() if seat.told < self.order]:
-            if seat.pid not in self.porters:
+            if not self.is_porter(seat.pid):
                 self.desks[seat.pid.shard].exit_signal(
-                    self.porters[seat.pid.shard], seat.pid, KILL if self.order == KILLS else SHUTDOWN)
+                    self.porters[seat.pid.shard].pid, seat.pid, KILL if self.order == KILLS else SHUTDOWN)
                 if self.order == KILLS:
                     self.killed.append(seat.pid)
             seat.told = self.order
@@ -203,19 +213,21 @@ class Engine(Sending):
             # (before the step that tells of exits, so that it tells their reasons)
             self._take_losses(number)
             crew.set_time(self.now())
-            new, posted = crew.step(desk, 0, MOST)
-            jobs.extend(new)
-            some = bool(jobs) or turned.posted + turned.handled + posted.posted > 0
+            rows = self._rows[number]
+            count, posted = crew._step(desk, 0, rows)
+            jobs.extend(enumerate(JOB.iter_unpack(memoryview(rows).cast("B")[:count * JOB.size])))
+            some = count > 0 or turned.posted + turned.handled + posted.posted > 0
             if turned.stopped is not None:
                 raise Fault(turned.stopped, "turn")
             if crew.refused():
                 raise Fault(Code.MEMORY, "crew_step")
         while jobs:
-            self._tell(jobs.popleft())
+            self._tell(number, *jobs.popleft())
         answers = self._answers[number]
-        if answers:
-            crew.answer_all(answers)
-            answers.clear()
+        while answers:
+            # (whose process is not running any more is left out)
+            taken = crew._answer((CAnswer * len(answers)).from_buffer_copy(b"".join(answers)))
+            del answers[:taken + 1]
         return some
 
     def _take_losses(self, number: int) -> None:
@@ -230,7 +242,7 @@ class Engine(Sending):
 
     def spawn(self, behaviour: Behaviour, desk: int, parent: Optional[Pid] = None, linked: bool = False) -> Address:
         """Spawns a process on a desk. It is a child if its parent is of the same desk."""
-        of_type("behaviour", behaviour, Behaviour)
+        behaviour_of(behaviour)
         tag = self._number = self._number + 1
         if parent is not None and parent.shard == desk:
             pid = self.crews[desk].spawn_child(self.desks[desk], parent, linked, tag)
@@ -244,17 +256,16 @@ class Engine(Sending):
             self.desks[parent.shard].link(parent, pid)
         return address
 
-    def _tell(self, job: Job) -> None:
+    def _tell(self, number: int, place: int, job: Job) -> None:
         """Runs the handler of a process."""
-        seat = self.seats[job.tag]
-        if job.name == "exit":
-            self._leave(seat, job.reason or NORMAL)
+        seat = self.seats[job[1]]
+        if job[0] == EXITED:
+            self._leave(seat, reason_of(self._rows[number][place].reason))
             return
-        answers = self._answers[seat.pid.shard]
         self.running = seat
         try:
-            seat.does = self._run(seat, job)
-            answers.append((seat.pid, seat.does))
+            seat.does = self._run(seat, number, place, job)
+            self._answers[number].append(seat.crossing + seat.does)
         except BaseException as error:
             self._crash(seat, error)
             if isinstance(error, HALTS):
@@ -262,31 +273,36 @@ class Engine(Sending):
         finally:
             self.running = None
 
-    def _run(self, seat: Seat, job: Job) -> Does:
-        if job.name == "start":
+    def _run(self, seat: Seat, number: int, place: int, job: Job) -> bytes:
+        code, _, item, shard, slot, version, kind, num = job
+        event: Optional[Event]
+        if code == ITEM:
+            if item == USER and kind == MESSAGE:
+                event = unchecked(Message, (self.payloads.pop(num), unchecked(Pid, (shard, slot, version))))
+            else:
+                event = self._event_of(seat, item_of(self._rows[number][place].item))
+        elif code == START:
             return self._does(seat.behaviour.started(seat.cx))
-        if job.item is None:
-            event: Optional[Event] = TIMEOUT if job.name == "timeout" else PROCEED
         else:
-            event = self._event_of(seat, job.item)
+            event = TIMEOUT if code == TIMES_OUT else PROCEED
         return seat.does if event is None else self._does(seat.behaviour.handle(seat.cx, event))
 
-    def _does(self, next_: Optional[Next]) -> Does:
+    def _does(self, next_: Optional[Next]) -> bytes:
         """What a handler has returned, for a crew, whose times are points in time."""
         if next_ is None:
-            return Does("wait", ANY)
+            return WAITS
         if not isinstance(next_, Next):
             raise TypeError(f"a handler returned {next_!r}, and must return None or a Next")
         if next_.name == "stop":
-            return Does("stop", reason=next_.reason)
+            return does("stop", reason=next_.reason)
         if next_.name == "proceed":
-            return Does("proceed")
+            return PROCEEDS
         pick = next_.pick
         if pick.name == "down-of" and isinstance(pick.what, Ref) and pick.what.desk == U8:
             pick = Pick("kind", kind_of(pick.what.number))
         if next_.limit is None:
-            return Does("wait", pick)
-        return Does("wait-until", pick, self._at(next_.limit))
+            return does("wait", pick=pick)
+        return does("wait-until", pick=pick, until=self._at(next_.limit))
 
     def _event_of(self, seat: Seat, item: Item) -> Optional[Event]:
         """What an item is to the handler, or None if it is nothing to it, such as an answer that comes too late."""
@@ -295,8 +311,6 @@ class Engine(Sending):
             if item.body.num not in self.payloads:  # it was taken back
                 return None
             event = self.payloads.pop(item.body.num)
-            if item.body.kind == MESSAGE:
-                return Message(event, item.pid)
         elif item.name == "down" and item.reference is not None:
             reason, text = item.reason or NORMAL, seat.texts.pop(item.reference, None)
             call = seat.calls.get(item.reference)
@@ -331,7 +345,7 @@ class Engine(Sending):
         try:
             desk.exit(seat.pid, CRASH)
         except Fault:  # no memory: the crew tries again
-            self._answers[seat.pid.shard].append((seat.pid, Does("stop", reason=CRASH)))
+            self._answers[seat.pid.shard].append(seat.crossing + does("stop", reason=CRASH))
         log.error("%s of %s crashed: %s", seat.pid, seat.cx.me.name, text, exc_info=error)
 
     def _leave(self, seat: Seat, why: Reason) -> None:

@@ -8,8 +8,9 @@ from typing import TYPE_CHECKING, Any, Optional, Union
 
 from . import Desk
 from . import Next as Does
+from ._library import CAnswer, CPid, c_next
 from ._behaviour import (
-    GO_ON, OVER, Alarm, Answer, Behaviour, Call, Down, Event, Request, RunOver, seconds,
+    GO_ON, MESSAGE, OVER, Alarm, Answer, Behaviour, Call, Down, Event, Request, RunOver, seconds,
 )
 from .values import ANY, NOPROC, SHUTDOWN, Pid, Reason, Ref, flag, number, of_type
 
@@ -20,10 +21,12 @@ if TYPE_CHECKING:
 class Address:
     """A process of a run, to which anything can be sent. It stays valid when the process has exited."""
 
-    __slots__ = ("pid", "name", "_engine")
+    __slots__ = ("pid", "name", "_engine", "_crossing")
 
     def __init__(self, pid: Pid, name: str, engine: Engine):
         self.pid, self.name, self._engine = pid, name, engine
+        # (as the library takes it, made once)
+        self._crossing = CPid(*pid)
 
     def __repr__(self) -> str:
         return f"<Address {self.pid} of {self.name}>"
@@ -83,10 +86,18 @@ class Timer:
         self._alarm = alarm
 
 
+def does(name: str, **has: Any) -> bytes:
+    """What a process does next, as the bytes that cross."""
+    return bytes(c_next("does", Does(name, **has)))
+
+
+WAITS = does("wait", pick=ANY)
+
+
 class Seat:
     """A process with its behaviour."""
 
-    __slots__ = ("pid", "tag", "behaviour", "cx", "calls", "texts", "does", "told")
+    __slots__ = ("pid", "tag", "behaviour", "cx", "calls", "texts", "does", "told", "crossing")
 
     def __init__(self, engine: Engine, address: Address, tag: int, behaviour: Behaviour, parent: Optional[Pid]):
         self.pid, self.tag, self.behaviour = address.pid, tag, behaviour
@@ -95,8 +106,10 @@ class Seat:
         # the texts of crashes, beside the news of them: by monitor, and by linked process
         self.texts: dict[Union[Ref, Pid], str] = {}
         # what it was to do when it was told something
-        self.does = Does("wait", ANY)
+        self.does = WAITS
         self.told = GO_ON
+        # its pid, as an answer to a crew begins with it
+        self.crossing = bytes(address._crossing).ljust(CAnswer.next.offset, b"\0")
 
 
 class Porter(Behaviour):
@@ -157,7 +170,10 @@ class Context:
         It returns False, and the message is dropped, if the receiver is known to have exited. If it exits later, the message
         is dropped then.
         """
-        return self._here().send(self.pid, of_type("to", to, Address), value)
+        engine = self._here()
+        if of_type("to", to, Address)._engine is not engine:
+            return to.send(value)
+        return engine.carry(MESSAGE, self.me, to, value)
 
     def send_after(self, time: float, to: Address, value: Any) -> Timer:
         """Sends a message after so many seconds: Erlang's `send_after`. It comes also if this process has exited."""
@@ -211,7 +227,7 @@ class Context:
         """Sends an exit signal: Erlang's `exit/2`. KILL ends any process. Any other reason but NORMAL ends a process that
         does not trap exits. To end this process itself, return `Next.stop`."""
         pid = self._pid_of(to)
-        if pid in self._engine.porters:
+        if self._engine.is_porter(pid):
             raise ValueError(f"{pid} sends what comes from outside, and does not exit")
         self._desk().exit_signal(self.pid, pid, reason)
 
@@ -236,7 +252,7 @@ class Context:
         if request._engine is not engine:
             request._engine.post(lambda: request._engine.answer(call, None, Answer(call, value, None)))
             return True
-        return engine.answer(call, self.pid, Answer(call, value, None))
+        return engine.answer(call, self.me, Answer(call, value, None))
 
     def now(self) -> float:
         """The time in seconds since the run was made."""

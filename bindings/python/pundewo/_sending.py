@@ -8,14 +8,11 @@ from typing import Any, Callable, Optional
 
 from . import Code, Desk, Fault
 from ._behaviour import (
-    GO_ON, OVER, Alarm, Answer, Call, CallTimeout, Event, Request, ServerDown, Unanswered,
+    ANSWER, GO_ON, MESSAGE, NEWS, OVER, REQUEST, Alarm, Answer, Call, CallTimeout, Event, Request, ServerDown, Unanswered,
 )
+from ._library import CBody
 from ._process import Address, Seat
-from .values import NOPROC, U8, U32, Body, Pid, Ref, unchecked
-
-# The kinds that messages have in a history: a message, an answer, a request. From NEWS on: the news, under its number, that
-# a process could not be monitored or called since it had exited.
-MESSAGE, ANSWER, REQUEST, NEWS = 1, 2, 3, 16
+from .values import NOPROC, U8, U32, Pid, Ref
 
 Task = Callable[[], object]
 
@@ -34,7 +31,7 @@ class Sending:
         self.order = GO_ON
         self.pids: dict[Pid, Seat] = {}
         # the process of each desk in whose name things are sent from outside
-        self.porters: list[Pid] = []
+        self.porters: list[Address] = []
         # the messages that nobody has taken yet, by the numbers that the table carries
         self.payloads: dict[int, Any] = {}
         # the open calls from outside, and those whose requests were dropped without an answer
@@ -45,43 +42,49 @@ class Sending:
         self._times: list[tuple[int, Alarm]] = []
         self._inside = False
         self._began = time.monotonic()
+        # what is sent next, as the library takes it
+        self._body = CBody()
 
     def post(self, task: Task) -> None:
         """Has the thread of the run do this, soon."""
         raise NotImplementedError
 
-    def _carry(self, kind: int, sender: Pid, to: Pid, value: Any) -> bool:
+    def carry(self, kind: int, sender: Address, to: Address, value: Any) -> bool:
         """Sends a value in the name of a process. It returns False, and the value is dropped, if the receiver is known to
         have exited."""
         number = self._number = self._number + 1
+        body = self._body
+        body.kind, body.num = kind, number
         self.payloads[number] = value
         try:
-            self.desks[sender.shard].send(sender, to, unchecked(Body, (kind, number, None)))
+            self.desks[sender.pid.shard]._send(sender._crossing, to._crossing, body)
         except BaseException as error:
             del self.payloads[number]
             if isinstance(error, Fault) and error.code == Code.NOPROC:
                 return False
             raise
-        self.touch()
+        if not self._inside:
+            self.ring()
         return True
+
+    def is_porter(self, pid: Pid) -> bool:
+        return pid.shard < len(self.porters) and self.porters[pid.shard].pid == pid
 
     def touch(self) -> None:
         """Something was done. If that was outside of a round, there has to be another."""
         if not self._inside:
             self.ring()
 
-    def send(self, sender: Pid, to: Address, value: Any) -> bool:
+    def send(self, sender: Address, to: Address, value: Any) -> bool:
         if to._engine is not self:
             return to.send(value)
-        return self._carry(MESSAGE, sender, to.pid, value)
+        return self.carry(MESSAGE, sender, to, value)
 
     def news(self, seat: Seat, make: Callable[[Ref], Event]) -> Ref:
         """Tells a process at once what would have come if its target had exited later. The reference is of no desk."""
-        number = self._number = self._number + 1
-        reference = Ref(U8, number)
-        self.payloads[number] = make(reference)
-        self.desks[seat.pid.shard].send(seat.pid, seat.pid, Body(kind_of(number), number))
-        self.touch()
+        reference = Ref(U8, self._number + 1)
+        me = seat.cx.me
+        self.carry(kind_of(reference.number), me, me, make(reference))
         return reference
 
     def monitor(self, seat: Seat, target: Pid) -> Optional[Ref]:
@@ -112,15 +115,15 @@ class Sending:
             return call
         call.monitor, seat.calls[monitor] = monitor, call
         call.alarm = self.set_alarm(limit, lambda: self.answer(call, None, Answer(call, None, CallTimeout())))
-        self._carry(REQUEST, seat.pid, to.pid, Request(self, call, seat.pid, value))
+        self.carry(REQUEST, seat.cx.me, to, Request(self, call, seat.pid, value))
         return call
 
-    def answer(self, call: Call, sender: Optional[Pid], answer: Answer) -> bool:
+    def answer(self, call: Call, sender: Optional[Address], answer: Answer) -> bool:
         """Sends the client an answer, and returns False if it does not wait for it any more."""
         seat = call.client
         if seat is None or not call.is_open or seat.pid not in self.pids or self.order == OVER:
             return False
-        return self._carry(ANSWER, sender or self.porters[seat.pid.shard], seat.pid, answer)
+        return self.carry(ANSWER, sender or self.porters[seat.pid.shard], seat.cx.me, answer)
 
     def unanswered(self, call: Call) -> None:
         """A request was dropped. Its client is told so after the next step, by which the server may have exited."""

@@ -42,12 +42,11 @@ from typing import Any, Callable, Deque, NamedTuple, Optional, TypeVar
 from . import Config
 from ._archive import HistoryFile, Sink
 from ._behaviour import (
-    CRASH, GO_ON, KILLS, OVER, PROCEED, STOP, TIMEOUT, Answer, Behaviour, Call, CallFault, CallTimeout, Down, Event, Exit,
-    Message, Next, Request, RunOver, ServerDown, Tick, Unanswered, seconds,
+    ANSWER, CRASH, GO_ON, KILLS, MESSAGE, OVER, PROCEED, REQUEST, STOP, TIMEOUT, Answer, Behaviour, Call, CallFault,
+    CallTimeout, Down, Event, Exit, Message, Next, Request, RunOver, ServerDown, Tick, Unanswered, behaviour_of, seconds,
 )
 from ._engine import Engine
 from ._process import Address, Context, Timer
-from ._sending import ANSWER, MESSAGE, REQUEST
 from ._supervisor import WHICH_CHILDREN, Child, Supervisor
 from .values import NORMAL, U64, Pid, Reason, number, of_type
 
@@ -111,7 +110,7 @@ class Runtime:
         Fault: FULL if no slot is free, WORN, MEMORY. RunOver if the run is stopped.
         """
         engine, count = self._engine, len(self._engine.crews)
-        of_type("behaviour", behaviour, Behaviour)
+        behaviour_of(behaviour)
         place = number("desk", self._next_desk if desk is None else desk, 0, count - 1)
         if desk is None:
             self._next_desk = (place + 1) % count

@@ -66,7 +66,7 @@ CALLS: dict[str, dict[str, dict[str, Domain]]] = {
         "linked": {"p": PID, "peer": PID}, "kept": {"target": PID, "monitor": REF},
         "watching": {"watcher": PID, "monitor": REF}, "close": {},
     },
-    "History": {"events": {}, "left_over": {}, "close": {}},
+    "History": {"events": {}, "lines": {}, "left_over": {}, "close": {}},
     "Crew": {
         "spawn": {"desk": DESK, "tag": LONG, "first": NEXT},
         "spawn_child": {"desk": DESK, "parent": PID, "linked": FLAG, "tag": LONG, "first": NEXT},

@@ -249,7 +249,7 @@ class Handlers(unittest.TestCase):
             got.append(event.value)
             return r.Next.stop() if event.value == 3 else None
 
-        for place in ("turn", "begin_again", "send", "step"):
+        for place in ("turn", "begin_again", "_send", "_step"):
             with self.subTest(place):
                 got.clear()
                 run = r.Runtime(going_on_every=4)
@@ -257,7 +257,7 @@ class Handlers(unittest.TestCase):
                 for number in range(4):
                     address.send(number)
                 left = [2]
-                kind = p.Crew if place in ("begin_again", "step") else p.Desk
+                kind = p.Crew if place in ("begin_again", "_step") else p.Desk
                 real = getattr(kind, place)
 
                 def failing(*words):
