@@ -18,7 +18,8 @@ class HistoryFile:
 
     def __init__(self, path: Union[str, os.PathLike[str]]):
         """Makes the file, or empties it."""
-        self.path = path
+        # (a number would be a file that is open, and closed then)
+        self.path = os.fspath(path)
         self._end = 0
         with open(path, "wb"):
             pass

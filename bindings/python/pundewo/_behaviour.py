@@ -2,12 +2,11 @@
 
 from __future__ import annotations
 
-import math
 from abc import ABC, abstractmethod
 from functools import partial
 from typing import TYPE_CHECKING, Any, Callable, NamedTuple, Optional, Union
 
-from .values import ANY, NORMAL, U32, Pick, Pid, Reason, Ref, of_type, shown
+from .values import ANY, NORMAL, U32, Pick, Pid, Reason, Ref, _Checked, of_type, one_of, shown, unchecked
 
 if TYPE_CHECKING:
     from ._process import Context, Seat
@@ -34,7 +33,7 @@ def seconds(field: str, value: object) -> float:
     """The value as a time in seconds."""
     if not isinstance(value, (int, float)) or isinstance(value, bool):
         raise TypeError(f"{field} is {shown(value)}, and must be a number of seconds")
-    if not (math.isfinite(value) and 0 <= value <= LONGEST):
+    if not 0 <= value <= LONGEST:
         raise ValueError(f"{field} is {shown(value)}, and must be from 0 to {LONGEST:.0f} seconds")
     return float(value)
 
@@ -46,27 +45,35 @@ class _Next(NamedTuple):
     reason: Reason
 
 
-class Next(_Next):
+NEXTS = ("wait", "proceed", "stop")
+
+
+class Next(_Checked, _Next):
     """What a process does next. Make one by `wait`, `proceed` or `stop`; None in its place is `wait()`."""
 
     __slots__ = ()
+
+    def __new__(cls, name: str, pick: Pick = ANY, limit: Optional[float] = None, reason: Reason = NORMAL) -> Next:
+        return unchecked(cls, (
+            one_of("Next.name", name, NEXTS), of_type("Next.pick", pick, Pick),
+            None if limit is None else seconds("Next.limit", limit), of_type("Next.reason", reason, Reason)))
 
     @classmethod
     def wait(cls, limit: Optional[float] = None, pick: Pick = ANY) -> Next:
         """It waits for what this pick takes; all else stays in its mailbox, in order. If nothing comes for so many
         seconds, it gets TIMEOUT."""
         limit = None if limit is None else seconds("limit", limit)
-        return cls("wait", of_type("pick", pick, Pick), limit, NORMAL)
+        return unchecked(cls, ("wait", of_type("pick", pick, Pick), limit, NORMAL))
 
     @classmethod
     def proceed(cls) -> Next:
         """It gets PROCEED as soon as the others of its desk have had their turn."""
-        return cls("proceed", ANY, None, NORMAL)
+        return unchecked(cls, ("proceed", ANY, None, NORMAL))
 
     @classmethod
     def stop(cls, reason: Reason = NORMAL) -> Next:
         """It exits with this reason."""
-        return cls("stop", ANY, None, of_type("reason", reason, Reason))
+        return unchecked(cls, ("stop", ANY, None, of_type("reason", reason, Reason)))
 
 
 class Message(NamedTuple):
@@ -209,6 +216,9 @@ class Behaviour(ABC):
     An exception in `started` or `handle` is a crash: the process exits with CRASH, its monitors and links hear of it,
     and the run goes on. A handler should not wait: while it does, all processes do.
     """
+
+    # whether it ends the processes that it has spawned, when it is told to exit
+    _ends_children = False
 
     def started(self, cx: Context) -> Optional[Next]:
         """It begins. It waits for whatever comes, unless this returns something else."""

@@ -196,6 +196,8 @@ class Engine(Sending):
         if self.order == GO_ON or not self._untold:
             return
         for seat in [seat for seat in self.seats.values() if seat.told < self.order]:
+            if self.order == STOP and self._is_supervised(seat):
+                continue
             if not self.is_porter(seat.pid):
                 self.desks[seat.pid.shard].exit_signal(
                     self.porters[seat.pid.shard].pid, seat.pid, KILL if self.order == KILLS else SHUTDOWN)
@@ -203,6 +205,11 @@ class Engine(Sending):
                     self.killed.append(seat.pid)
             seat.told = self.order
         self._untold = False
+
+    def _is_supervised(self, seat: Seat) -> bool:
+        """Whether a live process will end it, so that it ends in its turn."""
+        above = None if seat.cx.parent is None else self.pids.get(seat.cx.parent)
+        return above is not None and above.behaviour._ends_children
 
     def _step(self, number: int) -> bool:
         """A turn of a desk, and the handlers of those of it who have something to do."""
@@ -253,7 +260,11 @@ class Engine(Sending):
         self.spawned += 1
         self._untold = True
         if linked and parent is not None and parent.shard != desk:
-            self.desks[parent.shard].link(parent, pid)
+            try:
+                self.desks[parent.shard].link(parent, pid)
+            except Fault:
+                self.desks[desk].exit(pid, KILL)
+                raise
         return address
 
     def _tell(self, number: int, place: int, job: Job) -> None:
@@ -351,6 +362,9 @@ class Engine(Sending):
     def _leave(self, seat: Seat, why: Reason) -> None:
         """A process has exited: all that it had goes."""
         del self.seats[seat.tag], self.pids[seat.pid]
+        if seat.behaviour._ends_children:
+            # (those that it has not ended are told themselves)
+            self._untold = True
         for call in list(seat.calls.values()):
             self.close(call)
         try:

@@ -190,7 +190,7 @@ class Context:
 
         Fault: FULL if no slot is free, WORN, MEMORY.
         """
-        return self._here().spawn(behaviour, self.pid.shard, self.pid, linked)
+        return self._here().spawn(behaviour, self.pid.shard, self.pid, flag("linked", linked))
 
     def spawn_on(self, desk: int, behaviour: Behaviour, linked: bool = False) -> Address:
         """Spawns a process on this desk of the node. On another desk it is no child, and the link is made next."""

@@ -47,13 +47,16 @@ from ._behaviour import (
 )
 from ._engine import Engine
 from ._process import Address, Context, Timer
-from ._supervisor import WHICH_CHILDREN, Child, Supervisor
-from .values import NORMAL, U64, Pid, Reason, number, of_type
+from ._supervisor import (
+    BRUTAL_KILL, INFINITY, WHICH_CHILDREN, Child, DeleteChild, RestartChild, StartChild, Supervisor, TerminateChild,
+)
+from .values import NORMAL, U8, U64, Pid, Reason, flag, number, of_type
 
 __all__ = [
-    "ANSWER", "CRASH", "MESSAGE", "PROCEED", "REQUEST", "TIMEOUT", "WHICH_CHILDREN", "Address", "Answer", "Behaviour", "Call",
-    "CallFault", "CallTimeout", "Child", "Context", "Down", "Event", "Exit", "HistoryFile", "Mailbox", "Message", "Next",
-    "NotEnded", "Request", "RunOver", "Runtime", "ServerDown", "Sink", "Summary", "Supervisor", "Tick", "Timer", "Unanswered",
+    "ANSWER", "BRUTAL_KILL", "CRASH", "INFINITY", "MESSAGE", "PROCEED", "REQUEST", "TIMEOUT", "WHICH_CHILDREN", "Address",
+    "Answer", "Behaviour", "Call", "CallFault", "CallTimeout", "Child", "Context", "DeleteChild", "Down", "Event", "Exit",
+    "HistoryFile", "Mailbox", "Message", "Next", "NotEnded", "Request", "RestartChild", "RunOver", "Runtime", "ServerDown",
+    "Sink", "StartChild", "Summary", "Supervisor", "TerminateChild", "Tick", "Timer", "Unanswered",
 ]
 
 T = TypeVar("T")
@@ -90,7 +93,7 @@ class Runtime:
                  archive: Optional[Sink] = None, patience: float = 5.0):
         if archive is not None and not callable(archive):
             raise TypeError(f"archive is {archive!r}, and must be callable with a History")
-        every = number("going_on_every", going_on_every, 1, U64)
+        desks, every = number("desks", desks, 0, U8), number("going_on_every", going_on_every, 1, U64)
         # (each desk has one process more, which sends what comes from outside)
         config = Config(slots=number("slots", slots, 1, 65_535) + 1, lane=lane)
         self._engine = Engine(desks, config, every, archive, seconds("patience", patience))
@@ -147,10 +150,11 @@ class Runtime:
 
         It fails as that does. RuntimeError on the thread of the run, which would wait for itself.
         """
-        if self._engine.is_here():
+        engine, limit = of_type("to", to, Address)._engine, seconds("limit", limit)
+        if engine.is_here():
             raise RuntimeError("this thread runs the processes: await Address.call, or take Context.call in a behaviour")
         future: concurrent.futures.Future[Answer] = concurrent.futures.Future()
-        of_type("to", to, Address)._engine.ask(to, value, seconds("limit", limit), future.set_result)
+        engine.ask(to, value, limit, future.set_result)
         return future.result().result()
 
     def mailbox(self, desk: Optional[int] = None) -> Mailbox:
@@ -188,7 +192,7 @@ class Runtime:
         `close` drops all.
         """
         engine, rung = self._engine, threading.Condition()
-        is_rung = False
+        forever, is_rung = flag("forever", forever), False
 
         def ring() -> None:
             nonlocal is_rung
@@ -297,7 +301,7 @@ class Mailbox:
     """
 
     def __init__(self, runtime: Runtime, desk: Optional[int] = None):
-        self._engine = runtime._engine
+        self._engine = of_type("runtime", runtime, Runtime)._engine
         self._loop = asyncio.get_running_loop()
         self._events: Deque[Event] = deque()
         self._waiting: Deque[asyncio.Future[None]] = deque()

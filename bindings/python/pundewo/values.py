@@ -12,7 +12,7 @@ from __future__ import annotations
 
 from dataclasses import dataclass
 from enum import IntEnum
-from typing import TYPE_CHECKING, Any, Iterable, NamedTuple, Optional, Sequence, TypeVar, Union
+from typing import TYPE_CHECKING, Any, Callable, Iterable, NamedTuple, Optional, Sequence, TypeVar, Union
 
 T = TypeVar("T")
 
@@ -109,7 +109,7 @@ class Code(IntEnum):
 
 
 # A named tuple of checked fields without the checks, for fields that the library wrote.
-unchecked = tuple.__new__
+unchecked: Callable[[type[T], tuple[Any, ...]], T] = tuple.__new__
 
 
 class _Checked:

@@ -7,7 +7,9 @@ import logging
 import subprocess
 import threading
 import time
+import unittest
 from pathlib import Path
+from typing import Any, Awaitable, Callable, Optional
 
 import pundewo as p
 from pundewo import runtime as r
@@ -16,7 +18,7 @@ log = logging.getLogger("pundewo")
 AUDIT = Path(__file__).resolve().parents[3] / "bin" / "pt_audit"
 
 
-def audit(test, file):
+def audit(test: unittest.TestCase, file: Path) -> None:
     """Has the history judged, if the program that does is built."""
     if AUDIT.exists():
         with open(file, "rb") as history:
@@ -24,23 +26,34 @@ def audit(test, file):
         test.assertTrue(judged.stdout.startswith(b"legal"), judged.stdout)
 
 
+# (an event has the fields that the test knows it to have)
+Handler = Callable[[r.Context, Any], Any]
+
+
+def noted(notes: list[Any], value: Any) -> bool:
+    """Notes a value. It returns False, for a lambda that goes on by `or`."""
+    notes.append(value)
+    return False
+
+
 class Doing(r.Behaviour):
     """Does what it is given, and notes what it is told."""
 
-    def __init__(self, handle=None, started=None, notes=None):
+    def __init__(self, handle: Optional[Handler] = None, started: Optional[Callable[[r.Context], Any]] = None,
+                 notes: Optional[list[Any]] = None) -> None:
         self.does, self.starts = handle, started
-        self.notes = [] if notes is None else notes
+        self.notes: list[Any] = [] if notes is None else notes
 
-    def started(self, cx):
+    def started(self, cx: r.Context) -> Any:
         return None if self.starts is None else self.starts(cx)
 
-    def handle(self, cx, event):
+    def handle(self, cx: r.Context, event: Any) -> Any:
         if self.does is None:
             self.notes.append(event)
             return None
         return self.does(cx, event)
 
-    def ended(self, why):
+    def ended(self, why: p.Reason) -> None:
         self.notes.append(why)
 
 
@@ -49,18 +62,18 @@ class Counted:
 
     alive = 0
 
-    def __init__(self):
+    def __init__(self) -> None:
         Counted.alive += 1
         self.taken = 0
 
-    def __del__(self):
+    def __del__(self) -> None:
         Counted.alive -= 1
 
 
 class Echo(r.Behaviour):
     """Answers with what it is asked, or behaves badly."""
 
-    def handle(self, cx, event):
+    def handle(self, cx: r.Context, event: Any) -> Any:
         if isinstance(event, r.Request):
             if event.value == "crash":
                 raise KeyError("asked to")
@@ -75,9 +88,12 @@ class Echo(r.Behaviour):
         return None
 
 
-def quiet(test):
+Test = Callable[[Any], None]
+
+
+def quiet(test: Test) -> Test:
     """What crashes says so in the log, which is no part of a test's output. (and what keeps the log keeps the exceptions)"""
-    def run(self):
+    def run(self: Any) -> None:
         log.disabled = True
         try:
             test(self)
@@ -87,8 +103,9 @@ def quiet(test):
     return run
 
 
-def in_asyncio(test):
-    def run(self):
+def in_asyncio(test: Callable[[Any], Awaitable[None]]) -> Test:
+    """The test is an asyncio program."""
+    def run(self: Any) -> None:
         asyncio.run(asyncio.wait_for(test(self), 60))
     run.__name__ = test.__name__
     return run
@@ -97,34 +114,38 @@ def in_asyncio(test):
 class Stubborn(Doing):
     """Does not exit for SHUTDOWN."""
 
-    def started(self, cx):
+    def started(self, cx: r.Context) -> None:
         cx.trap()
         self.notes.append("started")
 
 
-def wait_until(holds):
+def wait_until(holds: Callable[[], object]) -> None:
     """Waits on this thread until this holds, for half a minute at most."""
     over = time.monotonic() + 30
     while not holds() and time.monotonic() < over:
         time.sleep(0.005)
 
 
-def run_and_stop(run, holds):
+def run_and_stop(run: r.Runtime, holds: Callable[[], object]) -> r.Summary:
     """Runs it on this thread, and stops it from another one when this holds."""
-    stopper = threading.Thread(target=lambda: (wait_until(holds), run.stop()))
+    def stop() -> None:
+        wait_until(holds)
+        run.stop()
+
+    stopper = threading.Thread(target=stop)
     stopper.start()
     summary = run.run(forever=True)
     stopper.join()
     return summary
 
 
-async def until(holds):
+async def until(holds: Callable[[], object]) -> None:
     """Waits in an asyncio program until this holds, for half a minute at most."""
     over = time.monotonic() + 30
     while not holds() and time.monotonic() < over:
         await asyncio.sleep(0.005)
 
 
-def is_watched(run, address, count=1):
+def is_watched(run: r.Runtime, address: r.Address, count: int = 1) -> bool:
     """Whether so many monitors of the process have come to it."""
     return len(run._engine.desks[address.pid.shard].watchers(address.pid) or ()) >= count

@@ -207,9 +207,10 @@ SHAPES: dict[type, list[dict[str, Domain]]] = {
              _item("alive", reference=REF, alive=Flag())],
     v.Pick: [{"name": Only("kind"), "what": WORD}, {"name": Only("from", "exit-of"), "what": PID},
              {"name": Only("down-of", "alive-of"), "what": REF}, {"name": Only("any"), "what": NOTHING}],
-    v.Signal: [{"name": Only(name), "words": Words(*domains)} for name, *domains in (
-        ("message", BODY), ("link", LINK), ("unlink", IDS), ("exit", REASON), ("link-exit", IDS, REASON),
-        ("monitor", REF), ("demonitor", REF), ("down", REF, REASON), ("alive-ask", REF), ("alive-say", REF, Flag()))],
+    v.Signal: [{"name": Only(name), "words": words} for name, words in (
+        ("message", Words(BODY)), ("link", Words(LINK)), ("unlink", Words(IDS)), ("exit", Words(REASON)),
+        ("link-exit", Words(IDS, REASON)), ("monitor", Words(REF)), ("demonitor", Words(REF)), ("down", Words(REF, REASON)),
+        ("alive-ask", Words(REF)), ("alive-say", Words(REF, Flag())))],
     v.Event: [_event("born", peer=A(v.Pid, True), link=A(v.LinkId, True)), _event("said", peer=PID, signal=SIGNAL),
               _event("came", peer=PID, signal=SIGNAL), _event("took", pick=PICK, item=ITEM), _event("flag", on=Flag()),
               _event("left", reason=REASON), _event("refused", peer=PID)],

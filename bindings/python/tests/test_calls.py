@@ -12,6 +12,7 @@ from typing import Any, Callable, Iterator
 from unittest import mock
 
 import pundewo as p
+from pundewo import _library as library
 from domains import BODY, BYTE, CONFIG, LONG, NEXT, PICK, PID, REASON, REF, SHAPES, SHORT, WORD, Domain, Flag, Ints
 
 ROUNDS = 20
@@ -53,7 +54,8 @@ CALLS: dict[str, dict[str, dict[str, Domain]]] = {
         "exit_signal": {"sender": PID, "to": PID, "reason": REASON}, "link": {"p": PID, "to": PID},
         "unlink": {"p": PID, "to": PID}, "monitor": {"watcher": PID, "target": PID},
         "demonitor": {"watcher": PID, "monitor": REF, "flush": FLAG}, "ask_alive": {"p": PID, "target": PID},
-        "keep_losses": {"on": FLAG}, "next_loss": {}, "trap": {"p": PID, "on": FLAG}, "receive": {"p": PID, "pick": PICK}, "exit": {"p": PID, "reason": REASON},
+        "keep_losses": {"on": FLAG}, "next_loss": {}, "trap": {"p": PID, "on": FLAG},
+        "receive": {"p": PID, "pick": PICK}, "exit": {"p": PID, "reason": REASON},
         "turn": {"budget": WORD}, "clock": {}, "alive": {"p": PID}, "knows": {"p": PID}, "pending": {}, "vacant": {},
         "waiting": {"p": PID}, "linked": {"p": PID, "peer": PID}, "event_count": {}, "events": {"start": LONG},
         "links": {"p": PID}, "monitors": {"p": PID}, "watchers": {"p": PID}, "traps": {"p": PID}, "lives_in": {"slot": WORD},
@@ -71,7 +73,8 @@ CALLS: dict[str, dict[str, dict[str, Domain]]] = {
         "spawn": {"desk": DESK, "tag": LONG, "first": NEXT},
         "spawn_child": {"desk": DESK, "parent": PID, "linked": FLAG, "tag": LONG, "first": NEXT},
         "step": {"desk": DESK, "budget": WORD, "most": SHORT}, "answer": {"p": PID, "does": NEXT},
-        "answer_all": {"answers": ANSWERS}, "set_time": {"now": LONG}, "begin_again": {"desk": DESK}, "next_loss": {"desk": DESK},
+        "answer_all": {"answers": ANSWERS}, "set_time": {"now": LONG}, "begin_again": {"desk": DESK},
+        "next_loss": {"desk": DESK},
         "next_time": {},
         "tag": {"p": PID}, "next": {"p": PID}, "queued": {}, "is_idle": {"desk": DESK}, "refused": {}, "close": {},
     },
@@ -96,7 +99,7 @@ class Recorder:
     def __init__(self) -> None:
         self.calls: list[tuple[str, list[Any]]] = []
 
-    def __getattr__(self, name: str) -> Callable[..., int]:
+    def __getattr__(self, name: str) -> Any:
         if name.endswith("give_up"):
             return getattr(LIBRARY, name)
 
@@ -106,15 +109,17 @@ class Recorder:
         return call
 
 
-LIBRARY = p.lib
+LIBRARY = library.lib
 
 
 def back(word: Any) -> Any:
     """The value of what crosses."""
     if hasattr(word, "_obj"):
         return getattr(word._obj, "value", None)
-    kinds = {p.CPid: p.pid_of, p.CRef: p.ref_of, p.CBody: p.body_of, p.CReason: p.reason_of, p.CPick: p.pick_of, p.CNext: p.next_of,
-             p.CConfig: lambda config: p.Config(*(getattr(config, field) for field, _ in config._fields_))}
+    kinds: dict[type, Callable[[Any], Any]] = {
+        library.CPid: library.pid_of, library.CRef: library.ref_of, library.CBody: library.body_of,
+        library.CReason: library.reason_of, library.CPick: library.pick_of, library.CNext: library.next_of,
+        library.CConfig: lambda config: p.Config(*(getattr(config, field) for field, _ in config._fields_))}
     return kinds[type(word)](word) if type(word) in kinds else word
 
 
@@ -140,12 +145,19 @@ class Node:
         self.history = self.quiet.history()
         self.crew = p.Crew(here)
         self.crew.spawn(here, 7)
-        self.at = {"Desk": here, "Crew": self.crew, "Gathered": self.gathered, "Settled": self.settled, "Quiet": self.quiet,
-                   "History": self.history, "": p}
+        self.at: dict[str, Any] = {
+            "Desk": here, "Crew": self.crew, "Gathered": self.gathered, "Settled": self.settled, "Quiet": self.quiet,
+            "History": self.history, "": p}
 
     def call(self, where: str, name: str) -> Callable[..., Any]:
-        call = getattr(self.at[where], name)
-        return (lambda **words: next(call(**words), None)) if name == "events" else call
+        call: Callable[..., Any] = getattr(self.at[where], name)
+        if name != "events":
+            return call
+
+        def first(**words: Any) -> Any:
+            return next(call(**words), None)
+
+        return first
 
     def good(self, where: str, name: str) -> dict[str, Any]:
         """Words with which the call would change the node, or read it."""
@@ -166,7 +178,7 @@ class Node:
 
 
 class Calls(unittest.TestCase):
-    def test_each_parameter_of_each_call_has_a_row(self):
+    def test_each_parameter_of_each_call_has_a_row(self) -> None:
         exported = {name for name in p.__all__ if inspect.isclass(getattr(p, name))}
         values = {kind.__name__ for kind in SHAPES}
         self.assertEqual(exported, ERRORS | values | {where for where in CALLS if where})
@@ -181,7 +193,7 @@ class Calls(unittest.TestCase):
                     fits = isinstance(domain, wanted) if wanted else getattr(domain, "kind", None) is hints[word]
                     self.assertTrue(fits, f"{where}.{name}: {word} has a row of another type")
 
-    def test_what_is_in_range_crosses_whole(self):
+    def test_what_is_in_range_crosses_whole(self) -> None:
         draw, node = random.Random(4), Node()
         for where, name, words in rows():
             if name in ("gather", "answer", "answer_all"):
@@ -204,7 +216,7 @@ class Calls(unittest.TestCase):
         wanted = [word for word in words.values() if not isinstance(word, p.Desk)]
         self.assertEqual(got[:len(wanted)], wanted, f"{where}.{name}")
 
-    def test_what_is_out_of_range_calls_nothing(self):
+    def test_what_is_out_of_range_calls_nothing(self) -> None:
         draw, count = random.Random(5), 0
         node = Node()
         before = node.told()
@@ -240,7 +252,7 @@ def loose(value: Any, **fields: Any) -> Any:
 
 
 class Numbers(unittest.TestCase):
-    def test_a_message_comes_as_it_was_sent(self):
+    def test_a_message_comes_as_it_was_sent(self) -> None:
         draw = random.Random(6)
         (desk,) = p.open_node()
         a, b = desk.spawn(), desk.spawn()
@@ -250,9 +262,9 @@ class Numbers(unittest.TestCase):
             pick = p.Pick("kind", body.kind)
             self.assertEqual(desk.receive(b, pick), p.Item("user", a, body=body))
             took = list(desk.events(desk.event_count() - 1))[0]
-            self.assertEqual((took.pick, took.item.body), (pick, body))
+            self.assertEqual((took.pick, took.item and took.item.body), (pick, body))
 
-    def test_an_exit_reason_comes_as_it_was_told(self):
+    def test_an_exit_reason_comes_as_it_was_told(self) -> None:
         draw = random.Random(7)
         (desk,) = p.open_node()
         watcher = desk.spawn()
@@ -264,7 +276,7 @@ class Numbers(unittest.TestCase):
             desk.turn()
             self.assertEqual(desk.receive(watcher), p.Item("down", pid, monitor, reason))
 
-    def test_settings_at_their_bounds(self):
+    def test_settings_at_their_bounds(self) -> None:
         for config in (p.Config(1, 1, 1, 0), p.Config(2**16, 2**32 - 1, 2**16, 2**62)):
             (desk,) = p.open_node(1, config)
             self.assertEqual(desk.clock(), config.start)
@@ -280,39 +292,44 @@ class Numbers(unittest.TestCase):
                 p.open_node(count)
             self.assertEqual(caught.exception.code, p.Code.BAD_DESKS)
 
-    def test_a_value_of_a_subclass_is_checked_as_it_crosses(self):
+    def test_a_value_of_a_subclass_is_checked_as_it_crosses(self) -> None:
         (desk,) = p.open_node()
         pid = desk.spawn()
         self.assertTrue(desk.alive(loose(pid)))
         for bad in (loose(pid, shard=256), loose(pid, slot=2**32), loose(pid, version=1.0)):
-            for call in (lambda: desk.alive(bad), lambda: desk.send(pid, pid, p.Body(1, 1, bad)),
-                         lambda: desk.receive(pid, p.Pick("from", bad))):
+            calls: list[Callable[[], object]] = [
+                lambda: desk.alive(bad), lambda: desk.send(pid, pid, p.Body(1, 1, bad)),
+                lambda: desk.receive(pid, p.Pick("from", bad))]
+            for call in calls:
                 self.assertRaises((TypeError, ValueError), call)
         monitor = loose(p.Ref(0, 1), number=2**64)
-        for call in (lambda: desk.demonitor(pid, monitor), lambda: desk.receive(pid, p.Pick("down-of", monitor)),
-                     lambda: desk.send(pid, pid, loose(p.Body(1, 1), num=2**63)),
-                     lambda: desk.exit(pid, loose(p.NORMAL, name="crash")),
-                     lambda: desk.receive(pid, loose(p.ANY, what=1)),
-                     lambda: p.open_node(1, loose(p.Config(), lane=-1))):
+        calls = [
+            lambda: desk.demonitor(pid, monitor), lambda: desk.receive(pid, p.Pick("down-of", monitor)),
+            lambda: desk.send(pid, pid, loose(p.Body(1, 1), num=2**63)), lambda: desk.exit(pid, loose(p.NORMAL, name="crash")),
+            lambda: desk.receive(pid, loose(p.ANY, what=1)), lambda: p.open_node(1, loose(p.Config(), lane=-1))]
+        for call in calls:
             self.assertRaises((TypeError, ValueError), call)
         self.assertEqual(desk.clock(), 1)
 
-    def test_a_desk_is_made_of_a_handle_alone(self):
-        for bad in (1, None, object()):
+    def test_a_desk_is_made_of_a_handle_alone(self) -> None:
+        wrong: list[Any] = [1, None, object()]
+        for bad in wrong:
             with self.assertRaisesRegex(TypeError, "handle is .* and must be of type CHandle"):
                 p.Desk(bad, None, 0, 1)
 
-    def test_a_fault_has_a_code(self):
-        for bad in (1, "full", None, True):
+    def test_a_fault_has_a_code(self) -> None:
+        wrong: list[Any] = [1, "full", None, True]
+        for bad in wrong:
             with self.assertRaisesRegex(TypeError, "code is .* and must be of type Code"):
                 p.Fault(bad)
 
-    def test_a_fault_has_pids(self):
-        for bad in (1, [p.Pid(0, 0, 1)], ("<0.0.1>",), (p.Pid(0, 0, 1), (0, 0, 1)), (None,)):
+    def test_a_fault_has_pids(self) -> None:
+        wrong: list[Any] = [1, [p.Pid(0, 0, 1)], ("<0.0.1>",), (p.Pid(0, 0, 1), (0, 0, 1)), (None,)]
+        for bad in wrong:
             with self.assertRaisesRegex(TypeError, "pids.* is .* and must be of type "):
                 p.Fault(p.Code.GONE, "send", bad)
 
-    def test_a_fault_is_pickled(self):
+    def test_a_fault_is_pickled(self) -> None:
         fault = pickle.loads(pickle.dumps(p.Unsettled(p.Code.MEMORY)))
         self.assertEqual((type(fault), fault.code, str(fault)), (p.Unsettled, p.Code.MEMORY, "memory"))
 

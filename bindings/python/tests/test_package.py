@@ -9,13 +9,14 @@ import threading
 import unittest
 from pathlib import Path
 from types import SimpleNamespace
+from typing import Any, Callable
 from unittest import mock
 
 import pundewo as p
 
 
 class Faults(unittest.TestCase):
-    def test_a_fault_names_the_call_and_its_processes(self):
+    def test_a_fault_names_the_call_and_its_processes(self) -> None:
         (desk,) = p.open_node()
         a, b = desk.spawn(), desk.spawn()
         desk.exit(a)
@@ -25,14 +26,14 @@ class Faults(unittest.TestCase):
         self.assertEqual((fault.code, fault.call, fault.pids), (p.Code.GONE, "send", (a, b)))
         self.assertEqual(str(fault), "send(<0.0.1>, <0.1.1>): gone")
 
-    def test_a_call_that_fails_without_a_process_names_itself(self):
+    def test_a_call_that_fails_without_a_process_names_itself(self) -> None:
         with self.assertRaises(p.Fault) as caught:
             p.open_node(0)
         self.assertEqual(str(caught.exception), "open(): bad_desks")
 
 
 class Handles(unittest.TestCase):
-    def test_a_handle_is_printed(self):
+    def test_a_handle_is_printed(self) -> None:
         here, there = p.open_node(2)
         gathered = p.gather([here, there])
         self.assertEqual((repr(here), repr(there)), ("<Desk 0 of 2, empty>", "<Desk 1 of 2, empty>"))
@@ -41,7 +42,7 @@ class Handles(unittest.TestCase):
         self.assertEqual([repr(it) for it in (gathered, quiet, history)], ["<Gathered, empty>", "<Quiet>", "<History>"])
         self.assertEqual([repr(it) for it in quiet.resume()], ["<Desk 0 of 2>", "<Desk 1 of 2>"])
 
-    def test_a_history_is_gone_through(self):
+    def test_a_history_is_gone_through(self) -> None:
         (desk,) = p.open_node()
         pids = [desk.spawn() for _ in range(3)]
         history = p.gather([desk]).history()
@@ -51,11 +52,11 @@ class Handles(unittest.TestCase):
 
 
 class Threads(unittest.TestCase):
-    def test_a_desk_that_another_thread_uses_is_busy(self):
+    def test_a_desk_that_another_thread_uses_is_busy(self) -> None:
         (desk,) = p.open_node()
         entered, leave = threading.Event(), threading.Event()
 
-        def slow(*_):
+        def slow(*_: Any) -> Any:
             entered.set()
             leave.wait(60)
             return 0
@@ -64,14 +65,15 @@ class Threads(unittest.TestCase):
             other = threading.Thread(target=desk.clock)
             other.start()
             self.assertTrue(entered.wait(60))
-            for call in (desk.clock, lambda: p.gather([desk])):
+            calls: list[Callable[[], object]] = [desk.clock, lambda: p.gather([desk])]
+            for call in calls:
                 with self.assertRaisesRegex(p.Busy, "^a Desk is in use by another thread"):
                     call()
             leave.set()
             other.join()
         self.assertEqual(desk.clock(), 0)
 
-    def test_a_desk_may_change_threads(self):
+    def test_a_desk_may_change_threads(self) -> None:
         (desk,) = p.open_node()
         threads = [threading.Thread(target=lambda: pids.append(desk.spawn())) for _ in range(20)]
         pids: list[p.Pid] = []
@@ -82,13 +84,13 @@ class Threads(unittest.TestCase):
 
 
 class Package(unittest.TestCase):
-    def test_without_its_library_it_says_what_to_do(self):
+    def test_without_its_library_it_says_what_to_do(self) -> None:
         at = {**os.environ, "PUNDEWO_SO": "/nowhere/libpundewo.so", "PYTHONPATH": str(Path(p.__file__).parent.parent)}
         ran = subprocess.run([sys.executable, "-c", "import pundewo"], env=at, capture_output=True, text=True, check=False)
         self.assertEqual(ran.returncode, 1)
         self.assertRegex(ran.stderr.splitlines()[-1], "^ImportError: pundewo: the shared library does not load .*build.sh")
 
-    def test_it_has_a_version_and_types(self):
+    def test_it_has_a_version_and_types(self) -> None:
         self.assertRegex(p.__version__, r"^\d+\.\d+\.\d+$")
         self.assertTrue(p.BUILD.startswith(f"pundewo {p.__version__}, "))
         self.assertTrue(Path(p.__file__).with_name("py.typed").exists())

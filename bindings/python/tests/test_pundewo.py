@@ -3,75 +3,84 @@
 import ctypes as c
 import os
 import unittest
+from typing import Any, Callable
 
 import pundewo as p
 import pundewo.values as v
 from pundewo import Code, Config, Fault, Pick, Pid, Reason, Ref
+from pundewo._library import (
+    CAccount, CAnswer, CBody, CConfig, CEvent, CIds, CItem, CJob, CLeftOver, CLoss, CNext, CPick,
+    CPid, CReason, CRef, CSignal, CTurned, lib,
+)
 
 
-def pid(word):
+# Calls by their names in the table, of a node's value and the words behind the name.
+Calls = dict[str, Callable[[Any, Any], Any]]
+
+
+def pid(word: Any) -> Any:
     return Pid(*map(int, word.strip("<>").split(".")))
 
 
-def ref(word):
+def ref(word: Any) -> Any:
     return Ref(*map(int, word.strip("#").split(".")))
 
 
-def reason(word):
+def reason(word: Any) -> Any:
     return Reason("other", int(word[6:])) if word.startswith("other:") else Reason(word)
 
 
-def pick(words):
+def pick(words: Any) -> Any:
     name, *what = words
-    read = {"kind": int, "from": pid, "exit-of": pid, "down-of": ref, "alive-of": ref}
+    read: dict[str, Callable[[str], Any]] = {"kind": int, "from": pid, "exit-of": pid, "down-of": ref, "alive-of": ref}
     return Pick(name, read[name](what[0])) if name in read else p.ANY
 
 
-def text(value):
+def text(value: Any) -> Any:
     return "none" if value is None else str(value).lower() if isinstance(value, bool) else str(value)
 
 
-def joined(values, between="; "):
+def joined(values: Any, between: Any = "; ") -> Any:
     return between.join(map(str, values)) or "nothing"
 
 
-def refused(code):
+def refused(code: Any) -> Any:
     """The text of a refusal."""
     name = code.name.lower()
     return name.replace("bad_", "bounds ", 1) if name.startswith("bad_") else name
 
 
-def turned(turn):
+def turned(turn: Any) -> Any:
     why = "" if turn.stopped is None else f", then {refused(turn.stopped)}"
     return f"posted {turn.posted} handled {turn.handled}{why}"
 
 
-def account(told):
+def account(told: Any) -> Any:
     if told is None:
         return None
     how = "alive" if told.ended is None else f"ended {told.ended}"
     return f"{how} arrived {told.arrived} taken {told.taken} waiting {told.waiting}"
 
 
-def ended(told):
+def ended(told: Any) -> Any:
     return None if told is None else told.ended
 
 
-def event(events, words):
+def event(events: Any, words: Any) -> Any:
     desk, stamp = map(int, words)
     return next((event for event in events if (event.desk, event.stamp) == (desk, stamp)), None)
 
 
-def waiting(desk, process):
+def waiting(desk: Any, process: Any) -> Any:
     items = desk.waiting(process)
     return None if items is None else joined(items)
 
 
-def body(words):
+def body(words: Any) -> Any:
     return p.Body(int(words[0]), int(words[1]), pid(words[3]) if words[2:] else None)
 
 
-ON_DESK = {
+ON_DESK: Calls = {
     "spawn": lambda d, w: d.spawn(),
     "spawn_child": lambda d, w: d.spawn_child(pid(w[0]), w[1] == "true"),
     "send": lambda d, w: d.send(pid(w[0]), pid(w[1]), body(w[2:])) or "ok",
@@ -95,13 +104,13 @@ ON_DESK = {
     "linked": lambda d, w: d.linked(pid(w[0]), pid(w[1])),
     "waiting": lambda d, w: waiting(d, pid(w[0])),
 }
-ON_HISTORY = {
+ON_HISTORY: Calls = {
     "events": lambda h, w: len(h),
     "event": lambda h, w: event(h.events(), w),
     "history": lambda h, w: joined(h.events()),
     "left_over": lambda h, w: joined(h.left_over()),
 }
-ON_QUIET = {
+ON_QUIET: Calls = {
     "pids": lambda q, w: joined(q.pids(), " "),
     "account": lambda q, w: account(q.account(pid(w[0]))),
     "ended": lambda q, w: ended(q.account(pid(w[0]))),
@@ -112,7 +121,7 @@ ON_QUIET = {
 }
 
 
-def turn_each(desks, budget):
+def turn_each(desks: Any, budget: Any) -> Any:
     """One turn of each desk: what they did together, and the first that was stopped."""
     turns = [desk.turn(budget) for desk in desks]
     stops = [(number, turn.stopped) for number, turn in enumerate(turns) if turn.stopped is not None]
@@ -120,7 +129,7 @@ def turn_each(desks, budget):
     return p.Turned(sum(turn.posted for turn in turns), sum(turn.handled for turn in turns), stopped), place
 
 
-def turn_until_still(desks, budget):
+def turn_until_still(desks: Any, budget: Any) -> Any:
     """Turns of all desks, until two rounds have handled nothing: what one desk posts may be for one before it."""
     handled = still = 0
     while still < 2:
@@ -135,17 +144,17 @@ def turn_until_still(desks, budget):
 class Player:
     """A node in one of its states: `node` is None, the desks, a Gathered or a Quiet."""
 
-    def __init__(self):
-        self.node = None
+    def __init__(self) -> None:
+        self.node: Any = None
 
-    def make(self, name, words):
+    def make(self, name: Any, words: Any) -> Any:
         """Makes a call, and returns the text of its answer."""
         try:
             return text(self.answer(name, words))
         except Fault as fault:
             return refused(fault.code)
 
-    def answer(self, name, words):
+    def answer(self, name: Any, words: Any) -> Any:
         if name == "open":
             count, *settings = map(int, words)
             self.node = p.open_node(count, Config(*settings))
@@ -156,15 +165,15 @@ class Player:
             return self.on_quiet(name, words)
         return self.gather() if name == "gather" else self.on_desks(name, words)
 
-    def gather(self):
+    def gather(self) -> Any:
         self.node = p.gather(self.node)
         return f"left-over {len(list(self.node.history().left_over()))}"
 
-    def settle(self):
+    def settle(self) -> Any:
         self.node = self.node.settle()
         return f"handled {self.node.handled()}"
 
-    def on_quiet(self, name, words):
+    def on_quiet(self, name: Any, words: Any) -> Any:
         if name == "resume":
             self.node = self.node.resume()
             return "ok"
@@ -172,7 +181,7 @@ class Player:
             return ON_QUIET[name](self.node, words)
         return ON_HISTORY[name](self.node.history(), words)
 
-    def on_desks(self, name, words):
+    def on_desks(self, name: Any, words: Any) -> Any:
         if name == "turn_all":
             return turned(turn_each(self.node, int(words[0]))[0])
         if name == "turn_until_still":
@@ -182,7 +191,7 @@ class Player:
         number = pid(words[0]).shard if words[0].startswith("<") else int(words[0])
         return ON_DESK[name](self.node[number], words)
 
-    def close(self):
+    def close(self) -> None:
         """Gathers and settles what is left of the node. A clock at its limit takes no more receipts."""
         if self.node is None or isinstance(self.node, p.Quiet):
             return
@@ -196,7 +205,7 @@ class Player:
 
 
 class Rows(unittest.TestCase):
-    def test_rows_answer_as_they_do_in_rattle(self):
+    def test_rows_answer_as_they_do_in_rattle(self) -> None:
         player, row, rows, answers = Player(), "", 0, 0
         with open(os.environ["PUNDEWO_ROWS"]) as table:
             for line in table.read().splitlines():
@@ -215,7 +224,7 @@ class Rows(unittest.TestCase):
 
 
 class About(unittest.TestCase):
-    def numbers(self, value, told):
+    def numbers(self, value: Any, told: Any) -> Any:
         """The numbers of a sample's fields, in order; a bool is true, and counts as the place that it stands at."""
         if isinstance(value, c.Structure):
             for name, *_ in value._fields_:
@@ -227,27 +236,27 @@ class About(unittest.TestCase):
             told.append(value)
         return told
 
-    def test_fields(self):
-        samples = {"event": p.CEvent, "left_over": p.CLeftOver, "turned": p.CTurned, "account": p.CAccount, "loss": p.CLoss,
-                   "config": p.CConfig, "job": p.CJob, "answer": p.CAnswer}
+    def test_fields(self) -> None:
+        samples = {"event": CEvent, "left_over": CLeftOver, "turned": CTurned, "account": CAccount, "loss": CLoss,
+                   "config": CConfig, "job": CJob, "answer": CAnswer}
         for name, kind in samples.items():
             sample = kind()
-            getattr(p.lib, f"pt_about_{name}")(c.byref(sample))
+            getattr(lib, f"pt_about_{name}")(c.byref(sample))
             told = self.numbers(sample, [])
             self.assertEqual(told, list(range(1, len(told) + 1)), name)
 
-    def test_sizes_and_codes(self):
-        kinds = [p.CPid, p.CRef, p.CIds, p.CReason, p.CBody, p.CItem, p.CPick, p.CSignal, p.CEvent, p.CLeftOver,
-                 p.CTurned, p.CAccount, p.CConfig, p.CNext, p.CJob, p.CAnswer, p.CLoss]
+    def test_sizes_and_codes(self) -> None:
+        kinds = [CPid, CRef, CIds, CReason, CBody, CItem, CPick, CSignal, CEvent, CLeftOver,
+                 CTurned, CAccount, CConfig, CNext, CJob, CAnswer, CLoss]
         sizes = (c.c_size_t * (len(kinds) + 1))()
-        p.lib.pt_about_sizes(sizes)
+        lib.pt_about_sizes(sizes)
         self.assertEqual(list(sizes)[:-1], [c.sizeof(kind) for kind in kinds])
         wanted = [code.value for code in Code]
         for names in (v.REASONS + ("other",), v.ITEMS, v.PICKS, v.SIGNALS, v.EVENTS, v.NEXTS, v.JOBS):
             wanted += range(len(names))
         self.assertEqual(sizes[-1], 4 * len(wanted))
         codes = (c.c_uint32 * len(wanted))()
-        p.lib.pt_about_codes(codes)
+        lib.pt_about_codes(codes)
         self.assertEqual(list(codes), wanted)
 
 
@@ -256,23 +265,23 @@ class BadCodes(unittest.TestCase):
 
     CODES = (6, 7, 255, 256, 65536, 2**31, 2**32 - 1)
 
-    def setUp(self):
+    def setUp(self) -> None:
         (self.desk,) = p.open_node()
         self.p, self.other = self.desk.spawn(), self.desk.spawn()
         self.desk.send(self.other, self.p, p.Body(1, 7))
         self.desk.turn()
 
-    def state(self):
+    def state(self) -> Any:
         return self.desk.clock(), self.desk.pending(), joined(self.desk.events()), waiting(self.desk, self.p)
 
-    def calls(self, code, one, target):
+    def calls(self, code: Any, one: Any, target: Any) -> Any:
         """Each call with a code, of the process `one`."""
-        reason, pick = p.CReason(code, 1), p.CPick(code=code, kind=1)
-        one, target = p.CPid(*one), p.CPid(*target)
-        return [(p.lib.pt_receive, one, pick, c.byref(p.CItem())), (p.lib.pt_exit_signal, one, target, reason),
-                (p.lib.pt_exit, one, reason)]
+        reason, pick = CReason(code, 1), CPick(code=code, kind=1)
+        one, target = CPid(*one), CPid(*target)
+        return [(lib.pt_receive, one, pick, c.byref(CItem())), (lib.pt_exit_signal, one, target, reason),
+                (lib.pt_exit, one, reason)]
 
-    def test_each_call_refuses_a_bad_code(self):
+    def test_each_call_refuses_a_bad_code(self) -> None:
         before = self.state()
         for code in self.CODES:
             for call, *words in self.calls(code, self.p, self.other):
@@ -282,7 +291,7 @@ class BadCodes(unittest.TestCase):
                 self.assertRegex(str(caught.exception), r"^(receive|exit_signal|exit)\(.*\): bad_code$")
                 self.assertEqual(self.state(), before)
 
-    def test_it_comes_before_what_the_desk_refuses_and_behind_an_empty_handle(self):
+    def test_it_comes_before_what_the_desk_refuses_and_behind_an_empty_handle(self) -> None:
         strange = Pid(9, 0, 1)
         for code in self.CODES:
             for call, *words in self.calls(code, strange, strange):
@@ -293,7 +302,7 @@ class BadCodes(unittest.TestCase):
 
 
 class Handles(unittest.TestCase):
-    def test_a_closed_desk_is_empty(self):
+    def test_a_closed_desk_is_empty(self) -> None:
         (desk,) = p.open_node()
         desk.spawn()
         desk.close()
@@ -302,9 +311,10 @@ class Handles(unittest.TestCase):
             desk.spawn()
         self.assertEqual(caught.exception.code, Code.EMPTY)
 
-    def test_what_is_not_one_node_is_not_gathered(self):
+    def test_what_is_not_one_node_is_not_gathered(self) -> None:
         one, other = p.open_node(2), p.open_node(2)
-        for desks in ([], one[:1], [one[1], one[0]], [one[0], other[1]], [one[0], one[0]]):
+        wrong: list[list[p.Desk]] = [[], one[:1], [one[1], one[0]], [one[0], other[1]], [one[0], one[0]]]
+        for desks in wrong:
             with self.assertRaises(ValueError):
                 p.gather(desks)
         self.assertEqual(p.gather(one).desks(), 2)
@@ -312,7 +322,7 @@ class Handles(unittest.TestCase):
             p.gather(one)
         self.assertEqual(caught.exception.code, Code.EMPTY)
 
-    def test_what_a_desk_loses_is_told_once(self):
+    def test_what_a_desk_loses_is_told_once(self) -> None:
         (desk,) = p.open_node()
         a, b, d = desk.spawn(), desk.spawn(), desk.spawn()
         self.assertIsNone(desk.next_loss())
@@ -325,10 +335,11 @@ class Handles(unittest.TestCase):
         desk.exit(b, Reason("other", 7))
         desk.exit_signal(a, d, p.KILL)
         desk.turn()
-        told = [(loss.pid, loss.reason, [item.body.num for item in loss.items]) for loss in iter(desk.next_loss, None)]
+        told = [(loss.pid, loss.reason, [item.body and item.body.num for item in loss.items])
+                for loss in iter(desk.next_loss, None)]
         self.assertEqual(told, [(b, Reason("other", 7), [1, 2]), (b, None, [4]), (d, p.KILLED, [3])])
 
-    def test_a_crew_is_told_why_a_signal_ended_a_process(self):
+    def test_a_crew_is_told_why_a_signal_ended_a_process(self) -> None:
         (desk,) = p.open_node()
         crew, killer = p.Crew(desk), desk.spawn()
         known, unknown = (crew.spawn(desk, tag, p.Next("wait", p.ANY)) for tag in (1, 2))
@@ -342,7 +353,7 @@ class Handles(unittest.TestCase):
         jobs, _ = crew.step(desk)
         self.assertEqual({job.tag: job.reason for job in jobs}, {1: Reason("other", 7), 2: p.NOPROC})
 
-    def test_a_history_is_read_and_accounts_told(self):
+    def test_a_history_is_read_and_accounts_told(self) -> None:
         here, there = p.open_node(2)
         a, b = here.spawn(), there.spawn()
         here.send(a, b, p.Body(1, 7, a))
@@ -355,7 +366,7 @@ class Handles(unittest.TestCase):
         self.assertEqual(quiet.account(b), p.Account(None, 1, 0, 1))
         self.assertIsNone(quiet.account(Pid(0, 5, 1)))
 
-    def test_a_node_goes_on(self):
+    def test_a_node_goes_on(self) -> None:
         desks = p.open_node(2)
         a = desks[0].spawn()
         quiet = p.gather(desks).settle()
@@ -366,7 +377,7 @@ class Handles(unittest.TestCase):
         self.assertEqual(caught.exception.code, Code.EMPTY)
         self.assertEqual(p.gather(more).desks(), 2)
 
-    def test_a_node_goes_on_without_a_list_of_its_pids(self):
+    def test_a_node_goes_on_without_a_list_of_its_pids(self) -> None:
         desks = p.open_node(2)
         a, b = desks[0].spawn(), desks[1].spawn()
         desks[0].exit(a, p.NORMAL)
@@ -380,7 +391,7 @@ class Handles(unittest.TestCase):
         quiet = p.gather(more).settle_unlisted().into_quiet()
         self.assertEqual(list(quiet.pids()), [a, b])
 
-    def test_a_process_of_another_desk_is_gone(self):
+    def test_a_process_of_another_desk_is_gone(self) -> None:
         (desk,) = p.open_node()
         other = Pid(1, 0, 1)
         self.assertEqual((desk.number, desk.alive(other), desk.knows(other)), (0, False, False))
@@ -388,7 +399,7 @@ class Handles(unittest.TestCase):
             desk.receive(other)
         self.assertEqual(caught.exception.code, Code.GONE)
 
-    def test_what_a_process_has(self):
+    def test_what_a_process_has(self) -> None:
         here, there = p.open_node(2)
         a, b, c = here.spawn(), here.spawn(), there.spawn()
         here.link(a, b)
@@ -396,7 +407,7 @@ class Handles(unittest.TestCase):
         monitors = [(here.monitor(a, target), target) for target in (b, c)]
         for desk in (here, there):
             desk.turn()
-        (peer, ids), = here.links(a)
+        ((peer, ids),) = here.links(a) or []
         self.assertEqual((peer, here.links(b)), (b, [(a, ids)]))
         self.assertEqual((here.linked(a, b), here.linked(b, a)), (ids, ids))
         self.assertEqual((here.monitors(a), here.monitors(b)), (monitors, []))
@@ -410,7 +421,7 @@ class Handles(unittest.TestCase):
         here.turn()
         self.assertEqual((here.links(a), here.links(b), here.lives_in(1)), ([], None, None))
 
-    def test_who_is_woken(self):
+    def test_who_is_woken(self) -> None:
         (desk,) = p.open_node()
         a, b = desk.spawn(), desk.spawn()
         desk.send(a, b, p.Body(1, 1))

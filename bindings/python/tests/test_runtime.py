@@ -10,26 +10,27 @@ import unittest
 import weakref
 from pathlib import Path
 from unittest import mock
+from typing import Any, Callable
 
 import pundewo as p
 from pundewo import runtime as r
 
-from behaviours import Counted, Doing, Echo, Stubborn, audit, in_asyncio, quiet, run_and_stop, until
+from behaviours import Counted, Doing, Echo, Stubborn, audit, in_asyncio, noted, quiet, run_and_stop, until
 
 
 class Handlers(unittest.TestCase):
-    def test_messages_come_once_and_in_order(self):
+    def test_messages_come_once_and_in_order(self) -> None:
         for desks in (1, 3):
-            got = []
+            got: list[Any] = []
 
-            def take(cx, event):
+            def take(cx: r.Context, event: Any) -> Any:
                 got.append(event.value)
                 return r.Next.stop() if len(got) == 1000 else None
 
             run = r.Runtime(desks)
             receiver = run.spawn(Doing(take), desks - 1)
 
-            def start(cx):
+            def start(cx: r.Context) -> Any:
                 for number in range(1000):
                     self.assertTrue(cx.send(receiver, number))
                 return r.Next.stop()
@@ -39,10 +40,10 @@ class Handlers(unittest.TestCase):
             self.assertEqual(got, list(range(1000)))
             self.assertEqual((summary.spawned, summary.crashes, summary.killed), (2, 0, ()))
 
-    def test_a_process_waits_picks_proceeds_and_stops(self):
-        told = []
+    def test_a_process_waits_picks_proceeds_and_stops(self) -> None:
+        told: list[Any] = []
 
-        def handle(cx, event):
+        def handle(cx: r.Context, event: Any) -> Any:
             told.append(event)
             if event is r.TIMEOUT:
                 return r.Next.proceed()
@@ -61,17 +62,17 @@ class Handlers(unittest.TestCase):
         self.assertEqual(behaviour.notes, [p.Reason("other", 9)])
 
     @quiet
-    def test_a_crash_is_one_down_and_one_exit_with_its_text(self):
+    def test_a_crash_is_one_down_and_one_exit_with_its_text(self) -> None:
         for desks in (1, 2):
             watcher, linked, other = Doing(), Doing(), Doing()
             run = r.Runtime(desks, patience=0.05)
             victim, begun = Echo(), []
 
-            def start(cx):
+            def start(cx: r.Context) -> None:
                 address = cx.spawn_on(desks - 1, victim, linked=False)
                 cx.monitor(address)
 
-                def ready(it, traps=False):
+                def ready(it: Any, traps: bool = False) -> None:
                     it.link(address)
                     it.send(address, "both are linked")
                     begun.append(traps)
@@ -81,7 +82,7 @@ class Handlers(unittest.TestCase):
                 cx.spawn_on(0, Doing(linked.handle, lambda it: ready(it, it.trap())))
                 cx.spawn_on(0, Doing(other.handle, ready, other.notes))
 
-            def handle(cx, event):
+            def handle(cx: r.Context, event: Any) -> Any:
                 watcher.handle(cx, event)
                 return r.Next.wait(0.2) if isinstance(event, r.Down) else run.stop()
 
@@ -93,7 +94,7 @@ class Handlers(unittest.TestCase):
             self.assertEqual(other.notes, [r.CRASH])  # it does not trap exits
             self.assertEqual(summary.crashes, 1)
 
-    def test_what_a_handler_must_not_return_is_a_crash(self):
+    def test_what_a_handler_must_not_return_is_a_crash(self) -> None:
         run = r.Runtime()
         behaviour = Doing(lambda cx, event: 7)
         address = run.spawn(behaviour)
@@ -105,20 +106,20 @@ class Handlers(unittest.TestCase):
         self.assertEqual(behaviour.notes, [r.CRASH])
 
     @quiet
-    def test_what_is_raised_at_the_end_stops_nothing(self):
+    def test_what_is_raised_at_the_end_stops_nothing(self) -> None:
         class Bad(Doing):
-            def ended(self, why):
+            def ended(self, why: p.Reason) -> None:
                 raise ValueError("at the end")
 
         run = r.Runtime()
         run.spawn(Bad(lambda cx, event: r.Next.stop())).send(0)
         self.assertEqual(run.run().spawned, 1)
 
-    def test_the_reason_of_each_exit_is_told(self):
+    def test_the_reason_of_each_exit_is_told(self) -> None:
         killed, told, late = Doing(), Doing(), Doing()
         run = r.Runtime(2)
 
-        def start(cx):
+        def start(cx: r.Context) -> Any:
             cx.exit(cx.spawn(killed), p.KILL)
             cx.exit(cx.spawn_on(1, told), p.Reason("other", 4))
             cx.exit(cx.spawn_on(1, late))
@@ -128,25 +129,26 @@ class Handlers(unittest.TestCase):
         run.run()
         self.assertEqual([killed.notes, told.notes, late.notes], [[p.KILLED], [p.Reason("other", 4)], [p.SHUTDOWN]])
 
-    def test_a_process_that_has_exited_is_monitored_and_sent_to(self):
+    def test_a_process_that_has_exited_is_monitored_and_sent_to(self) -> None:
         for same in (True, False):
-            told = []
+            told: list[Any] = []
+            monitors: list[p.Ref] = []
 
-            def handle(cx, event):
+            def handle(cx: r.Context, event: Any) -> Any:
                 told.append(event)
-                if isinstance(event, r.Down) and event.monitor == handle.waits:
+                if isinstance(event, r.Down) and event.monitor == monitors[-1]:
                     return r.Next.stop()
                 if event.value == "monitor":
                     self.assertFalse(cx.send(dead, 1))
                     cx.demonitor(cx.monitor(dead))
-                    handle.first, handle.waits = cx.monitor(dead), cx.monitor(dead)
-                    return r.Next.wait(pick=p.Pick("down-of", handle.waits))
+                    monitors.extend([cx.monitor(dead), cx.monitor(dead)])
+                    return r.Next.wait(pick=p.Pick("down-of", monitors[-1]))
 
             run = r.Runtime(2)
             dead = run.spawn(Doing(started=lambda cx: r.Next.stop()), 0)
             watcher = run.spawn(Doing(handle), 0 if same else 1)
 
-            def start(cx):
+            def start(cx: r.Context) -> Any:
                 cx.send_after(0.05, watcher, "monitor")
                 return r.Next.stop()
 
@@ -154,38 +156,41 @@ class Handlers(unittest.TestCase):
             run.run()
             # the second monitor was waited for, so its news came before that of the first
             self.assertEqual([it for it in told if isinstance(it, r.Down)],
-                             [r.Down(handle.waits, dead.pid, p.NOPROC, None)])
+                             [r.Down(monitors[-1], dead.pid, p.NOPROC, None)])
             self.assertFalse(dead.send(1))
 
     @quiet
     @in_asyncio
-    async def test_no_exception_of_a_handler_but_an_interrupt_halts_the_run(self):
+    async def test_no_exception_of_a_handler_but_an_interrupt_halts_the_run(self) -> None:
         class Strange(Exception):
-            def __str__(self):
+            def __str__(self) -> str:
                 raise ValueError("no text")
 
         async with r.Runtime() as run, run.mailbox() as mailbox:
             for raised in (asyncio.CancelledError(), GeneratorExit(), RecursionError("deep"), StopIteration(), Strange()):
-                def handle(cx, event, raised=raised):
+                def handle(cx: r.Context, event: Any, raised: Any = raised) -> None:
                     raise raised
 
                 address = run.spawn(Doing(handle))
                 mailbox.monitor(address)
                 await asyncio.sleep(0.01)
                 address.send(0)
-                down = await mailbox.get(5)
+                down: Any = await mailbox.get(5)
                 self.assertEqual(down.reason, r.CRASH)
                 self.assertIn(type(raised).__name__, down.crash)
 
-    def test_runs_send_each_other_messages_and_nothing_else(self):
+    def test_runs_send_each_other_messages_and_nothing_else(self) -> None:
         one, two = r.Runtime(), r.Runtime(2)
-        got, refused = [], []
-        far = two.spawn(Doing(lambda cx, event: got.append(event.value) or (r.Next.stop() if len(got) == 2 else None)), 1)
+        got: list[Any] = []
+        refused: list[Any] = []
+        far = two.spawn(Doing(lambda cx, event: noted(got, event.value) or (r.Next.stop() if len(got) == 2 else None)), 1)
 
-        def start(cx):
+        def start(cx: r.Context) -> Any:
             cx.send(far, "at once")
             cx.send_after(0.01, far, "later")
-            for work in (cx.monitor, cx.link, cx.unlink, cx.exit, lambda it: cx.call(it, 1)):
+            works: list[Callable[[r.Address], object]] = [
+                cx.monitor, cx.link, cx.unlink, cx.exit, lambda it: cx.call(it, 1)]
+            for work in works:
                 with self.assertRaises(ValueError):
                     work(far)
                 refused.append(work)
@@ -196,39 +201,39 @@ class Handlers(unittest.TestCase):
         two.run()
         self.assertEqual((got, len(refused)), (["at once", "later"], 5))
 
-    def test_links_are_taken_away(self):
+    def test_links_are_taken_away(self) -> None:
         one, two = Doing(), Doing()
         run = r.Runtime()
 
-        def start(cx):
+        def start(cx: r.Context) -> None:
             child = cx.spawn(two, linked=True)
             cx.unlink(child)
             cx.exit(child)
             cx.send_after(0.05, cx.me, "still here")
 
-        run.spawn(Doing(lambda cx, event: one.notes.append(event.value) or r.Next.stop(), start))
+        run.spawn(Doing(lambda cx, event: noted(one.notes, event.value) or r.Next.stop(), start))
         run.run()
         self.assertEqual((one.notes, two.notes), (["still here"], [p.SHUTDOWN]))
 
     @quiet
-    def test_what_a_behaviour_has_goes_with_its_process(self):
-        gone = []
+    def test_what_a_behaviour_has_goes_with_its_process(self) -> None:
+        gone: list[Any] = []
 
         class Having(Echo):
-            def __init__(self):
+            def __init__(self) -> None:
                 self.has = Counted()
                 weakref.finalize(self, gone.append, 1)
 
         Counted.alive = 0
         run = r.Runtime()
 
-        def start(cx):
+        def start(cx: r.Context) -> Any:
             cx.send(cx.spawn(Having()), "crash")
             cx.exit(cx.spawn(Having()), p.KILL)
             cx.call(cx.spawn(Having()), "exit")
             return r.Next.wait(0.05, p.Pick("from", cx.pid))
 
-        def handle(cx, event):
+        def handle(cx: r.Context, event: Any) -> Any:
             if len(gone) < 3:
                 return r.Next.wait(0.05, p.Pick("from", cx.pid))
             gone.append(Counted.alive)
@@ -242,10 +247,10 @@ class Handlers(unittest.TestCase):
             gc.enable()
         self.assertEqual(gone, [1, 1, 1, 0])
 
-    def test_a_run_without_memory_halts_and_goes_on(self):
-        got = []
+    def test_a_run_without_memory_halts_and_goes_on(self) -> None:
+        got: list[Any] = []
 
-        def handle(cx, event):
+        def handle(cx: r.Context, event: Any) -> Any:
             got.append(event.value)
             return r.Next.stop() if event.value == 3 else None
 
@@ -260,7 +265,7 @@ class Handlers(unittest.TestCase):
                 kind = p.Crew if place in ("begin_again", "_step") else p.Desk
                 real = getattr(kind, place)
 
-                def failing(*words):
+                def failing(*words: Any) -> Any:
                     left[0] -= 1
                     if left[0] == 0:
                         raise p.Fault(p.Code.MEMORY, place)
@@ -272,14 +277,14 @@ class Handlers(unittest.TestCase):
                     run.run()
                 self.assertEqual(got, [0, 1, 2, 3])
 
-    def test_a_keyboard_interrupt_halts_the_run_and_it_goes_on(self):
-        def handle(cx, event):
+    def test_a_keyboard_interrupt_halts_the_run_and_it_goes_on(self) -> None:
+        def handle(cx: r.Context, event: Any) -> None:
             raise KeyboardInterrupt
 
-        notes = []
+        notes: list[Any] = []
         run = r.Runtime()
         first = run.spawn(Doing(handle))
-        second = run.spawn(Doing(lambda cx, event: notes.append(event.value) or r.Next.stop()))
+        second = run.spawn(Doing(lambda cx, event: noted(notes, event.value) or r.Next.stop()))
         first.send(0)
         second.send("later")
         with self.assertLogs("pundewo", "ERROR"), self.assertRaises(KeyboardInterrupt):
@@ -289,10 +294,10 @@ class Handlers(unittest.TestCase):
 
 
 class Times(unittest.TestCase):
-    def test_what_is_sent_later_comes_in_order_of_its_time(self):
-        got = []
+    def test_what_is_sent_later_comes_in_order_of_its_time(self) -> None:
+        got: list[Any] = []
 
-        def start(cx):
+        def start(cx: r.Context) -> None:
             cx.send_after(0.5, cx.me, "third")
             gone = cx.send_after(0.04, cx.me, "never")
             cx.send_after(0.03, cx.me, "second")
@@ -301,14 +306,14 @@ class Times(unittest.TestCase):
             got.append(cx.cancel(gone))
 
         run = r.Runtime()
-        run.spawn(Doing(lambda cx, event: got.append(event.value) or (r.Next.stop() if len(got) == 5 else None), start))
+        run.spawn(Doing(lambda cx, event: noted(got, event.value) or (r.Next.stop() if len(got) == 5 else None), start))
         run.run()
         self.assertEqual(got, [True, False, "first", "second", "third"])
 
-    def test_many_timers_that_are_taken_back_take_no_memory(self):
+    def test_many_timers_that_are_taken_back_take_no_memory(self) -> None:
         run = r.Runtime()
 
-        def start(cx):
+        def start(cx: r.Context) -> Any:
             for _ in range(5000):
                 self.assertTrue(cx.cancel(cx.send_after(1000, cx.me, 0)))
             self.assertLess(len(cx._engine._times), 200)
@@ -318,32 +323,30 @@ class Times(unittest.TestCase):
         run.run()
 
     @in_asyncio
-    async def test_an_idle_run_rests(self):
+    async def test_an_idle_run_rests(self) -> None:
         async with r.Runtime(4) as run:
             run.spawn(Doing(started=lambda cx: r.Next.wait(30)))
             await asyncio.sleep(0.1)
-            rounds, engine = [], run._engine
-            of_engine = engine.round
-            engine.round = lambda: rounds.append(1) or of_engine()
-            await asyncio.sleep(0.3)
-            self.assertEqual(rounds, [])
+            with mock.patch.object(run._engine, "round") as round_:
+                await asyncio.sleep(0.3)
+                round_.assert_not_called()
 
 
 class Epochs(unittest.TestCase):
-    def flood(self, run, count):
+    def flood(self, run: r.Runtime, count: Any) -> None:
         """Two processes that send each other two balls."""
-        def play(cx, event):
+        def play(cx: r.Context, event: Any) -> Any:
             if event.value == 0:
                 balls.append(cx.me)
                 return run.stop() if len(balls) == 2 else None
             cx.send(players[event.value % 2], event.value - 1)
 
-        balls = []
+        balls: list[Any] = []
         players = [run.spawn(Doing(play)), run.spawn(Doing(play))]
         players[0].send(count)
         players[1].send(count)
 
-    def test_a_run_goes_on_and_its_history_is_handed_out(self):
+    def test_a_run_goes_on_and_its_history_is_handed_out(self) -> None:
         with tempfile.TemporaryDirectory() as folder:
             file = Path(folder) / "history"
             run = r.Runtime(2, going_on_every=100, archive=r.HistoryFile(file))
@@ -355,19 +358,20 @@ class Epochs(unittest.TestCase):
             self.assertGreater(len(lines), 1200)
             audit(self, file)
 
-    def test_a_sink_that_fails_halts_the_run_and_loses_nothing(self):
-        handed, fails = [], [True]
+    def test_a_sink_that_fails_halts_the_run_and_loses_nothing(self) -> None:
+        handed: list[list[int]] = []
+        fails = [True]
 
-        def sink(history):
+        def sink(history: Any) -> None:
             if fails and len(handed) == 2:
                 fails.clear()
                 raise OSError("the disk is full")
             handed.append([event.stamp for event in history])
 
         run = r.Runtime(going_on_every=50, archive=sink)
-        got = []
+        got: list[Any] = []
 
-        def handle(cx, event):
+        def handle(cx: r.Context, event: Any) -> Any:
             got.append(event.value)
             return r.Next.stop() if event.value == 199 else None
 
@@ -383,8 +387,8 @@ class Epochs(unittest.TestCase):
         self.assertEqual((summary.epochs, summary.archived), (len(handed), len(stamps)))
 
     @in_asyncio
-    async def test_a_sink_that_fails_under_asyncio_is_told(self):
-        def sink(history):
+    async def test_a_sink_that_fails_under_asyncio_is_told(self) -> None:
+        def sink(history: Any) -> None:
             raise OSError("the disk is full")
 
         with self.assertRaises(OSError):
@@ -394,23 +398,24 @@ class Epochs(unittest.TestCase):
                     for number in range(20):
                         await echo.call(number)
 
-    def test_links_monitors_and_timers_outlive_an_epoch(self):
-        told = []
+    def test_links_monitors_and_timers_outlive_an_epoch(self) -> None:
+        told: list[Any] = []
+        children: list[r.Address] = []
 
-        def handle(cx, event):
+        def handle(cx: r.Context, event: Any) -> Any:
             told.append(event)
             if isinstance(event, r.Message) and isinstance(event.value, int):
                 if event.value:
                     cx.send(cx.me, event.value - 1)
                 else:
-                    cx.exit(handle.child, p.Reason("other", 1))
+                    cx.exit(children[0], p.Reason("other", 1))
             rest = [it for it in told if not (isinstance(it, r.Message) and isinstance(it.value, int))]
             return r.Next.stop() if len(rest) == 3 else None
 
-        def start(cx):
+        def start(cx: r.Context) -> None:
             cx.trap()
-            handle.child = cx.spawn(Doing(), linked=True)
-            cx.monitor(handle.child)
+            children.append(cx.spawn(Doing(), linked=True))
+            cx.monitor(children[0])
             cx.send_after(0.01, cx.me, "later")
             cx.send(cx.me, 200)
 
@@ -424,7 +429,7 @@ class Epochs(unittest.TestCase):
 
 
 class Stops(unittest.TestCase):
-    def test_a_process_that_does_not_exit_is_killed(self):
+    def test_a_process_that_does_not_exit_is_killed(self) -> None:
         stubborn, plain = Stubborn(), Doing()
         run = r.Runtime(2, patience=0.05)
         address = run.spawn(stubborn)
@@ -435,27 +440,27 @@ class Stops(unittest.TestCase):
         self.assertEqual(plain.notes, [p.SHUTDOWN])
         self.assertEqual(stubborn.notes[1].reason, p.SHUTDOWN)
 
-    def test_processes_that_are_born_in_the_stop_end_too(self):
+    def test_processes_that_are_born_in_the_stop_end_too(self) -> None:
         class Breeder(r.Behaviour):
-            def started(self, cx):
+            def started(self, cx: r.Context) -> None:
                 cx.trap()
                 begun.append(1)
 
-            def handle(self, cx, event):
+            def handle(self, cx: r.Context, event: Any) -> None:
                 cx.spawn(Breeder())
 
-        begun = []
+        begun: list[Any] = []
 
         run = r.Runtime(patience=0.05)
         for _ in range(3):
             run.spawn(Breeder())
         self.assertEqual(len(run_and_stop(run, lambda: len(begun) == 3).killed), 3)
 
-    def test_a_handler_that_does_not_return_is_named(self):
+    def test_a_handler_that_does_not_return_is_named(self) -> None:
         entered, leave = threading.Event(), threading.Event()
 
         class Stuck(r.Behaviour):
-            def handle(self, cx, event):
+            def handle(self, cx: r.Context, event: Any) -> None:
                 entered.set()
                 leave.wait(20)
 
@@ -474,7 +479,7 @@ class Stops(unittest.TestCase):
         thread.join()
 
     @in_asyncio
-    async def test_a_body_that_fails_stops_the_run(self):
+    async def test_a_body_that_fails_stops_the_run(self) -> None:
         behaviour = Doing()
         with self.assertRaises(KeyError):
             async with r.Runtime() as run:
@@ -485,15 +490,15 @@ class Stops(unittest.TestCase):
             async with run:
                 pass
 
-    def test_a_program_that_is_cancelled_kills(self):
+    def test_a_program_that_is_cancelled_kills(self) -> None:
         behaviour = Stubborn()
 
-        async def main():
+        async def main() -> None:
             async with r.Runtime(patience=50) as run:
                 run.spawn(behaviour)
                 await until(lambda: behaviour.notes)
 
-        async def cancel():
+        async def cancel() -> None:
             task = asyncio.ensure_future(main())
             await until(lambda: len(behaviour.notes) == 2)
             task.cancel()

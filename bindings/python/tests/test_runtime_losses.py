@@ -10,6 +10,7 @@ import threading
 import time
 import unittest
 from pathlib import Path
+from typing import Any
 
 import pundewo as p
 from pundewo import runtime as r
@@ -20,25 +21,25 @@ from behaviours import Counted, Doing, audit, quiet
 class Losses(unittest.TestCase):
     """Of all messages each is taken once or dropped, whatever happens, and none is kept."""
 
-    def setUp(self):
+    def setUp(self) -> None:
         Counted.alive = 0
 
     @quiet
-    def test_nothing_is_kept_and_nothing_is_taken_twice(self):
+    def test_nothing_is_kept_and_nothing_is_taken_twice(self) -> None:
         for desks, every in ((1, 10**6), (3, 10**6), (1, 40), (3, 40)):
             with self.subTest(desks=desks, every=every):
                 self.lossy(desks, every)
 
-    def lossy(self, desks, every):
+    def lossy(self, desks: Any, every: Any) -> None:
         taken = []
 
         class Victim(r.Behaviour):
             """Takes some, and ends by a crash, by its own will, by a signal, or not at all."""
 
-            def __init__(self, how):
+            def __init__(self, how: Any) -> None:
                 self.how, self.left = how, 5
 
-            def handle(self, cx, event):
+            def handle(self, cx: r.Context, event: Any) -> Any:
                 event.value.taken += 1
                 taken.append(event.value.taken)
                 self.left -= 1
@@ -49,13 +50,13 @@ class Losses(unittest.TestCase):
                 return r.Next.wait(pick=p.Pick("kind", 999)) if self.left == 0 and self.how == "deaf" else None
 
         class Sender(r.Behaviour):
-            def started(self, cx):
+            def started(self, cx: r.Context) -> Any:
                 hows = ("crash", "stop", "signal", "deaf", "live")
                 self.victims = [cx.spawn_on(number % desks, Victim(how)) for number, how in enumerate(hows)]
                 self.rounds = 0
                 return r.Next.proceed()
 
-            def handle(self, cx, event):
+            def handle(self, cx: r.Context, event: Any) -> Any:
                 for victim in self.victims:
                     cx.send(victim, Counted())
                     cx.cancel(cx.send_after(50, victim, Counted()))
@@ -86,11 +87,11 @@ class Losses(unittest.TestCase):
         gc.collect()
         self.assertEqual(Counted.alive, 0)
 
-    def test_what_came_to_nobody_is_dropped_at_once(self):
+    def test_what_came_to_nobody_is_dropped_at_once(self) -> None:
         run = r.Runtime(2)
         dead = run.spawn(Doing(started=lambda cx: r.Next.stop()), 1)
 
-        def handle(cx, event):
+        def handle(cx: r.Context, event: Any) -> Any:
             if isinstance(event, r.Message):
                 for _ in range(10):
                     cx.send(dead, Counted())
@@ -98,12 +99,13 @@ class Losses(unittest.TestCase):
             tries.append(1)
             return r.Next.wait(0.02) if Counted.alive and len(tries) < 50 else r.Next.stop(p.Reason("other", Counted.alive))
 
-        sender, tries = Doing(handle), []
+        sender = Doing(handle)
+        tries: list[int] = []
         run.spawn(sender, 0).send(0)
         run.run()
         self.assertEqual((sender.notes, Counted.alive), ([p.Reason("other", 0)], 0))
 
-    def test_a_run_that_is_dropped_drops_all(self):
+    def test_a_run_that_is_dropped_drops_all(self) -> None:
         run = r.Runtime()
         deaf = Doing(started=lambda cx: r.Next.wait(pick=p.Pick("kind", 999)))
         address = run.spawn(deaf)
@@ -132,27 +134,31 @@ class Soak(unittest.TestCase):
     """Processes do what chance says: whatever it says, messages come in order and once, and each monitor tells once."""
 
     @quiet
-    def test_whatever_happens_all_is_told_once_and_in_order(self):
+    def test_whatever_happens_all_is_told_once_and_in_order(self) -> None:
         for seed in range(4):
             with self.subTest(seed=seed), tempfile.TemporaryDirectory() as folder:
                 self.soak(random.Random(seed), 1 + seed % 3, (50, 10**6)[seed % 2], Path(folder) / "history")
 
-    def soak(self, chance, desks, every, file):
-        told, taken, sent, live, kept = {}, {}, [], [], []
+    def soak(self, chance: Any, desks: Any, every: Any, file: Any) -> None:
+        told: dict[p.Ref, list[p.Pid]] = {}
+        taken: dict[Any, list[tuple[int, int]]] = {}
+        sent: list[int] = []
+        live: list[r.Address] = []
+        kept: list[tuple[int, ...]] = []
         is_judged = desks == 3  # (one, and a short one: judging takes longer than the run)
         most = 40 if is_judged else 150
 
         class Watcher(r.Behaviour):
             """Watches all, starts another for each that is gone, and ends all when there were enough."""
 
-            def __init__(self):
+            def __init__(self) -> None:
                 self.left, self.open, self.tries = most, 0, 0
 
-            def started(self, cx):
+            def started(self, cx: r.Context) -> None:
                 for _ in range(12):
                     cx.spawn_on(chance.randrange(desks), Actor())
 
-            def handle(self, cx, event):
+            def handle(self, cx: r.Context, event: Any) -> Any:
                 if isinstance(event, r.Message):
                     told[cx.monitor(event.value)] = [event.value.pid]
                     self.open += 1
@@ -176,20 +182,20 @@ class Soak(unittest.TestCase):
                 return None
 
         class Actor(r.Behaviour):
-            def __init__(self):
+            def __init__(self) -> None:
                 self.numbers = itertools.count()
 
-            def started(self, cx):
+            def started(self, cx: r.Context) -> Any:
                 live.append(cx.me)
                 cx.send(watcher, cx.me)
                 if chance.random() < 0.3:
                     cx.trap()
                 return r.Next.proceed()
 
-            def ended(self, why):
+            def ended(self, why: p.Reason) -> None:
                 live[:] = [it for it in live if it.is_alive()]
 
-            def handle(self, cx, event):
+            def handle(self, cx: r.Context, event: Any) -> Any:
                 if isinstance(event, r.Message):
                     sender, number, value = event.value
                     value.taken += 1
@@ -201,7 +207,7 @@ class Soak(unittest.TestCase):
                 return chance.choice([None, r.Next.proceed(), r.Next.wait(0.001), r.Next.wait(0.001, p.Pick("from", cx.pid)),
                                       r.Next.stop() if chance.random() < 0.1 else r.Next.proceed()])
 
-            def act(self, cx, other):
+            def act(self, cx: r.Context, other: Any) -> None:
                 does = chance.random()
                 if does < 0.7:
                     sent.append(1)

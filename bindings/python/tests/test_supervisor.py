@@ -1,59 +1,72 @@
-"""Tests of supervisors: who is started again, in which order, and when it is too much."""
+"""Tests of supervisors: who is started again, who is ended, in which order, and when it is too much."""
 
 from __future__ import annotations
 
 import asyncio
 import logging
+import random
+import tempfile
+import time
 import unittest
+from functools import partial
+from pathlib import Path
+from typing import Any, Awaitable, Callable, Optional
 
 import pundewo as p
 from pundewo import runtime as r
 
-from behaviours import is_watched, until
+from behaviours import Doing, audit, is_watched, until
+
+CRASHED = f"{r.CRASH}"
 
 
 class Worker(r.Behaviour):
     """Notes when it begins and ends, and ends as it is told."""
 
-    def __init__(self, name, notes, traps=False):
+    def __init__(self, name: str, notes: list[str], traps: bool = False):
         self.name, self.notes, self.traps = name, notes, traps
 
-    def started(self, cx):
+    def started(self, cx: r.Context) -> None:
         self.notes.append(f"+{self.name}")
         if self.traps:
             cx.trap()
 
-    def handle(self, cx, event):
+    def handle(self, cx: r.Context, event: r.Event) -> Optional[r.Next]:
         if isinstance(event, r.Message):
             if event.value == "crash":
                 raise ValueError(self.name)
+            if event.value == "unlink":
+                assert cx.parent is not None
+                cx.unlink(cx.parent)
+                return None
             return r.Next.stop(event.value)
+        if isinstance(event, r.Exit):
+            self.notes.append(f"{self.name} {event.reason}")
         return None
 
-    def ended(self, why):
+    def ended(self, why: p.Reason) -> None:
         self.notes.append(f"-{self.name} {why}")
 
 
 class Failing(r.Behaviour):
     """Crashes as it begins."""
 
-    def started(self, cx):
+    def started(self, cx: r.Context) -> None:
         raise ValueError("at once")
 
-    def handle(self, cx, event):
+    def handle(self, cx: r.Context, event: r.Event) -> None:
         pass
 
 
-def supervised(test):
+def supervised(test: Callable[[Any], Awaitable[None]]) -> Callable[[Any], None]:
     """Runs the test on a run, without what crashes say in the log."""
-    def run(self):
-        async def main():
+    def run(self: Any) -> None:
+        async def main() -> None:
             self.notes = []
             async with r.Runtime(2, patience=2) as run:
                 self.runtime = run
-                await asyncio.wait_for(test(self), 30)
-            self.summary = run.summary()
-            self.assertEqual(self.summary.killed, ())
+                await asyncio.wait_for(test(self), 60)
+            self.assertEqual(run.summary().killed, ())
 
         logging.getLogger("pundewo").disabled = True
         try:
@@ -64,35 +77,69 @@ def supervised(test):
     return run
 
 
-class Supervisors(unittest.TestCase):
-    def worker(self, name, **words):
+class Case(unittest.TestCase):
+    notes: list[str]
+    runtime: r.Runtime
+
+    def worker(self, name: str, **words: Any) -> Callable[[], Worker]:
         return lambda: Worker(name, self.notes, **words)
 
-    async def started(self, supervisor):
+    async def started(self, supervisor: r.Supervisor) -> r.Address:
         """The address of the supervisor, once all of its children have begun."""
         address = self.runtime.spawn(supervisor)
         await until(lambda: len(self.notes) == len(supervisor._specs))
         self.notes.clear()
         return address
 
-    async def child(self, supervisor, name):
-        return {it.name: it.address for it in await supervisor.call(r.WHICH_CHILDREN)}[name]
+    async def child(self, supervisor: r.Address, name: str) -> r.Address:
+        children: tuple[r.Child, ...] = await supervisor.call(r.WHICH_CHILDREN)
+        address = {it.name: it.address for it in children}[name]
+        assert address is not None
+        return address
 
-    async def crash(self, supervisor, name, why="crash"):
+    async def names(self, supervisor: r.Address) -> list[tuple[str, bool]]:
+        return [(it.name, it.address is not None) for it in await supervisor.call(r.WHICH_CHILDREN)]
+
+    async def crash(self, supervisor: r.Address, name: str, why: object = "crash") -> None:
         (await self.child(supervisor, name)).send(why)
 
-    def three(self, supervisor, **words):
+    async def noted(self, *notes: str) -> None:
+        """Waits until there are as many notes, and compares them."""
+        await until(lambda: len(self.notes) >= len(notes))
+        self.assertEqual(self.notes, list(notes))
+        self.notes.clear()
+
+    def three(self, supervisor: r.Supervisor, **words: Any) -> r.Supervisor:
         for name in "abc":
             supervisor.permanent(self.worker(name, **words), name)
         return supervisor
 
+    async def ends(self, address: r.Address, reason: p.Reason, work: Callable[[], object]) -> None:
+        """Does this, and looks whether the process exits with this reason."""
+        async with self.runtime.mailbox() as mailbox:
+            mailbox.monitor(address)
+            await until(lambda: is_watched(self.runtime, address))
+            work()
+            down = await mailbox.get(20)
+            assert isinstance(down, r.Down)
+            self.assertEqual((down.pid, down.reason), (address.pid, reason))
+
+    def tells(self, address: r.Address, reason: p.Reason) -> None:
+        """Has another process send an exit signal."""
+        def start(cx: r.Context) -> r.Next:
+            cx.exit(address, reason)
+            return r.Next.stop()
+
+        self.runtime.spawn(Doing(started=start), address.pid.shard)
+
+
+class Restarts(Case):
     @supervised
-    async def test_one_for_one_starts_that_child_again(self):
+    async def test_one_for_one_starts_that_child_again(self) -> None:
         supervisor = await self.started(self.three(r.Supervisor.one_for_one()))
         before = await supervisor.call(r.WHICH_CHILDREN)
         await self.crash(supervisor, "b")
-        await until(lambda: len(self.notes) == 2)
-        self.assertEqual(self.notes, [f"-b {r.CRASH}", "+b"])
+        await self.noted(f"-b {CRASHED}", "+b")
         after = await supervisor.call(r.WHICH_CHILDREN)
         self.assertEqual([it.name for it in after], ["a", "b", "c"])
         self.assertEqual([one == two for one, two in zip(before, after)], [True, False, True])
@@ -100,123 +147,368 @@ class Supervisors(unittest.TestCase):
         self.assertTrue(after[1].address.is_alive())
 
     @supervised
-    async def test_one_for_all_starts_all_again(self):
+    async def test_one_for_all_starts_all_again(self) -> None:
         supervisor = await self.started(self.three(r.Supervisor.one_for_all()))
         await self.crash(supervisor, "b")
-        await until(lambda: len(self.notes) == 6)
-        self.assertEqual(self.notes, [f"-b {r.CRASH}", "-c shutdown", "-a shutdown", "+a", "+b", "+c"])
+        await self.noted(f"-b {CRASHED}", "-c shutdown", "-a shutdown", "+a", "+b", "+c")
 
     @supervised
-    async def test_rest_for_one_starts_those_after_it_again(self):
+    async def test_rest_for_one_starts_those_behind_it_again(self) -> None:
         supervisor = await self.started(self.three(r.Supervisor.rest_for_one()))
         await self.crash(supervisor, "b")
-        await until(lambda: len(self.notes) == 4)
-        self.assertEqual(self.notes, [f"-b {r.CRASH}", "-c shutdown", "+b", "+c"])
+        await self.noted(f"-b {CRASHED}", "-c shutdown", "+b", "+c")
 
     @supervised
-    async def test_a_sibling_that_does_not_exit_is_killed(self):
-        supervisor = await self.started(self.three(r.Supervisor.one_for_all(patience=0.02), traps=True))
-        await self.crash(supervisor, "a")
-        await until(lambda: len(self.notes) == 6)
-        self.assertEqual(self.notes, [f"-a {r.CRASH}", "-c killed", "-b killed", "+a", "+b", "+c"])
-        supervisor.send("what it does not know")
-        (await self.child(supervisor, "c")).send(p.SHUTDOWN)
-        (await self.child(supervisor, "b")).send(p.SHUTDOWN)
-        (await self.child(supervisor, "a")).send(p.SHUTDOWN)
-        await until(lambda: not supervisor.is_alive() or len(self.notes) >= 12)
-
-    @supervised
-    async def test_a_child_comes_again_as_its_kind_says(self):
+    async def test_a_child_comes_again_as_its_kind_says(self) -> None:
         supervisor = r.Supervisor.one_for_one().limit(10, 60)
         supervisor.permanent(self.worker("permanent"), "permanent").transient(self.worker("transient"), "transient")
         supervisor.temporary(self.worker("temporary"), "temporary")
         address = await self.started(supervisor)
-        await self.crash(address, "permanent", p.NORMAL)
-        await until(lambda: len(self.notes) == 2)
+        for why in (p.NORMAL, p.SHUTDOWN, p.Reason("other", 1)):
+            await self.crash(address, "permanent", why)
+            await self.noted(f"-permanent {why}", "+permanent")
         await self.crash(address, "transient", p.Reason("other", 1))
-        await until(lambda: len(self.notes) == 4)
+        await self.noted("-transient other:1", "+transient")
         await self.crash(address, "temporary")
-        await self.crash(address, "transient", p.NORMAL)
-        await until(lambda: len(self.notes) == 6)
-        self.assertEqual(self.notes[:4], ["-permanent normal", "+permanent", "-transient other:1", "+transient"])
-        self.assertEqual(set(self.notes[4:]), {f"-temporary {r.CRASH}", "-transient normal"})
-        await asyncio.sleep(0.05)
-        children = await address.call(r.WHICH_CHILDREN)
-        self.assertEqual([(it.name, it.address is None) for it in children], [("permanent", False), ("transient", True)])
+        await self.noted(f"-temporary {CRASHED}")
+        await self.crash(address, "transient", p.SHUTDOWN)
+        await self.noted("-transient shutdown")
+        self.assertEqual(await self.names(address), [("permanent", True), ("transient", False)])
 
     @supervised
-    async def test_too_many_restarts_end_the_supervisor(self):
-        mailbox = self.runtime.mailbox()
+    async def test_all_again_are_those_too_that_had_exited_and_none_that_is_temporary(self) -> None:
+        supervisor = r.Supervisor.one_for_all().transient(self.worker("t"), "t").temporary(self.worker("x"), "x")
+        address = await self.started(supervisor.permanent(self.worker("a"), "a"))
+        await self.crash(address, "t", p.NORMAL)
+        await self.noted("-t normal")
+        await self.crash(address, "a")
+        await self.noted(f"-a {CRASHED}", "-x shutdown", "+t", "+a")
+        self.assertEqual(await self.names(address), [("t", True), ("a", True)])
+
+    @supervised
+    async def test_too_many_restarts_end_the_supervisor(self) -> None:
         for strategy in (r.Supervisor.one_for_one, r.Supervisor.one_for_all, r.Supervisor.rest_for_one):
-            supervisor = self.runtime.spawn(strategy().limit(3, 60).permanent(self.worker("a")).permanent(Failing))
-            mailbox.monitor(supervisor)
-            down = await mailbox.get(10)
-            self.assertEqual((down.pid, down.reason), (supervisor.pid, p.SHUTDOWN))
+            supervisor = strategy().limit(3, 60).permanent(self.worker("a"), "a").permanent(Failing, "b")
+            holder = self.runtime.spawn(r.Supervisor.one_for_one().temporary(lambda: supervisor, "s").limit(0, 60))
+            while await self.names(holder):
+                await asyncio.sleep(0.005)
+            self.assertEqual(self.notes[-1], "-a shutdown")
             self.assertEqual(self.notes.count("+a"), sum(it.startswith("-a") for it in self.notes))
+            self.notes.clear()
         self.assertEqual(self.runtime.summary().crashes, 12)
 
     @supervised
-    async def test_restarts_of_long_ago_do_not_count(self):
+    async def test_restarts_of_long_ago_do_not_count(self) -> None:
         supervisor = await self.started(self.three(r.Supervisor.one_for_one().limit(1, 0.05)))
         for _ in range(4):
-            self.notes.clear()
             await self.crash(supervisor, "a")
-            await until(lambda: "+a" in self.notes)
+            await self.noted(f"-a {CRASHED}", "+a")
             await asyncio.sleep(0.08)
         self.assertTrue(supervisor.is_alive())
+        await self.crash(supervisor, "a")
+        await self.noted(f"-a {CRASHED}", "+a")
+        address = await self.child(supervisor, "a")
+        await self.ends(supervisor, p.SHUTDOWN, lambda: address.send("crash"))
+        await self.noted(f"-a {CRASHED}", "-c shutdown", "-b shutdown")
+
+
+class Starts(Case):
+    def fails(self, name: str, times: list[bool]) -> Callable[[], Worker]:
+        """What makes a worker, or does not, as the list says."""
+        def make() -> Worker:
+            if times.pop(0):
+                return Worker(name, self.notes)
+            raise OSError("it cannot be made")
+        return make
 
     @supervised
-    async def test_a_tree_is_started_again_and_ends_as_a_whole(self):
-        def branch():
-            return r.Supervisor.one_for_one().limit(0, 60).permanent(self.worker("leaf"), "leaf", desk=1)
+    async def test_a_child_that_does_not_start_at_first_ends_all(self) -> None:
+        class No:
+            pass
+
+        wrong: list[Callable[[], Any]] = [self.fails("x", [False]), No, lambda: 1 / 0]
+        for make in wrong:
+            supervisor = r.Supervisor.one_for_one().permanent(self.worker("a"), "a").permanent(self.worker("b"), "b")
+            supervisor.permanent(make, "x").permanent(self.worker("c"), "c")
+            self.runtime.spawn(supervisor)
+            # (those that had no time to begin have no `+`)
+            await until(lambda: len(self.notes) >= 2 and self.notes[-1].startswith("-a"))
+            self.assertEqual([it for it in self.notes if it.startswith("-")], ["-b shutdown", "-a shutdown"])
+            self.notes.clear()
+
+    @supervised
+    async def test_a_desk_without_a_place_is_no_start(self) -> None:
+        async with r.Runtime(slots=3) as run:
+            supervisor = run.spawn(self.three(r.Supervisor.one_for_one()))
+            await until(lambda: not supervisor.is_alive())
+            self.assertEqual([it for it in self.notes if it.startswith("-")], ["-b shutdown", "-a shutdown"])
+
+    @supervised
+    async def test_a_child_that_does_not_start_again_is_tried_up_to_the_limit(self) -> None:
+        for strategy in (r.Supervisor.one_for_one, r.Supervisor.one_for_all, r.Supervisor.rest_for_one):
+            times = [True, False, False, True, False, False]
+            supervisor = strategy().limit(4, 60).permanent(self.worker("a"), "a").permanent(self.fails("x", times), "x")
+            address = await self.started(supervisor)
+            await self.crash(address, "x")
+            await until(lambda: "+x" in self.notes)
+            self.assertEqual(len(times), 2)  # three restarts, of which one did
+            self.notes.clear()
+            child = await self.child(address, "x")
+            await self.ends(address, p.SHUTDOWN, lambda: child.send("crash"))
+            self.assertEqual(len(times), 1)  # the fourth one did not, and a fifth is too much
+            self.assertEqual(self.notes[-1], "-a shutdown")
+            self.notes.clear()
+
+    def test_a_child_has_a_name_of_its_own(self) -> None:
+        supervisor = r.Supervisor.one_for_one().permanent(Failing, "a")
+        with self.assertRaisesRegex(ValueError, "name is 'a', and another child has it"):
+            supervisor.temporary(Failing, "a")
+
+
+class Ends(Case):
+    @supervised
+    async def test_a_sibling_that_does_not_exit_is_killed(self) -> None:
+        supervisor = await self.started(self.three(r.Supervisor.one_for_all(patience=0.02), traps=True))
+        await self.crash(supervisor, "a")
+        await self.noted(f"-a {CRASHED}", "c shutdown", "-c killed", "b shutdown", "-b killed", "+a", "+b", "+c")
+        supervisor.send("what it does not know")
+        await self.ends(supervisor, p.SHUTDOWN, lambda: self.tells(supervisor, p.SHUTDOWN))
+
+    @supervised
+    async def test_a_child_has_the_time_that_its_shutdown_says(self) -> None:
+        supervisor = r.Supervisor.one_for_one(patience=50).permanent(self.worker("a", traps=True), "a", shutdown=0.02)
+        supervisor.permanent(self.worker("b", traps=True), "b", shutdown=r.BRUTAL_KILL)
+        supervisor.permanent(self.worker("c", traps=True), "c", shutdown=r.INFINITY)
+        address = await self.started(supervisor)
+        last = await self.child(address, "c")
+
+        def work() -> None:
+            self.tells(address, p.SHUTDOWN)
+            asyncio.get_running_loop().call_later(0.1, last.send, p.NORMAL)
+
+        await self.ends(address, p.SHUTDOWN, work)
+        await self.noted("c shutdown", "-c normal", "-b killed", "a shutdown", "-a killed")
+
+    @supervised
+    async def test_a_supervisor_has_all_the_time_that_its_children_take(self) -> None:
+        def branch() -> r.Supervisor:
+            return r.Supervisor.one_for_one().permanent(self.worker("leaf", traps=True), "leaf", shutdown=0.2)
+
+        root = r.Supervisor.one_for_one(patience=0.01).permanent(branch, "branch")
+        address = self.runtime.spawn(root)
+        await self.noted("+leaf")
+        await self.ends(address, p.SHUTDOWN, lambda: self.tells(address, p.SHUTDOWN))
+        await self.noted("leaf shutdown", "-leaf killed")
+
+    @supervised
+    async def test_a_child_that_took_its_link_away_is_ended_too(self) -> None:
+        for traps in (False, True):
+            supervisor = await self.started(self.three(r.Supervisor.one_for_one(patience=0.02), traps=traps))
+            for name in "abc":
+                await self.crash(supervisor, name, "unlink")
+            await asyncio.sleep(0.02)
+            await self.ends(supervisor, p.SHUTDOWN, lambda: self.tells(supervisor, p.SHUTDOWN))
+            ends = [it for it in self.notes if it.startswith("-")]
+            self.assertEqual(ends, [f"-{it} {'killed' if traps else 'shutdown'}" for it in "cba"])
+            self.notes.clear()
+
+    @supervised
+    async def test_a_tree_is_started_again_and_ends_with_its_parent(self) -> None:
+        def branch() -> r.Supervisor:
+            supervisor = r.Supervisor.one_for_one().limit(0, 60).permanent(self.worker("leaf"), "leaf", desk=1)
+            return supervisor.permanent(self.worker("next"), "next")
 
         root = r.Supervisor.one_for_one().permanent(branch, "branch").permanent(self.worker("other"), "other")
         address = self.runtime.spawn(root, 0)
-        await until(lambda: len(self.notes) == 2)
+        await until(lambda: len(self.notes) == 3)
         leaf = await self.child(await self.child(address, "branch"), "leaf")
         self.assertEqual(leaf.pid.shard, 1)
         leaf.send("crash")
-        await until(lambda: self.notes.count("+leaf") == 2)
-        branch = await self.child(address, "branch")
-        mailbox = self.runtime.mailbox()
-        mailbox.monitor(address)
-        mailbox.monitor(branch)
-        await until(lambda: is_watched(self.runtime, address) and is_watched(self.runtime, branch))
+        await until(lambda: self.notes.count("+leaf") == 2 and self.notes.count("+next") == 2)
+        branches = await self.child(address, "branch")
         self.notes.clear()
-
-        class Killer(r.Behaviour):
-            def started(self, cx):
-                cx.exit(address)
-                return r.Next.stop()
-
-            def handle(self, cx, event):
-                pass
-
-        self.runtime.spawn(Killer(), 1)
-        self.assertEqual([(await mailbox.get(10)).reason for _ in range(2)], [p.SHUTDOWN, p.SHUTDOWN])
-        self.assertEqual(set(self.notes), {"-leaf shutdown", "-other shutdown"})
+        self.tells(branches, p.SHUTDOWN)  # it has a parent, and this is not it
+        self.tells(branches, p.Reason("other", 1))
+        await asyncio.sleep(0.05)
+        self.assertTrue(branches.is_alive())
+        await self.ends(address, p.SHUTDOWN, lambda: self.tells(address, p.SHUTDOWN))
+        await self.noted("-other shutdown", "-next shutdown", "-leaf shutdown")
 
     @supervised
-    async def test_a_killed_supervisor_takes_its_children_along(self):
+    async def test_a_supervisor_exits_for_the_reason_of_its_parent(self) -> None:
+        supervisors: list[r.Address] = []
+
+        def start(cx: r.Context) -> None:
+            supervisors.append(cx.spawn(self.three(r.Supervisor.one_for_one()), linked=True))
+
+        for why in (p.Reason("other", 8), p.NORMAL):
+            parent = self.runtime.spawn(Doing(lambda cx, event: r.Next.stop(event.value), start))
+            await until(lambda: len(self.notes) == 3)
+            self.notes.clear()
+            await self.ends(supervisors[-1], why, lambda: parent.send(why))
+            await self.noted("-c shutdown", "-b shutdown", "-a shutdown")
+
+    @supervised
+    async def test_a_killed_supervisor_takes_its_children_along(self) -> None:
         address = await self.started(self.three(r.Supervisor.one_for_one()))
-
-        class Killer(r.Behaviour):
-            def started(self, cx):
-                cx.exit(address, p.KILL)
-                return r.Next.stop()
-
-            def handle(self, cx, event):
-                pass
-
-        self.runtime.spawn(Killer())
+        self.tells(address, p.KILL)
         await until(lambda: len(self.notes) == 3)
         self.assertEqual(set(self.notes), {f"-{it} killed" for it in "abc"})
 
     @supervised
-    async def test_a_run_with_supervisors_stops(self):
-        for _ in range(10):
-            self.runtime.spawn(self.three(r.Supervisor.one_for_all()).permanent(self.worker("d"), desk=1))
-        await until(lambda: len(self.notes) == 40)
+    async def test_a_run_stops_its_supervisors_and_they_their_children_in_turn(self) -> None:
+        async with r.Runtime(2) as run:
+            self.runtime, supervisor = run, r.Supervisor.one_for_all()
+            for name in "abcde":
+                supervisor.permanent(self.worker(name), name, desk="abcde".index(name) % 2)
+            await self.started(supervisor)
+        await self.noted(*(f"-{name} shutdown" for name in "edcba"))
+        self.assertEqual(run.summary().killed, ())
+
+    @supervised
+    async def test_a_run_ends_what_a_killed_supervisor_left(self) -> None:
+        async with r.Runtime() as run:
+            self.runtime = run
+            supervisor = await self.started(self.three(r.Supervisor.one_for_one(), traps=True))
+            a = await self.child(supervisor, "a")
+            self.tells(supervisor, p.KILL)
+            await until(lambda: len(self.notes) == 3)
+            run.stop()
+            await until(lambda: self.notes.count("a shutdown") == 1)
+            for name in ("b", "c"):
+                self.assertEqual(self.notes.count(f"{name} shutdown"), 1)
+            run._engine.end(2)
+            await until(lambda: not a.is_alive())
+
+
+class Asks(Case):
+    @supervised
+    async def test_children_are_ended_started_and_forgotten_when_it_is_asked(self) -> None:
+        address = await self.started(self.three(r.Supervisor.one_for_one()).temporary(self.worker("x"), "x"))
+
+        async def asks(asked: object, answer: object, *notes: str) -> None:
+            self.assertEqual(await address.call(asked), answer)
+            await self.noted(*notes)
+
+        await asks(r.TerminateChild("b"), True, "-b shutdown")
+        await asks(r.TerminateChild("b"), True)
+        await asks(r.TerminateChild("x"), True, "-x shutdown")
+        await asks(r.TerminateChild("x"), False)
+        self.assertEqual(await self.names(address), [("a", True), ("b", False), ("c", True)])
+        await asks(r.RestartChild("b"), True, "+b")
+        await asks(r.RestartChild("b"), False)
+        await asks(r.RestartChild("nobody"), False)
+        await asks(r.DeleteChild("c"), False)
+        await asks(r.TerminateChild("c"), True, "-c shutdown")
+        await asks(r.DeleteChild("c"), True)
+        await asks(r.DeleteChild("c"), False)
+        self.assertIsNone(await address.call(r.StartChild(self.worker("a"), "a")))
+        self.assertIsNone(await address.call(r.StartChild(self.worker("d"), "d", desk=63)))
+        child = await address.call(r.StartChild(self.worker("d"), "d", "transient", 1, r.BRUTAL_KILL))
+        await self.noted("+d")
+        self.assertEqual((child.name, child.address.pid.shard), ("d", 1))
+        await self.crash(address, "d")
+        await self.noted(f"-d {CRASHED}", "+d")
+        await asks(r.TerminateChild("d"), True, "-d killed")
+        self.assertEqual(await self.names(address), [("a", True), ("b", True), ("d", False)])
+        with self.assertRaises(r.Unanswered):
+            await address.call("what it does not know")
+
+    @supervised
+    async def test_a_child_that_was_ended_is_no_crash(self) -> None:
+        address = await self.started(self.three(r.Supervisor.one_for_one().limit(0, 60), traps=False))
+        b = await self.child(address, "b")
+        b.send("crash")  # (it crashes before, while or after it is told to exit)
+        asked = asyncio.ensure_future(address.call(r.TerminateChild("b")))
+        try:
+            self.assertTrue(await asked)
+            self.assertTrue(address.is_alive())
+        except r.ServerDown:  # the crash came first, and was one too much
+            self.assertIn("-a shutdown", self.notes)
+
+
+class Crashes(Case):
+    """Thousands of crashes in a tree, by chance: all that is to live lives, and nothing is kept of what has gone."""
+
+    def test_thousands_of_crashes_are_thousands_of_restarts(self) -> None:
+        for seed, (crashes, desks, every) in enumerate([(2000, 1, 20_000), (1000, 3, 500)]):
+            with self.subTest(desks=desks):
+                self.storm(random.Random(seed), crashes, desks, every, None)
+
+    def test_a_history_of_crashes_is_legal(self) -> None:
+        with tempfile.TemporaryDirectory() as folder:
+            file = Path(folder) / "history"
+            self.storm(random.Random(9), 60, 2, 200, r.HistoryFile(file))
+            audit(self, file)
+
+    def storm(self, chance: random.Random, crashes: int, desks: int, every: int, archive: Optional[r.HistoryFile]) -> None:
+        alive: dict[str, int] = {}
+        begun: list[str] = []
+
+        class Child(r.Behaviour):
+            def __init__(self, name: str):
+                self.name = name
+                alive[name] = alive.get(name, 0) + 1
+
+            def started(self, cx: r.Context) -> None:
+                begun.append(self.name)
+
+            def handle(self, cx: r.Context, event: r.Event) -> Optional[r.Next]:
+                if isinstance(event, r.Message) and event.value == "crash":
+                    raise ValueError(self.name)
+                return r.Next.stop(p.Reason("other", 5))
+
+            def ended(self, why: p.Reason) -> None:
+                alive[self.name] -= 1
+
+        def branch(number: int, strategy: str) -> r.Supervisor:
+            supervisor = r.Supervisor(strategy).limit(10**6, 60)
+            for child in range(6):
+                name = f"{number}.{child}"
+                supervisor.permanent(partial(Child, name), name, desk=chance.randrange(desks))
+            return supervisor
+
+        async def main() -> r.Summary:
+            async with r.Runtime(desks, going_on_every=every, archive=archive) as run:
+                strategies = ["one_for_one", "one_for_all", "rest_for_one", "one_for_one"]
+                root = r.Supervisor.one_for_one().limit(10**6, 60)
+                for number, strategy in enumerate(strategies):
+                    root.permanent(partial(branch, number, strategy), f"{number}")
+                address = run.spawn(root)
+                told, lists = 0, [await self.branches(address)]
+                while told < crashes:
+                    # (half of the time they are told while others are started again)
+                    if chance.random() < 0.5:
+                        lists.append(await self.branches(address))
+                    for child in chance.sample(lists[-1], 4):
+                        told += child.send("crash" if chance.random() < 0.8 else "stop")
+                over = time.monotonic() + 60
+                while time.monotonic() < over:
+                    children = await self.branches(address)
+                    if run.waiting() == 0 and len(children) == 24 and all(it.is_alive() for it in children):
+                        break
+                self.assertEqual(sorted(set(alive.values())), [1])
+                self.assertEqual(len(run._engine.pids), 24 + 4 + 1 + desks)
+                self.assertEqual((len(run._engine.payloads), len(run._engine._alarms)), (0, 0))
+            return run.summary()
+
+        logging.getLogger("pundewo").disabled = True
+        try:
+            summary = asyncio.run(main())
+        finally:
+            logging.getLogger("pundewo").disabled = False
+        self.assertGreater(summary.crashes, crashes // 3)
+        self.assertGreaterEqual(len(begun), summary.crashes + 24)
+        self.assertEqual(sorted(set(alive.values())), [0])
+        self.assertEqual(summary.killed, ())
+
+    async def branches(self, root: r.Address) -> list[r.Address]:
+        """The children of the branches that run."""
+        found = []
+        for branch in await root.call(r.WHICH_CHILDREN):
+            children: tuple[r.Child, ...] = await branch.address.call(r.WHICH_CHILDREN)
+            found += [child.address for child in children if child.address is not None]
+        return found
 
 
 if __name__ == "__main__":
