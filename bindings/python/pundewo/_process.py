@@ -152,12 +152,12 @@ class Context:
             raise RunOver
         return engine
 
-    def _pid_of(self, target: Union[Address, Pid]) -> Pid:
+    def _pid_of(self, field: str, target: Union[Address, Pid]) -> Pid:
         if isinstance(target, Address):
             if target._engine is not self._engine:
-                raise ValueError(f"{target} is of another run, which can only be sent to")
+                raise ValueError(f"{field} is {target} of another run, which can only be sent to")
             return target.pid
-        return of_type("target", target, Pid)
+        return of_type(field, target, Pid)
 
     def _desk(self) -> Desk:
         engine = self._here()
@@ -201,7 +201,7 @@ class Context:
 
         Fault: MYSELF, UNKNOWN, WORN, MEMORY.
         """
-        engine, pid = self._here(), self._pid_of(target)
+        engine, pid = self._here(), self._pid_of("target", target)
         monitor = engine.monitor(self._seat, pid)
         if monitor is not None:
             return monitor
@@ -216,17 +216,18 @@ class Context:
 
         Fault: NOPROC if that is known to have exited, UNKNOWN, WORN, MEMORY.
         """
-        self._desk().link(self.pid, self._pid_of(to))
+        self._desk().link(self.pid, self._pid_of("to", to))
 
     def unlink(self, to: Union[Address, Pid]) -> None:
         """Takes the link with another process away: Erlang's `unlink/1`."""
-        self._seat.texts.pop(self._pid_of(to), None)
-        self._desk().unlink(self.pid, self._pid_of(to))
+        pid = self._pid_of("to", to)
+        self._desk().unlink(self.pid, pid)
+        self._seat.texts.pop(pid, None)
 
     def exit(self, to: Union[Address, Pid], reason: Reason = SHUTDOWN) -> None:
         """Sends an exit signal: Erlang's `exit/2`. KILL ends any process. Any other reason but NORMAL ends a process that
         does not trap exits. To end this process itself, return `Next.stop`."""
-        pid = self._pid_of(to)
+        pid = self._pid_of("to", to)
         if self._engine.is_porter(pid):
             raise ValueError(f"{pid} sends what comes from outside, and does not exit")
         self._desk().exit_signal(self.pid, pid, reason)
@@ -242,7 +243,7 @@ class Context:
         Fault: MYSELF, UNKNOWN, WORN, MEMORY.
         """
         engine, limit = self._here(), seconds("limit", limit)
-        self._pid_of(of_type("to", to, Address))
+        self._pid_of("to", of_type("to", to, Address))
         return engine.call(self._seat, to, value, limit, Call())
 
     def reply(self, request: Request, value: Any) -> bool:

@@ -167,9 +167,10 @@ class Runtime:
 
     def wait(self, limit: Optional[float] = None) -> Summary:
         """Waits on another thread until the run is over. NotEnded if it is not after so many seconds."""
+        limit = None if limit is None else seconds("limit", limit)
         if self._engine.is_here():
             raise RuntimeError("this thread runs the processes, and would wait for itself")
-        if not self._over.wait(None if limit is None else seconds("limit", limit)):
+        if not self._over.wait(limit):
             seat = self._engine.running
             raise NotEnded(None, "") if seat is None else NotEnded(seat.pid, seat.cx.me.name)
         return self.summary()
@@ -325,7 +326,8 @@ class Mailbox:
 
     async def get(self, limit: Optional[float] = None) -> Event:
         """The next event. asyncio.TimeoutError if there is none for so many seconds; RunOver if none comes any more."""
-        event = await asyncio.wait_for(self._take(), None if limit is None else seconds("limit", limit))
+        limit = None if limit is None else seconds("limit", limit)
+        event = await asyncio.wait_for(self._take(), limit)
         if event is None:
             raise RunOver
         return event
@@ -342,7 +344,7 @@ class Mailbox:
     def monitor(self, target: Address) -> None:
         """Monitors a process, of which the mailbox gets a `Down`."""
         if of_type("target", target, Address)._engine is not self._engine:
-            raise ValueError(f"{target} is of another run, which can only be sent to")
+            raise ValueError(f"target is {target} of another run, which can only be sent to")
         self._post(lambda cx: cx.monitor(target))
 
     def close(self) -> None:

@@ -317,6 +317,14 @@ class Numbers(unittest.TestCase):
             with self.assertRaisesRegex(TypeError, "handle is .* and must be of type CHandle"):
                 p.Desk(bad, None, 0, 1)
 
+    def test_a_crew_is_made_of_a_desk_alone(self) -> None:
+        wrong: list[Any] = [None, 0, 1, True, "desk", (), p.open_node(), p.Gathered(), p.Desk, object()]
+        for bad in wrong:
+            with mock.patch.object(p, "lib", Recorder()) as recorder:
+                with self.assertRaisesRegex(TypeError, "desk is .* and must be of type Desk"):
+                    p.Crew(bad)
+            self.assertEqual(recorder.calls, [])
+
     def test_a_fault_has_a_code(self) -> None:
         wrong: list[Any] = [1, "full", None, True]
         for bad in wrong:

@@ -3,13 +3,14 @@
 from __future__ import annotations
 
 import os
+import random
 import subprocess
 import sys
 import threading
 import unittest
 from pathlib import Path
 from types import SimpleNamespace
-from typing import Any, Callable
+from typing import Any, Callable, Optional
 from unittest import mock
 
 import pundewo as p
@@ -49,6 +50,31 @@ class Handles(unittest.TestCase):
         self.assertEqual([event.pid for event in history], pids)
         self.assertEqual(list(history), list(history.events()))
         self.assertEqual(len(history), 3)
+        self.assertEqual(list(history.lines()), [str(event) for event in history])
+
+    def test_the_lines_of_a_history_are_the_texts_of_its_events(self) -> None:
+        draw, kinds = random.Random(11), set[tuple[str, Optional[str]]]()
+        for _ in range(20):
+            desks = p.open_node(2, p.Config(lane=256, start=draw.choice([0, 2**40])))
+            pids = [desk.spawn() for desk in desks for _ in range(3)]
+            for _ in range(60):
+                one, two = draw.choice(pids), draw.choice(pids)
+                desk = desks[one.shard]
+                who = draw.choice([None, two])
+                works: list[Callable[[], object]] = [
+                    lambda: desk.send(one, two, p.Body(draw.randrange(2**32), draw.randrange(-2**63, 2**63), who)),
+                    lambda: desk.receive(one, draw.choice([p.ANY, p.Pick("from", two), p.Pick("exit-of", two)])),
+                    lambda: desk.link(one, two), lambda: desk.unlink(one, two), lambda: desk.monitor(one, two),
+                    lambda: desk.ask_alive(one, two), lambda: desk.trap(one, draw.random() < 0.5), desk.turn,
+                    lambda: desk.exit_signal(one, two, p.Reason("other", draw.randrange(2**32))) if draw.random() < 0.2 else None]
+                try:
+                    draw.choice(works)()
+                except p.Fault:
+                    pass
+            history = p.gather(desks).settle().history()
+            self.assertEqual(list(history.lines()), [str(event) for event in history])
+            kinds |= {(event.name, event.signal and event.signal.name) for event in history}
+        self.assertGreater(len(kinds), 18)
 
 
 class Threads(unittest.TestCase):

@@ -9,8 +9,8 @@ import threading
 import unittest
 import weakref
 from pathlib import Path
-from unittest import mock
 from typing import Any, Callable
+from unittest import mock
 
 import pundewo as p
 from pundewo import runtime as r
