@@ -23,7 +23,7 @@ from typing import Any, Callable, Iterator, Optional, Sequence, TypeVar
 from ._library import (
     BUILD, CAccount, CAnswer, CBody, CConfig, CEvent, CHandle, CIds, CItem, CJob, CLeftOver, CLoss, CNext, CPick, CPid, CReason,
     CRef, CSignal, CTurned, body_of, c_body, c_next, c_pick, c_pid, c_reason, c_ref, event_of, ids_of, item_of, job_of,
-    left_over_of, lib, next_of, own, pick_of, pid_of, reason_of, ref_of, text_of,
+    left_over_of, lib, next_of, other, own, pick_of, pid_of, reason_of, ref_of, text_of,
 )
 from .values import (
     ANY, EVENTS, ITEMS, JOBS, KILL, KILLED, NEXTS, NOPROC, NORMAL, PICKS, PROCEED, REASONS, RUNNING, SHUTDOWN, SIGNALS, U8,
@@ -32,6 +32,10 @@ from .values import (
 )
 
 __version__ = "0.1.0"
+
+# (the structs and the calls are those of this version alone)
+if not BUILD.startswith(f"pundewo {__version__}, "):
+    raise other(f"is {BUILD}, and this is pundewo {__version__}")
 
 __all__ = [
     "ANY", "BUILD", "EVENTS", "ITEMS", "JOBS", "KILL", "KILLED", "NEXTS", "NOPROC", "NORMAL", "PICKS", "PROCEED", "REASONS",
@@ -66,10 +70,29 @@ class Busy(RuntimeError):
     """A desk, or another handle, that another thread is using. The call was not made."""
 
 
+# The calls of this module by those of the library that they make, where these have other names.
+_CALLS = {
+    "open": "open_node", "settle": "Gathered.settle", "settle_unlisted": "Gathered.settle_unlisted", "resume": "Quiet.resume",
+    "resume_settled": "Settled.resume", "event_at": "events", "next_woken": "woken", "link_count": "links", "link_at": "links",
+    "monitor_count": "monitors", "monitor_at": "monitors", "watcher_count": "watchers", "watcher_at": "watchers",
+    "peek": "waiting", "loss_at": "next_loss", "loss_item": "next_loss", "quiet_pid_at": "Quiet.pids",
+    "history_at": "History.events", "history_left_at": "History.left_over", "history_count": "History.__len__",
+    "crew_len": "Crew.__len__", "crew_open": "Crew", "crew_note_loss": "Crew.next_loss",
+}
+
+
+def _called(call: Callable[..., int]) -> str:
+    """The name of the call of this module that makes this one of the library."""
+    name = getattr(call, "__name__", "").removeprefix("pt_")
+    where, _, rest = name.partition("_")
+    is_of = where in ("crew", "gathered", "settled", "quiet", "history")
+    return _CALLS.get(name) or (f"{where.capitalize()}.{rest}" if is_of else name)
+
+
 def _fault(call: Callable[..., int], words: Sequence[Any], code: int, kind: type[Fault] = Fault) -> Fault:
     """The fault of a call of the library that returned this code."""
     pids = tuple(pid_of(word) for word in words if isinstance(word, CPid))
-    return kind(Code(code), getattr(call, "__name__", "").removeprefix("pt_"), pids)
+    return kind(Code(code), _called(call), pids)
 
 
 class _Held:
@@ -118,7 +141,7 @@ class _Held:
         return self
 
     def _busy(self) -> Busy:
-        return Busy(f"a {type(self).__name__} is in use by another thread: wait until the call there has returned")
+        return Busy(f"{self._called()} is in use by another thread: wait until the call there has returned")
 
     @contextmanager
     def _held_alone(self) -> Iterator[None]:

@@ -24,6 +24,9 @@ class HistoryFile:
         with open(path, "wb"):
             pass
 
+    def __repr__(self) -> str:
+        return f"HistoryFile({self.path!r})"
+
     def __call__(self, history: History) -> None:
         """Writes a history at the end. (what an earlier call left unfinished is overwritten)"""
         with open(self.path, "r+b") as file:

@@ -159,6 +159,9 @@ class Call:
         # what is told of the answer to a call from outside
         self.done = done
 
+    def __repr__(self) -> str:
+        return f"<Call of {self.server or 'nobody'}{'' if self.is_open else ', over'}>"
+
 
 class Answer(NamedTuple):
     """How a call ended: `result` returns its value, or raises why there is none."""

@@ -127,10 +127,24 @@ def load() -> c.CDLL:
             "PUNDEWO_SO, or install the package with it: see docs/EMBEDDING.md") from None
 
 
+def other(what: str) -> ImportError:
+    """The error of a library that is not that of this package."""
+    return ImportError(
+        f"pundewo: {lib._name} {what}, so it is not of the same sources as this package: make it by `bindings/build.sh FOLDER`")
+
+
+def build_of(library: c.CDLL) -> str:
+    """What the library says of itself."""
+    try:
+        return c.string_at(c.addressof(c.c_char.in_dll(library, "pundewo_build"))).decode()
+    except ValueError:
+        raise other("does not say what it is") from None
+
+
 lib = load()
 
 # The name and the version of the library, and whether it was proved.
-BUILD = c.string_at(c.addressof(c.c_char.in_dll(lib, "pundewo_build"))).decode()
+BUILD = build_of(lib)
 
 
 def _declare() -> None:
@@ -167,7 +181,9 @@ def _declare() -> None:
         "quiet_desks": [p(c.c_uint8)], "history_left_count": [p(size)], "history_left_at": [size, p(CLeftOver)],
     }
     for name, words in calls.items():
-        call = getattr(lib, "pt_" + name)
+        call = getattr(lib, "pt_" + name, None)
+        if call is None:
+            raise other(f"is {BUILD}, and has no call pt_{name}")
         call.argtypes = words if name in ("open", "gather") else [p(CHandle), *words]
         call.restype = c.c_uint32
 

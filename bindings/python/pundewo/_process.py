@@ -85,6 +85,9 @@ class Timer:
     def __init__(self, alarm: Alarm):
         self._alarm = alarm
 
+    def __repr__(self) -> str:
+        return f"<Timer {self._alarm}>"
+
 
 def does(name: str, **has: Any) -> bytes:
     """What a process does next, as the bytes that cross."""

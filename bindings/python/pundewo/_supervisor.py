@@ -148,6 +148,9 @@ class Supervisor(Behaviour):
         # the reason for which it exits once its work is over
         self._why = SHUTDOWN
 
+    def __repr__(self) -> str:
+        return f"<Supervisor {self._strategy} of {len(self._specs)} children>"
+
     @classmethod
     def one_for_one(cls, patience: float = 5.0) -> Supervisor:
         return cls("one_for_one", patience)

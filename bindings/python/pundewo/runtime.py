@@ -103,7 +103,7 @@ class Runtime:
         self._next_desk = 0
 
     def __repr__(self) -> str:
-        return f"<Runtime of {len(self._engine.crews)} desks>"
+        return f"<Runtime of {len(self._engine.crews)} desks{', over' if self._engine.order == OVER else ''}>"
 
     # What those outside do
 
@@ -308,6 +308,9 @@ class Mailbox:
         self._waiting: Deque[asyncio.Future[None]] = deque()
         self._is_closed = False
         self.address = runtime.spawn(_Reader(self), desk)
+
+    def __repr__(self) -> str:
+        return f"<Mailbox of {self.address.pid}{', closed' if self._is_closed else ''}>"
 
     async def __aenter__(self) -> Mailbox:
         return self

@@ -78,7 +78,7 @@ class Crews(unittest.TestCase):
         self.assertEqual(len(self.desk.links(b) or ()), 1)
         with self.assertRaises(p.Fault) as caught:
             self.crew.spawn_child(self.desk, p.Pid(0, 200, 1), False, 3)
-        self.assertEqual((caught.exception.code, caught.exception.call), (p.Code.GONE, "crew_spawn_child"))
+        self.assertEqual((caught.exception.code, caught.exception.call), (p.Code.GONE, "Crew.spawn_child"))
 
     def test_a_crew_goes_on_over_a_resumed_node(self) -> None:
         a, b = self.crew.spawn(self.desk, 1), self.crew.spawn(self.desk, 2, WAIT)
@@ -87,7 +87,7 @@ class Crews(unittest.TestCase):
         desks = p.gather(self.desks).settle_unlisted().resume()
         with self.assertRaisesRegex(ValueError, "desk is .* must be that of the crew"):
             self.crew.step(desks[0])
-        with self.assertRaisesRegex(p.Fault, "crew_step.*: empty"):
+        with self.assertRaisesRegex(p.Fault, "Crew.step.*: empty"):
             self.crew.step(self.desk)
         for wrong in (desks[1], p.open_node()[0]):
             with self.assertRaisesRegex(ValueError, "desk is .* must be that of the crew in a node that was resumed"):

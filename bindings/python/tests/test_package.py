@@ -2,10 +2,13 @@
 
 from __future__ import annotations
 
+import inspect
 import os
 import random
+import shutil
 import subprocess
 import sys
+import tempfile
 import threading
 import unittest
 from pathlib import Path
@@ -27,10 +30,40 @@ class Faults(unittest.TestCase):
         self.assertEqual((fault.code, fault.call, fault.pids), (p.Code.GONE, "send", (a, b)))
         self.assertEqual(str(fault), "send(<0.0.1>, <0.1.1>): gone")
 
+    def test_each_fault_has_the_name_of_a_call_of_this_module(self) -> None:
+        desks = p.open_node(2)
+        desk, other = desks
+        pid, ref, crew = desk.spawn(), p.Ref(0, 1), p.Crew(desk)
+        gathered = p.gather(p.open_node())
+        settled, quiet = p.gather(p.open_node()).settle_unlisted(), p.gather(p.open_node()).settle()
+        history = quiet.history()
+        for held in (desk, crew, gathered, settled, quiet, history):
+            held.close()
+        words: dict[str, Any] = {
+            "pid": pid, "parent": pid, "sender": pid, "to": pid, "p": pid, "peer": pid, "watcher": pid, "target": pid,
+            "monitor": ref, "body": p.Body(1, 1), "reason": p.KILL, "slot": 0, "start": 0, "desk": desk, "tag": 1,
+            "linked": False, "does": p.PROCEED, "answers": [], "now": 0}
+        count = 0
+        for held in (desk, crew, gathered, settled, quiet, history):
+            where = type(held).__name__
+            for name, call in inspect.getmembers(type(held), inspect.isfunction):
+                if name.startswith("_") and name != "__len__" or name in ("close", "begin_again"):
+                    continue
+                given = {word: words[word] for word, it in inspect.signature(call).parameters.items()
+                         if word != "self" and (it.default is inspect.Parameter.empty or word == "desk")}
+                with self.assertRaises(p.Fault, msg=f"{where}.{name}") as caught:
+                    found = call(held, **given)
+                    list(found) if inspect.isgenerator(found) else None
+                wanted = {"answer_all": "answer", "lines": "events", "resume": "desks"}.get(name, name)
+                self.assertEqual((caught.exception.code, caught.exception.call),
+                                 (p.Code.EMPTY, wanted if where == "Desk" else f"{where}.{wanted}"))
+                count += 1
+        self.assertGreater(count, 60)
+
     def test_a_call_that_fails_without_a_process_names_itself(self) -> None:
         with self.assertRaises(p.Fault) as caught:
             p.open_node(0)
-        self.assertEqual(str(caught.exception), "open(): bad_desks")
+        self.assertEqual(str(caught.exception), "open_node(): bad_desks")
 
 
 class Handles(unittest.TestCase):
@@ -93,7 +126,7 @@ class Threads(unittest.TestCase):
             self.assertTrue(entered.wait(60))
             calls: list[Callable[[], object]] = [desk.clock, lambda: p.gather([desk])]
             for call in calls:
-                with self.assertRaisesRegex(p.Busy, "^a Desk is in use by another thread"):
+                with self.assertRaisesRegex(p.Busy, "^Desk 0 of 1 is in use by another thread"):
                     call()
             leave.set()
             other.join()
@@ -110,6 +143,19 @@ class Threads(unittest.TestCase):
 
 
 class Package(unittest.TestCase):
+    def test_another_library_is_refused(self) -> None:
+        libraries = {"libc.so.6": "libc.so.6 does not say what it is"}
+        with tempfile.TemporaryDirectory() as folder:
+            other = Path(folder) / "libother.so"
+            source = 'const char pundewo_build[] = "pundewo 0.0.9, proved";'
+            if shutil.which("cc") is not None:
+                subprocess.run(["cc", "-shared", "-x", "c", "-o", other, "-"], input=source, text=True, check=True)
+                libraries[str(other)] = "libother.so is pundewo 0.0.9, proved, and has no call pt_open"
+            for library, says in libraries.items():
+                at = {**os.environ, "PUNDEWO_SO": library, "PYTHONPATH": str(Path(p.__file__).parent.parent)}
+                ran = subprocess.run([sys.executable, "-c", "import pundewo"], env=at, capture_output=True, text=True, check=False)
+                self.assertRegex(ran.stderr.splitlines()[-1], f"^ImportError: pundewo: .*{says}.*build.sh")
+
     def test_without_its_library_it_says_what_to_do(self) -> None:
         at = {**os.environ, "PUNDEWO_SO": "/nowhere/libpundewo.so", "PYTHONPATH": str(Path(p.__file__).parent.parent)}
         ran = subprocess.run([sys.executable, "-c", "import pundewo"], env=at, capture_output=True, text=True, check=False)
