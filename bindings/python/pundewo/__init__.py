@@ -23,7 +23,7 @@ from typing import Any, Callable, Iterator, Optional, Sequence, TypeVar
 from ._library import (
     BUILD, CAccount, CAnswer, CBody, CConfig, CEvent, CHandle, CIds, CItem, CJob, CLeftOver, CLoss, CNext, CPick, CPid, CReason,
     CRef, CSignal, CTurned, body_of, c_body, c_next, c_pick, c_pid, c_reason, c_ref, event_of, ids_of, item_of, job_of,
-    left_over_of, lib, next_of, other, own, pick_of, pid_of, reason_of, ref_of, text_of,
+    left_over_of, lib, next_of, other, own, pick_of, pid_of, reason_of, ref_of, texts_of,
 )
 from .values import (
     ANY, EVENTS, ITEMS, JOBS, KILL, KILLED, NEXTS, NOPROC, NORMAL, PICKS, PROCEED, REASONS, RUNNING, SHUTDOWN, SIGNALS, U8,
@@ -221,7 +221,12 @@ class Desk(_Held):
         self._send(c_pid("sender", sender), c_pid("to", to), c_body("body", body))
 
     def _send(self, sender: CPid, to: CPid, body: CBody) -> None:
-        code = self._call(lib.pt_send, sender, to, body)
+        if not self._lock.acquire(False):
+            raise self._busy()
+        try:
+            code = lib.pt_send(self._at, sender, to, body)
+        finally:
+            self._lock.release()
         if code:
             raise _fault(lib.pt_send, (sender, to), code)
 
@@ -592,7 +597,24 @@ class History(_Held):
 
     def lines(self) -> Iterator[str]:
         """The text of each event, as `str` returns it, in less time."""
-        return self._each(lib.pt_history_at, CEvent, text_of)
+        events = (CEvent * 256)()
+        pointers = [c.byref(event) for event in events]
+        for start in itertools.count(0, len(pointers)):
+            count = self._read(start, pointers)
+            yield from texts_of(events, count)
+            if count < len(pointers):
+                return
+
+    def _read(self, start: int, pointers: list[Any]) -> int:
+        """Reads the events from this place on to where these point, and returns how many there were."""
+        with self._held_alone():
+            for count, pointer in enumerate(pointers):
+                code = lib.pt_history_at(self._at, start + count, pointer)
+                if code == Code.NOTHING:
+                    return count
+                if code:
+                    raise _fault(lib.pt_history_at, (), code)
+        return len(pointers)
 
     def left_over(self) -> Iterator[LeftOver]:
         """The letters left over, by sending desk, then by receiving desk."""

@@ -15,7 +15,7 @@ from ._behaviour import (
     Next, RunOver, ServerDown, behaviour_of,
 )
 from ._library import CAnswer, CJob, item_of, reader, reason_of
-from ._process import WAITS, Address, Porter, Seat, does
+from ._process import WAITS, Address, Porter, Seat, bytes_of
 from ._sending import Sending, Task, kind_of
 from .values import ITEMS, JOBS, KILL, NORMAL, SHUTDOWN, U8, Pick, Pid, Reason, Ref, unchecked
 
@@ -33,7 +33,7 @@ JOB = reader(CJob, "code", "tag", "item.code", "item.pid.shard", "item.pid.slot"
              "item.body.num")
 START, ITEM, TIMES_OUT, EXITED = map(JOBS.index, ("start", "item", "timeout", "exit"))
 USER = ITEMS.index("user")
-PROCEEDS = does("proceed")
+PROCEEDS = bytes_of("proceed")
 
 
 class Engine(Sending):
@@ -229,7 +229,8 @@ class Engine(Sending):
             if crew.refused():
                 raise Fault(Code.MEMORY, "crew_step")
         while jobs:
-            self._tell(number, *jobs.popleft())
+            place, job = jobs.popleft()
+            self._tell(number, place, job)
         answers = self._answers[number]
         while answers:
             # (whose process is not running any more is left out)
@@ -269,14 +270,21 @@ class Engine(Sending):
 
     def _tell(self, number: int, place: int, job: Job) -> None:
         """Runs the handler of a process."""
-        seat = self.seats[job[1]]
-        if job[0] == EXITED:
+        code, tag, item, shard, slot, version, kind, num = job
+        seat = self.seats[tag]
+        if code == EXITED:
             self._leave(seat, reason_of(self._rows[number][place].reason))
             return
         self.running = seat
         try:
-            seat.does = self._run(seat, number, place, job)
-            self._answers[number].append(seat.crossing + seat.does)
+            if code == ITEM and item == USER and kind == MESSAGE:
+                message = unchecked(Message, (self.payloads.pop(num), unchecked(Pid, (shard, slot, version))))
+                next_ = seat.behaviour.handle(seat.cx, message)
+                does = WAITS if next_ is None else self._does(next_)
+            else:
+                does = self._run(seat, code, self._rows[number][place])
+            seat.does = does
+            self._answers[number].append(seat.crossing + does)
         except BaseException as error:
             self._crash(seat, error)
             if isinstance(error, HALTS):
@@ -284,18 +292,15 @@ class Engine(Sending):
         finally:
             self.running = None
 
-    def _run(self, seat: Seat, number: int, place: int, job: Job) -> bytes:
-        code, _, item, shard, slot, version, kind, num = job
-        event: Optional[Event]
-        if code == ITEM:
-            if item == USER and kind == MESSAGE:
-                event = unchecked(Message, (self.payloads.pop(num), unchecked(Pid, (shard, slot, version))))
-            else:
-                event = self._event_of(seat, item_of(self._rows[number][place].item))
-        elif code == START:
+    def _run(self, seat: Seat, code: int, job: CJob) -> bytes:
+        """The same for what is told more rarely than a message."""
+        event: Optional[Event] = PROCEED
+        if code == START:
             return self._does(seat.behaviour.started(seat.cx))
-        else:
-            event = TIMEOUT if code == TIMES_OUT else PROCEED
+        if code == TIMES_OUT:
+            event = TIMEOUT
+        elif code == ITEM:
+            event = self._event_of(seat, item_of(job.item))
         return seat.does if event is None else self._does(seat.behaviour.handle(seat.cx, event))
 
     def _does(self, next_: Optional[Next]) -> bytes:
@@ -305,15 +310,15 @@ class Engine(Sending):
         if not isinstance(next_, Next):
             raise TypeError(f"a handler returned {next_!r}, and must return None or a Next")
         if next_.name == "stop":
-            return does("stop", reason=next_.reason)
+            return bytes_of("stop", reason=next_.reason)
         if next_.name == "proceed":
             return PROCEEDS
         pick = next_.pick
         if pick.name == "down-of" and isinstance(pick.what, Ref) and pick.what.desk == U8:
             pick = Pick("kind", kind_of(pick.what.number))
         if next_.limit is None:
-            return does("wait", pick=pick)
-        return does("wait-until", pick=pick, until=self._at(next_.limit))
+            return bytes_of("wait", pick=pick)
+        return bytes_of("wait-until", pick=pick, until=self._at(next_.limit))
 
     def _event_of(self, seat: Seat, item: Item) -> Optional[Event]:
         """What an item is to the handler, or None if it is nothing to it, such as an answer that comes too late."""
@@ -356,7 +361,7 @@ class Engine(Sending):
         try:
             desk.exit(seat.pid, CRASH)
         except Fault:  # no memory: the crew tries again
-            self._answers[seat.pid.shard].append(seat.crossing + does("stop", reason=CRASH))
+            self._answers[seat.pid.shard].append(seat.crossing + bytes_of("stop", reason=CRASH))
         log.error("%s of %s crashed: %s", seat.pid, seat.cx.me.name, text, exc_info=error)
 
     def _leave(self, seat: Seat, why: Reason) -> None:

@@ -6,7 +6,7 @@ import ctypes as c
 import os
 import struct
 from pathlib import Path
-from typing import Any, Callable, TypeVar
+from typing import Any, Callable, Iterator, TypeVar
 
 from .values import (
     EVENTS, ITEMS, JOBS, NEXTS, PICKS, REASONS, SIGNALS, Account, Body, Event, Ids, Item, Job, LeftOver, LinkId, Next, Pick,
@@ -263,20 +263,23 @@ _EVENT = reader(
 _SAID, _CAME, _TOOK, _ANY = EVENTS.index("said"), EVENTS.index("came"), EVENTS.index("took"), PICKS.index("any")
 
 
-def text_of(e: CEvent) -> str:
-    """What `str(event_of(e))` is. (a history has messages above all, and is written by this: so they are read at once)"""
-    (stamp, desk, code, shard, slot, version, its_shard, its_slot, its_version, pick, item, from_shard, from_slot, from_version,
-     kind, num, who, signal, said_kind, said_num, said_who) = _EVENT.unpack(e)
-    if code == _SAID and signal == 0 and not said_who:
-        return (f"{stamp}@{desk} said <{shard}.{slot}.{version}> -> <{its_shard}.{its_slot}.{its_version}> "
-                f"message {said_kind} {said_num}")
-    if code == _CAME and signal == 0 and not said_who:
-        return (f"{stamp}@{desk} came <{its_shard}.{its_slot}.{its_version}> -> <{shard}.{slot}.{version}> "
-                f"message {said_kind} {said_num}")
-    if code == _TOOK and pick == _ANY and item == 0 and not who:
-        return (f"{stamp}@{desk} took <{shard}.{slot}.{version}> any = user <{from_shard}.{from_slot}.{from_version}> "
-                f"{kind} {num}")
-    return str(event_of(e))
+def texts_of(events: c.Array[CEvent], count: int) -> Iterator[str]:
+    """What `str(event_of(..))` is of each. (a history has messages above all, and is written by this: so they are read at once)"""
+    rows = _EVENT.iter_unpack(memoryview(events).cast("B")[:count * _EVENT.size])
+    for place, row in enumerate(rows):
+        (stamp, desk, code, shard, slot, version, its_shard, its_slot, its_version, pick, item, from_shard, from_slot,
+         from_version, kind, num, who, signal, said_kind, said_num, said_who) = row
+        if code == _SAID and signal == 0 and not said_who:
+            yield (f"{stamp}@{desk} said <{shard}.{slot}.{version}> -> <{its_shard}.{its_slot}.{its_version}> "
+                   f"message {said_kind} {said_num}")
+        elif code == _CAME and signal == 0 and not said_who:
+            yield (f"{stamp}@{desk} came <{its_shard}.{its_slot}.{its_version}> -> <{shard}.{slot}.{version}> "
+                   f"message {said_kind} {said_num}")
+        elif code == _TOOK and pick == _ANY and item == 0 and not who:
+            yield (f"{stamp}@{desk} took <{shard}.{slot}.{version}> any = user <{from_shard}.{from_slot}.{from_version}> "
+                   f"{kind} {num}")
+        else:
+            yield str(event_of(events[place]))
 
 
 def next_of(n: CNext) -> Next:

@@ -89,12 +89,12 @@ class Timer:
         return f"<Timer {self._alarm}>"
 
 
-def does(name: str, **has: Any) -> bytes:
+def bytes_of(name: str, **has: Any) -> bytes:
     """What a process does next, as the bytes that cross."""
     return bytes(c_next("does", Does(name, **has)))
 
 
-WAITS = does("wait", pick=ANY)
+WAITS = bytes_of("wait", pick=ANY)
 
 
 class Seat:
@@ -173,8 +173,12 @@ class Context:
         It returns False, and the message is dropped, if the receiver is known to have exited. If it exits later, the message
         is dropped then.
         """
-        engine = self._here()
-        if of_type("to", to, Address)._engine is not engine:
+        engine = self._engine
+        if engine.thread != get_ident() or engine.order == OVER:
+            self._here()
+        if type(to) is not Address:
+            of_type("to", to, Address)
+        if to._engine is not engine:
             return to.send(value)
         return engine.carry(MESSAGE, self.me, to, value)
 
