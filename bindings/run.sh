@@ -201,13 +201,20 @@ echo "rust: the telephone exchange passed"
     python3 -m unittest discover -q -s tests
     PYTHONPATH=. python3 examples/supervisor.py | diff "$here/c/supervisor.out" -
     PYTHONPATH=. python3 examples/crew.py | diff "$here/c/crew.out" -
-    # (three seconds, and what a busy machine takes longer)
-    PYTHONPATH=. timeout 120 python3 examples/chat.py
     if command -v mypy >/dev/null; then
-        mypy --strict --no-incremental pundewo build_wheel.py examples
+        for level in 3.9 "$(python3 -c 'import sys; print("%d.%d" % sys.version_info[:2])')"; do
+            mypy --strict --no-incremental --python-version "$level" pundewo build_wheel.py examples tests
+        done
     fi
 )
 echo "python: tests passed"
+
+# The chat server in asyncio under its load, as the one in Rust
+"$here/../.ci/build" pt_audit >"$work/printed"
+(cd "$here/python" && PYTHONPATH=. timeout 240 python3 examples/chat_load.py --connections 40 --crashing 10 --rate 10 \
+    --seconds 3 --archive "$work/chat_python.history")
+"$here/../bin/pt_audit" "$work/chat_python.history"
+echo "python: the chat server passed"
 python3 -m venv "$work/venv"
 "$work/venv/bin/pip" install -q --no-index --disable-pip-version-check "$here/python"
 (cd "$work" && env -u PUNDEWO_SO "$work/venv/bin/python" "$here/python/examples/ping_pong.py" >"$work/printed")

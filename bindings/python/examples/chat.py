@@ -22,8 +22,10 @@ from pundewo.runtime import (
     Address, Behaviour, Context, Down, Event, HistoryFile, Mailbox, Message, Next, RunOver, Runtime,
 )
 
-# The longest line, how much may wait for who does not read, and for how many seconds lines are gathered before they go out.
-LONGEST, UNREAD, GATHERS = 2**16, 2**22, 0.02
+# The longest line, and how much may wait for who does not read.
+LONGEST, UNREAD = 2**16, 2**22
+# For how many seconds lines are gathered before they go out, and how many messages may wait before no more are read.
+GATHERS, WAITING = 0.05, 5_000
 
 
 class Join(NamedTuple):
@@ -108,6 +110,7 @@ class Chat:
         self.news: Mailbox = runtime.mailbox()
         self.rooms = [runtime.spawn(Room(self.news.address)) for _ in range(rooms)]
         self.written: list[Connection] = []
+        self.held: list[asyncio.Transport] = []
 
     def write_soon(self, connection: Connection) -> None:
         if not self.written:
@@ -118,6 +121,23 @@ class Chat:
         written, self.written = self.written, []
         for connection in written:
             connection.flush()
+
+
+    def hold(self, transport: asyncio.Transport) -> None:
+        """Reads no more of a connection while too many messages wait, so that those who talk too fast have to wait."""
+        if self.runtime.waiting() > WAITING:
+            transport.pause_reading()
+            if not self.held:
+                self.loop.call_later(GATHERS, self.release)
+            self.held.append(transport)
+
+    def release(self) -> None:
+        if self.runtime.waiting() > WAITING // 2:
+            self.loop.call_later(GATHERS, self.release)
+            return
+        held, self.held = self.held, []
+        for transport in held:
+            transport.resume_reading()
 
 
 class Connection(asyncio.Protocol):
@@ -146,6 +166,8 @@ class Connection(asyncio.Protocol):
                 self.member.send(Heard(line))
         if len(self.came) > LONGEST:
             self.close()
+        elif self.transport is not None:
+            self.chat.hold(self.transport)
 
     def connection_lost(self, _: Optional[Exception]) -> None:
         if self.member is not None:

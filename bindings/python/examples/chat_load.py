@@ -26,7 +26,7 @@ PATIENCE = 90.0
 # How long the idle server is looked at, and how much of a core it may take then.
 IDLE, IDLE_SHARE = 4.0, 0.005
 # A run of this time has epochs enough to see that memory is flat: how much more it may be at the end than after a quarter.
-LONG, GROWTH = 10.0, 1.1
+LONG, GROWTH = 10.0, 1.25
 TICK = os.sysconf("SC_CLK_TCK")
 
 
