@@ -209,21 +209,26 @@ async def main() -> None:
     given = words.parse_args()
     logging.getLogger("pundewo").setLevel(logging.CRITICAL)  # (crashes are what is tried here)
     archive = None if given.archive is None else HistoryFile(given.archive)
-    loop, over = asyncio.get_running_loop(), asyncio.Event()
-    for name in (signal.SIGTERM, signal.SIGINT):
-        loop.add_signal_handler(name, over.set)
+    loop = asyncio.get_running_loop()
     crashed: list[Pid] = []
+    waiting: list[int] = []
     async with Runtime(archive=archive) as runtime:
         chat = Chat(runtime, given.rooms)
         server = await loop.create_server(lambda: Connection(chat), "127.0.0.1", given.port)
         host, port = server.sockets[0].getsockname()
-        print(f"{host}:{port}", flush=True)
         counting = asyncio.ensure_future(count_crashes(chat.news, crashed))
-        await over.wait()
+
+        def stop() -> None:
+            waiting.append(runtime.waiting())
+            runtime.stop()
+
+        for name in (signal.SIGTERM, signal.SIGINT):
+            loop.add_signal_handler(name, stop)
+        print(f"{host}:{port}", flush=True)
+        summary = await runtime.ended()
         server.close()
-        waiting = runtime.waiting()
     await counting
-    print(f"told of {len(crashed)} crashes of {len(set(crashed))} processes, {waiting} messages wait, {runtime.summary()}")
+    print(f"told of {len(crashed)} crashes of {len(set(crashed))} processes, {waiting[0]} messages waited, {summary}")
 
 
 if __name__ == "__main__":

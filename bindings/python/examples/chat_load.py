@@ -226,7 +226,7 @@ async def main() -> None:
         server.process.kill()
     crashes = sum(load.tally.crashes.values())
     print(f"{crashes} crashes; idle {idle * 100:.2f} % of a core; memory {memory} kB; the server: {said}")
-    told = f"told of {crashes} crashes of {crashes} processes, 0 messages wait, "
+    told = f"told of {crashes} crashes of {crashes} processes, 0 messages waited, "
     if not said.startswith(told) or f" crashes={crashes}," not in said:
         raise AssertionError(f"the server was not {told}")
     if idle > IDLE_SHARE:

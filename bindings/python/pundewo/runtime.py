@@ -268,6 +268,13 @@ class Runtime:
                 await self._task
             raise
 
+    async def ended(self) -> Summary:
+        """Waits in the asyncio program until the run is over, by `stop` or since something halted it, which this raises."""
+        if self._task is None:
+            raise RuntimeError("this run is none of an asyncio program: take Runtime.wait")
+        await asyncio.shield(self._task)
+        return self.summary()
+
     async def _drive(self, loop: asyncio.AbstractEventLoop, rung: asyncio.Event) -> None:
         engine = self._engine
         try:

@@ -398,6 +398,28 @@ class Epochs(unittest.TestCase):
                     for number in range(20):
                         await echo.call(number)
 
+    @in_asyncio
+    async def test_an_asyncio_program_waits_for_the_end(self) -> None:
+        with self.assertRaises(RuntimeError):
+            await r.Runtime().ended()
+        async with r.Runtime() as run:
+            run.spawn(Doing())
+            ending = asyncio.ensure_future(run.ended())
+            await asyncio.sleep(0.01)
+            self.assertFalse(ending.done())
+            run.stop()
+            self.assertEqual((await ending).spawned, 1)
+        self.assertEqual((await run.ended()).spawned, 1)
+
+        def sink(history: p.History) -> None:
+            raise OSError("the disk is full")
+
+        with self.assertRaises(OSError):
+            async with r.Runtime(going_on_every=2, archive=sink) as run:
+                run.spawn(Doing(lambda cx, event: None, lambda cx: cx.send(cx.me, 1) and None))
+                with self.assertRaises(OSError):
+                    await run.ended()
+
     def test_links_monitors_and_timers_outlive_an_epoch(self) -> None:
         told: list[Any] = []
         children: list[r.Address] = []

@@ -111,7 +111,7 @@ CALLS: dict[str, dict[str, dict[str, Domain]]] = {
              "patience": SECONDS},
         "spawn": {"behaviour": BEHAVIOUR, "desk": MAYBE_DESK}, "call": {**CALL, "to": ANY_ADDRESS},
         "mailbox": {"desk": MAYBE_DESK}, "wait": {"limit": MAYBE_SECONDS}, "run": {"forever": FLAG},
-        "stop": {}, "waiting": {}, "summary": {}, "close": {},
+        "stop": {}, "waiting": {}, "summary": {}, "close": {}, "ended": {},
     },
     "Address": {"is_alive": {}, "send": {"value": VALUE}, "call": {"value": VALUE, "limit": SECONDS}},
     "Context": {
@@ -147,7 +147,7 @@ def public_calls(where: str) -> set[str]:
     """The public calls of a class of the run."""
     of = getattr(r, where)
     return {name for name, call in inspect.getmembers(of, lambda it: inspect.isfunction(it) or inspect.ismethod(it))
-            if not name.startswith("_") and not hasattr(r.Behaviour, name)}
+            if not name.startswith("_") and not (issubclass(of, r.Behaviour) and hasattr(r.Behaviour, name))}
 
 
 class Case:
