@@ -15,7 +15,8 @@ import argparse
 import asyncio
 import logging
 import signal
-from typing import NamedTuple, Optional
+from collections import deque
+from typing import Deque, NamedTuple, Optional
 
 from pundewo import Fault, Pid, Reason, Ref
 from pundewo.runtime import (
@@ -110,7 +111,9 @@ class Chat:
         self.news: Mailbox = runtime.mailbox()
         self.rooms = [runtime.spawn(Room(self.news.address)) for _ in range(rooms)]
         self.written: list[Connection] = []
-        self.held: list[asyncio.Transport] = []
+        # those of whom no more is read, and what reads on
+        self.held: Deque[Connection] = deque()
+        self.alarm: Optional[asyncio.TimerHandle] = None
 
     def write_soon(self, connection: Connection) -> None:
         if not self.written:
@@ -122,33 +125,38 @@ class Chat:
         for connection in written:
             connection.flush()
 
+    def is_full(self) -> bool:
+        """Whether so many messages wait that no more are read: those who talk too fast have to wait then."""
+        return self.runtime.waiting() > WAITING
 
-    def hold(self, transport: asyncio.Transport) -> None:
-        """Reads no more of a connection while too many messages wait, so that those who talk too fast have to wait."""
-        if self.runtime.waiting() > WAITING:
-            transport.pause_reading()
-            if not self.held:
-                self.loop.call_later(GATHERS, self.release)
-            self.held.append(transport)
+    def hold(self, connection: Connection) -> None:
+        self.held.append(connection)
+        if self.alarm is None:
+            self.alarm = self.loop.call_later(GATHERS, self.release)
 
     def release(self) -> None:
-        if self.runtime.waiting() > WAITING // 2:
-            self.loop.call_later(GATHERS, self.release)
-            return
-        held, self.held = self.held, []
-        for transport in held:
-            transport.resume_reading()
+        """Reads on, of the connection first that was held first."""
+        self.alarm = None
+        for _ in range(len(self.held)):
+            if not self.is_full():
+                self.held.popleft().go_on()
+        if self.held and self.alarm is None:
+            self.alarm = self.loop.call_later(GATHERS, self.release)
 
 
 class Connection(asyncio.Protocol):
     """A connection: what comes is sent to its process. What that writes within some time goes out at once, since sending is
     what takes most."""
 
+    transport: asyncio.Transport
+
     def __init__(self, chat: Chat):
         self.chat = chat
-        self.transport: Optional[asyncio.Transport] = None
         self.member: Optional[Address] = None
-        self.came, self.lines = b"", list[bytes]()
+        # the lines that came, and the beginning of the next; and what is to go out
+        self.heard: Deque[bytes] = deque()
+        self.came = b""
+        self.lines: list[bytes] = []
 
     def connection_made(self, transport: asyncio.BaseTransport) -> None:
         assert isinstance(transport, asyncio.Transport)
@@ -161,22 +169,33 @@ class Connection(asyncio.Protocol):
 
     def data_received(self, data: bytes) -> None:
         *lines, self.came = (self.came + data).split(b"\n")
-        if self.member is not None:
-            for line in lines:
-                self.member.send(Heard(line))
+        self.heard.extend(lines)
         if len(self.came) > LONGEST:
             self.close()
-        elif self.transport is not None:
-            self.chat.hold(self.transport)
+        self.go_on()
+
+    def go_on(self) -> None:
+        """Passes on what came, unless too much waits."""
+        while self.heard:
+            if self.chat.is_full():
+                self.transport.pause_reading()
+                self.chat.hold(self)
+                return
+            self.say(Heard(self.heard.popleft()))
+        self.transport.resume_reading()
+
+    def say(self, value: Optional[Heard]) -> None:
+        if self.member is not None:
+            self.member.send(value)
 
     def connection_lost(self, _: Optional[Exception]) -> None:
-        if self.member is not None:
-            self.member.send(None)
+        while self.heard:
+            self.say(Heard(self.heard.popleft()))
+        self.say(None)
 
     def pause_writing(self) -> None:
         """Who does not read is hung up."""
-        if self.transport is not None:
-            self.transport.abort()
+        self.transport.abort()
 
     def write(self, line: bytes) -> None:
         if not self.lines:
@@ -184,14 +203,13 @@ class Connection(asyncio.Protocol):
         self.lines.append(line)
 
     def flush(self) -> None:
-        if self.lines and self.transport is not None and not self.transport.is_closing():
+        if self.lines and not self.transport.is_closing():
             self.transport.write(b"".join(self.lines))
         self.lines.clear()
 
     def close(self) -> None:
         self.flush()
-        if self.transport is not None:
-            self.transport.close()
+        self.transport.close()
 
 
 async def count_crashes(news: Mailbox, crashed: list[Pid]) -> None:

@@ -79,9 +79,14 @@ class Engine(Sending):
         """Whether this is the thread of the run."""
         return self.thread == get_ident()
 
-    def send_from_outside(self, to: Address, value: Any) -> None:
-        if self.order != OVER:
-            self.send(self.porters[to.pid.shard if to._engine is self else 0], to, value)
+    def is_between(self) -> bool:
+        """Whether this is the thread of the run, which is in no round, and nothing that came before is to be done first."""
+        return not self._inside and not self.inbox and self.thread == get_ident()
+
+    def send_from_outside(self, to: Address, value: Any) -> bool:
+        if self.order == OVER:
+            return False
+        return self.send(self.porters[to.pid.shard if to._engine is self else 0], to, value)
 
     def ask(self, to: Address, value: Any, limit: float, done: Callable[[Answer], None]) -> Call:
         """A call from outside."""

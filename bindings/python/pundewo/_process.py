@@ -6,7 +6,7 @@ import asyncio
 from threading import get_ident
 from typing import TYPE_CHECKING, Any, Optional, Union
 
-from . import Desk
+from . import Desk, Fault
 from . import Next as Does
 from ._library import CAnswer, CPid, c_next
 from ._behaviour import (
@@ -47,6 +47,11 @@ class Address:
         engine = self._engine
         if not self.is_alive() or engine.order == OVER:
             return False
+        if engine.is_between():
+            try:
+                return engine.send_from_outside(self, value)
+            except Fault:  # no memory, or the clock is at its end: the run halts with this
+                pass
         engine.post(lambda: engine.send_from_outside(self, value))
         return True
 

@@ -176,8 +176,8 @@ class Runtime:
         return self.summary()
 
     def waiting(self) -> int:
-        """How many messages nobody has taken yet."""
-        return len(self._engine.payloads)
+        """How many messages nobody has taken yet. (with what else those outside want)"""
+        return len(self._engine.payloads) + len(self._engine.inbox)
 
     def summary(self) -> Summary:
         """What the run was until now."""
