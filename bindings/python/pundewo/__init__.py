@@ -454,13 +454,26 @@ class Crew(_Held):
     def _called(self) -> str:
         return f"Crew of desk {self._number}"
 
+    def _own(self, desk: Desk) -> Desk:
+        """The desk, which is the crew's own."""
+        if of_type("desk", desk, Desk)._node is not self._node or desk.number != self._number:
+            raise ValueError(f"desk is {shown(desk)} of a node, and must be that of the crew")
+        return desk
+
     @contextmanager
     def _over(self, desk: Desk) -> Iterator[Any]:
         """The handle of the crew's own desk, for one call."""
-        if of_type("desk", desk, Desk)._node is not self._node or desk.number != self._number:
-            raise ValueError(f"desk is {shown(desk)} of a node, and must be that of the crew")
-        with desk._held_alone():
+        with self._own(desk)._held_alone():
             yield desk._at
+
+    def _call_over(self, desk: Desk, call: Callable[..., int], *words: Any) -> int:
+        """The code that a call over the crew's own desk returns. (in less time than by `_over`)"""
+        if not self._own(desk)._lock.acquire(False):
+            raise desk._busy()
+        try:
+            return self._call(call, desk._at, *words)
+        finally:
+            desk._lock.release()
 
     def spawn(self, desk: Desk, tag: int, first: Next = PROCEED) -> Pid:
         """Spawns a process, as `Desk.spawn` does. It is of the crew, with this tag, and does `first` next: if that is
@@ -497,8 +510,9 @@ class Crew(_Held):
     def _step(self, desk: Desk, budget: int, jobs: c.Array[CJob]) -> tuple[int, Turned]:
         """The same, with the jobs in an array; returns how many there are, and what the turn did."""
         count, out = c.c_size_t(), CTurned()
-        with self._over(desk) as at:
-            self._must(lib.pt_crew_step, at, budget, jobs, len(jobs), c.byref(count), c.byref(out))
+        code = self._call_over(desk, lib.pt_crew_step, budget, jobs, len(jobs), c.byref(count), c.byref(out))
+        if code:
+            raise _fault(lib.pt_crew_step, (), code)
         return count.value, unchecked(Turned, (out.posted, out.handled, Code(out.stopped) if out.stopped else None))
 
     def answer(self, p: Pid, does: Next) -> bool:
@@ -527,8 +541,7 @@ class Crew(_Held):
         exit that it tells. So a crew knows each reason if each loss is taken here before the step that tells of the exit:
         a `Desk.turn`, then this for each loss, and then a `step` with the budget 0.
         """
-        with self._over(desk) as at:
-            code = self._call(lib.pt_crew_note_loss, at, 0)
+        code = self._call_over(desk, lib.pt_crew_note_loss, 0)
         if code == Code.NOTHING:
             return None
         if code:

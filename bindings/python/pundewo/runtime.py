@@ -61,6 +61,9 @@ __all__ = [
 
 T = TypeVar("T")
 
+# For how many millionths of a second a run that is busy goes on before the rest of an asyncio program has its turn.
+SLICE = 2_000
+
 
 class Summary(NamedTuple):
     """What a run was: how many processes it had and how many crashed, how many epochs, how many events the sink got, and the
@@ -279,7 +282,10 @@ class Runtime:
         engine = self._engine
         try:
             while True:
+                until = engine.now() + SLICE
                 busy = engine.round()
+                while busy and not self._is_done(True) and engine.now() < until:
+                    busy = engine.round()
                 if self._is_done(True):
                     engine.finish()
                     return
