@@ -5,6 +5,7 @@ from __future__ import annotations
 import inspect
 import os
 import random
+import re
 import shutil
 import subprocess
 import sys
@@ -155,6 +156,18 @@ class Package(unittest.TestCase):
                 at = {**os.environ, "PUNDEWO_SO": library, "PYTHONPATH": str(Path(p.__file__).parent.parent)}
                 ran = subprocess.run([sys.executable, "-c", "import pundewo"], env=at, capture_output=True, text=True, check=False)
                 self.assertRegex(ran.stderr.splitlines()[-1], f"^ImportError: pundewo: .*{says}.*build.sh")
+
+    def test_the_programs_of_the_readme_print_what_they_say(self) -> None:
+        root = Path(p.__file__).parent.parent
+        programs = re.findall(r"```python\n(.*?)```", (root / "README.md").read_text(), re.S)
+        self.assertEqual(len(programs), 2)
+        for program in programs:
+            at = {**os.environ, "PYTHONPATH": str(root)}
+            ran = subprocess.run([sys.executable, "-c", program], env=at, capture_output=True, text=True, check=True)
+            says = re.findall(r"print\(.*\)  # (.*?)(?: \.\.)?$", program, re.M)
+            self.assertGreater(len(says), 0)
+            for line in says:
+                self.assertIn(line, ran.stdout)
 
     def test_without_its_library_it_says_what_to_do(self) -> None:
         at = {**os.environ, "PUNDEWO_SO": "/nowhere/libpundewo.so", "PYTHONPATH": str(Path(p.__file__).parent.parent)}
