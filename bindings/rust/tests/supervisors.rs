@@ -491,6 +491,20 @@ fn a_child_that_does_not_exit_in_time_is_killed() {
 }
 
 #[test]
+fn children_and_branches_have_time_to_exit_if_nothing_else_is_said() {
+    let scene = Scene::new();
+    let mut slow = Some(scene.make("w", Manner::IsSlow));
+    let branch = move || Supervisor::one_for_one().permanent(slow.take().expect("the first time"));
+    let root = Supervisor::one_for_one().permanent(scene.make("v", Manner::IsSlow)).permanent(branch);
+    scene.spawn(root);
+    scene.hears(&["+v", "+w"]);
+    let Scene { runtime, notes, give } = scene;
+    runtime.stop().expect("all exit");
+    drop(give);
+    assert_eq!(notes.iter().collect::<Vec<_>>(), ["?w shutdown", "-w shutdown", "?v shutdown", "-v shutdown"]);
+}
+
+#[test]
 fn a_sibling_that_does_not_exit_is_killed_and_started_again() {
     let scene = Scene::new();
     let a = Name::new("a");

@@ -238,9 +238,8 @@ impl Supervisor {
             if child.is_alive() {
                 self.leaving.insert(place);
             }
-            if child.restart != Restart::Temporary {
-                self.missing.insert(place);
-            }
+            // (a temporary one is forgotten as it exits)
+            self.missing.insert(place);
         }
     }
 
