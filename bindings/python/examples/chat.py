@@ -23,8 +23,8 @@ from pundewo.runtime import (
     Address, Behaviour, Context, Down, Event, HistoryFile, Mailbox, Message, Next, RunOver, Runtime,
 )
 
-# The longest line, and how much may wait for who does not read.
-LONGEST, UNREAD = 2**16, 2**22
+# How much is read at once, the longest line, and how much may wait for a client that does not read.
+READ, LONGEST, UNREAD = 2**12, 2**16, 2**22
 # For how many seconds lines are gathered before they go out, and how many messages may wait before no more are read.
 GATHERS, WAITING = 0.05, 5_000
 
@@ -144,9 +144,9 @@ class Chat:
             self.alarm = self.loop.call_later(GATHERS, self.release)
 
 
-class Connection(asyncio.Protocol):
-    """A connection: what comes is sent to its process. What that writes within some time goes out at once, since sending is
-    what takes most."""
+class Connection(asyncio.BufferedProtocol):
+    """A connection: what comes is sent to its process, a few lines at a time. What that writes within some time goes out at
+    once, since sending is what takes most."""
 
     transport: asyncio.Transport
 
@@ -154,6 +154,7 @@ class Connection(asyncio.Protocol):
         self.chat = chat
         self.member: Optional[Address] = None
         # the lines that came, and the beginning of the next; and what is to go out
+        self.buffer = bytearray(READ)
         self.heard: Deque[bytes] = deque()
         self.came = b""
         self.lines: list[bytes] = []
@@ -167,8 +168,11 @@ class Connection(asyncio.Protocol):
         except (Fault, RunOver):  # there are too many, or the run ends
             transport.close()
 
-    def data_received(self, data: bytes) -> None:
-        *lines, self.came = (self.came + data).split(b"\n")
+    def get_buffer(self, sizehint: int) -> bytearray:
+        return self.buffer
+
+    def buffer_updated(self, nbytes: int) -> None:
+        *lines, self.came = (self.came + self.buffer[:nbytes]).split(b"\n")
         self.heard.extend(lines)
         if len(self.came) > LONGEST:
             self.close()
@@ -194,7 +198,7 @@ class Connection(asyncio.Protocol):
         self.say(None)
 
     def pause_writing(self) -> None:
-        """Who does not read is hung up."""
+        """A client that does not read is hung up."""
         self.transport.abort()
 
     def write(self, line: bytes) -> None:
