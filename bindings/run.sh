@@ -203,7 +203,7 @@ echo "rust: the telephone exchange passed"
     PYTHONPATH=. python3 examples/crew.py | diff "$here/c/crew.out" -
     if command -v mypy >/dev/null; then
         for level in 3.9 "$(python3 -c 'import sys; print("%d.%d" % sys.version_info[:2])')"; do
-            mypy --strict --no-incremental --python-version "$level" pundewo build_wheel.py examples tests
+            mypy --strict --cache-dir=/dev/null --python-version "$level" pundewo build_wheel.py examples tests
         done
     fi
 )

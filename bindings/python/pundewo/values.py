@@ -261,7 +261,7 @@ class _Item(NamedTuple):
 
 
 class Item(_Checked, _Item):
-    """What stands in a mailbox; `name` is one of ITEMS, and what does not belong to it is None."""
+    """An item of a mailbox; `name` is one of ITEMS, and what does not belong to it is None."""
 
     __slots__ = ()
 
