@@ -4,3 +4,4 @@ pub mod Coming
 pub mod Pulls
 pub mod Filling
 pub mod Idle
+pub mod Keeping

@@ -1,6 +1,6 @@
 -- What the hands know of their desk stays so, and the exits of its journal are noted.
 use Rattle.std.proofs.Common.{◌≡◌, ℕ, ◌+◌, ◌<◌, ◌≤◌, Bool, true, false, cond, List, [], ◌∷◌, ◌++◌, length, reverse, get_or, Option, Some, None, refl, sym, ap, subst, ◌∙◌, append_assoc, append-nil, length-append, arith, Result, Ok, Err}
-use Rattle.std.specs.Prelude.{IfOk, IfErr, MatchBool, OnErr}
+use Rattle.std.specs.Prelude.{IfOk, IfErr, MatchBool, OnErr, OnOk}
 use Rattle.std.specs.Option.{option_map}
 use Rattle.std.proofs.lemmas.List.{length-reverse, get_or_default}
 use Rattle.pt_signal.specs.declared.pid.Pid.{Pid}
@@ -21,7 +21,7 @@ use Rattle.pt_shard.specs.Extends.{Extends}
 use Rattle.pt_workers.proofs.Unread.{Oldest, oldest}
 use Rattle.pt_crew.specs.declared.behaviour.Next.{Next}
 use Rattle.pt_crew.specs.Visiting.{AreSame, AreWith}
-use Rattle.pt_crew.specs.Crews.{Aboard, Attends, EntersAll, HasRoom, HasTimers, IsSame, KeepsRest, KnowsDesk, left, members, queue, read_events, role, roles, waiting}
+use Rattle.pt_crew.specs.Crews.{Aboard, AreBorn, Attends, EntersAll, HasRoom, HasTimers, IsSame, KeepsRest, KnowsDesk, left, members, queue, read_events, role, roles, waiting}
 use Rattle.pt_crew.specs.Stepping.{BeginsStep, EndsStep, IsAnswered}
 use Rattle.pt_crew.specs.declared.births.Role.{Role}
 use Rattle.pt_crew.specs.declared.behaviour.Next.TheVariants.{Running}
@@ -435,3 +435,9 @@ attends_again old new d e a none crew same rest reads = record {
     ends = λ p b n is. none p b n (sym (same p) ∙ is);
   };
 }
+
+pub again : {E : Type 0} (old new : Hands) (result : Result (Unit {0}) E) → OnOk result ((d e : ShardState) → Attends old.crew d → AreBorn (roles old.crew) e → Attends new.crew e) → OnOk result (new.read ≡ 0)
+    → AreSame (roles old.crew) (roles new.crew) → KeepsRest old.crew new.crew
+    → OnOk result ((d e : ShardState) → AttendsHands old d → NoneNoted old → AreBorn (roles old.crew) e → AttendsHands new e)
+again old new (Ok x) crew reads same rest = λ d e a none born. attends_again old new d e a none (crew d e a.crew born) same rest reads
+again old new (Err x) crew reads same rest = tt

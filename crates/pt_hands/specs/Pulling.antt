@@ -21,7 +21,8 @@ use Rattle.pt_crew.specs.declared.crew.Member.{Member}
 use Rattle.pt_crew.specs.Visiting.{Answers, takes}
 use Rattle.pt_crew.specs.Handing.{MayBeHanded, item_handed}
 use Rattle.pt_crew.specs.Waking.{is_queued}
-use Rattle.pt_crew.specs.Crews.{Attends, KeepsRest, left, members, queue, roles, time_of, waiting, was_refused}
+use Rattle.pt_crew.specs.Crews.{AreBorn, Attends, KeepsRest, left, members, queue, roles, time_of, waiting, was_refused}
+use Rattle.pt_crew.specs.Stepping.{QueueIsLonger}
 use Rattle.pt_hands.specs.declared.hand.Hand.{Hand}
 use Rattle.pt_hands.specs.declared.hand.Job.{Job}
 use Rattle.pt_hands.specs.declared.hand.What.{What}
@@ -133,6 +134,19 @@ pub record AttendsHands (h : Hands) (d : ShardState) : Type 0 where
 abbrev pub NoneNoted : Hands → Type 0
 NoneNoted h = (p : Pid) (b : Hand) (n : Next) → roles h.crew p ≡ Some (b, n) → b.ended ≡ None
 
+-- the reason of an exit that a history has, or else the one that was known before
+abbrev pub reason_kept : Option Reason → Option Reason → Option Reason
+reason_kept (Some r) lost = Some r
+reason_kept None lost = lost
+
+-- so it is known of a process
+abbrev pub view_kept : Option Reason → HandView → HandView
+view_kept ended v = record v { lost = reason_kept ended v.lost }
+
+-- each exit that the journal has is in the history, too
+abbrev pub HasExitsOf : List Stamped → List Stamped → Type 0
+HasExitsOf journal past = (p : Pid) → exit_in p past ≡ None → exit_in p journal ≡ None
+
 -- each process of a crew is in its queue
 abbrev pub AreAllQueued : {B : Type 0} → Crew B → Type 0
 AreAllQueued {B} c = (p : Pid) (m : Member B) → members c p ≡ Some m → is_queued m ≡ true
@@ -198,3 +212,16 @@ pub record Fills (jobs : List Job) (old : Hands) (d : ShardState) (count : ℕ) 
   pub stops : (length pulled ≡ length (queue old.crew)) ⊎ (count ≡ length jobs)
   -- no process is in it twice
   pub once : IsDistinct same_pid (pids_told (jobs_of pulled))
+
+-- The hands go on over the desk of the same number in a node that was resumed, with the history of the node before, whose
+-- newest event is in front. Each process does next what it was to do, and the reason of its exit is known, if the history
+-- has one.
+pub record HandsGoOn (past : List Stamped) (old new : Hands) : Type 0 where
+  pub views : (p : Pid) → hand_views new p ≡ option_map (view_kept (exit_in p past)) (hand_views old p)
+  pub longer : QueueIsLonger (queue old.crew) (queue new.crew)
+  pub rest : KeepsRest old.crew new.crew
+  -- hands of a desk have all their processes in the queue then
+  pub all : (d : ShardState) → AttendsHands old d → AreAllQueued new.crew
+  -- and they are those of a desk on which these were born, if the history has each exit of their own
+  pub attends : (d e : ShardState) → AttendsHands old d → HasExitsOf d.journal past → AreBorn (roles old.crew) e
+      → AttendsHands new e

@@ -1,8 +1,11 @@
 -- What the parts of a pull do. No public clause cites this module.
 use Rattle.std.specs.Prelude.{◌≡◌, ◌+◌, ◌≤◌, ℕ, true, List, length, slice_set, Option, Some, None}
+use Rattle.std.specs.Option.{option_map}
 use Rattle.pt_signal.specs.declared.pid.Pid.{Pid}
 use Rattle.pt_signal.specs.declared.item.Item.{Item}
+use Rattle.pt_signal.specs.declared.reason.Reason.{Reason}
 use Rattle.pt_events.specs.declared.event.Event.{Event}
+use Rattle.pt_events.specs.declared.event.Stamped.{Stamped}
 use Rattle.pt_shard.specs.ShardState.{ShardState}
 use Rattle.pt_crew.specs.declared.behaviour.Next.{Next}
 use Rattle.pt_crew.specs.Visiting.{AreWith}
@@ -10,7 +13,7 @@ use Rattle.pt_crew.specs.Crews.{Attends, KeepsRest, queue, roles}
 use Rattle.pt_hands.specs.declared.hand.Hand.{Hand}
 use Rattle.pt_hands.specs.declared.hand.Job.{Job}
 use Rattle.pt_hands.specs.declared.hands.Hands.{Hands}
-use Rattle.pt_hands.specs.Pulling.{AttendsHands, Pulls, SameViews, exit_by, what_of}
+use Rattle.pt_hands.specs.Pulling.{AttendsHands, Pulls, SameViews, exit_by, exit_in, what_of}
 
 -- all exits of the journal were noted, and nothing else has changed
 pub record IsAllNoted (old : Hands) (d : ShardState) (new : Hands) : Type 0 where
@@ -54,3 +57,26 @@ WritesJob place jobs (Some job) count later = (count ≡ place + 1) × (later �
 abbrev pub PullsInto : ℕ → List Job → Hands → ShardState → ℕ → List Job → Hands → ShardState → Type 0
 PullsInto place jobs old d count later new e =
     (job : Option Job) × Pulls old d job new e × WritesJob place jobs job count later
+
+-- a hand whose process exited with this reason, if there is one: it has it as one that a loss told
+abbrev pub hand_kept : Option Reason → Hand → Hand
+hand_kept (Some r) b = record b { ended = None; lost = Some r }
+hand_kept None b = b
+
+abbrev pub role_kept : Option Reason → Hand × Next → Hand × Next
+role_kept ended r = (hand_kept ended r.0, r.1)
+
+-- so it is with the hand of each process, and all else stays
+pub record KeepsBy (ended : Pid → Option Reason) (old new : Hands) : Type 0 where
+  pub hands : (q : Pid) → roles new.crew q ≡ option_map (role_kept (ended q)) (roles old.crew q)
+  pub queue : queue new.crew ≡ queue old.crew
+  pub rest : KeepsRest old.crew new.crew
+  pub attends : (d : ShardState) → Attends old.crew d → Attends new.crew d
+
+-- the exit is kept, if the event is one
+abbrev pub KeepsExit : Event → Hands → Hands → Type 0
+KeepsExit event old new = KeepsBy (λ q. exit_by q event None) old new
+
+-- so is each exit of a history, whose newest event is in front
+abbrev pub KeepsExits : List Stamped → Hands → Hands → Type 0
+KeepsExits past old new = KeepsBy (λ q. exit_in q past) old new

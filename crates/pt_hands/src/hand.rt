@@ -46,7 +46,7 @@ pub struct Hand {
     handed: Option<Option<Item>>,
     /// The reason with which it exited, once that was read in the journal.
     ended: Option<Reason>,
-    /// The reason with which it exited, once a loss told it.
+    /// The reason with which it exited, once a loss told it, or the history of a node that was resumed.
     lost: Option<Reason>,
 }
 
@@ -97,6 +97,20 @@ impl Hand {
             begun: self.begun,
             handed: self.handed,
             ended: self.ended,
+            lost: Some(reason),
+        }
+    }
+
+    /// The same hand, whose process is known to have exited with this reason, and has not been told so.
+    #[inline(always)]
+    pub(crate) fn with_kept(&self, reason: Reason) -> Hand
+        ensures { result ≡ record self.now { ended = None; lost = Some reason } }
+    {
+        Hand {
+            tag: self.tag,
+            begun: self.begun,
+            handed: self.handed,
+            ended: None,
             lost: Some(reason),
         }
     }

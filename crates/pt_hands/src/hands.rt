@@ -1,24 +1,25 @@
 //! The processes of one desk whose handlers are outside.
 
-ghost use Rattle.std.specs.Prelude.{◌≡◌, ◌<◌, ◌≤◌, ◌+◌, true, IfOk, IsOk, MatchBool, None, OnErr, OnOk, Some, [], length};
+ghost use Rattle.std.specs.Prelude.{◌≡◌, ◌<◌, ◌≤◌, ◌+◌, true, IfOk, IsOk, MatchBool, None, OnErr, OnOk, Some, [], length, reverse};
 ghost use Rattle.std.specs.Option.{option_map};
 ghost use Rattle.pt_signal.specs.declared.pid.Pid.{Pid};
 ghost use Rattle.pt_shard.specs.ShardState.{ShardState};
 ghost use Rattle.pt_shard.specs.Extends.{Extends};
 ghost use Rattle.pt_desk.specs.DeskState.{GoesOn};
 ghost use Rattle.pt_crew.specs.Visiting.{AreSame};
-ghost use Rattle.pt_crew.specs.Crews.{AreBorn, Enters, IsNextTime, IsSame, KeepsRest, crew_size, queue, roles, time_of};
-ghost use Rattle.pt_crew.specs.Crews.{left, waiting, was_refused};
+ghost use Rattle.pt_crew.specs.Crews.{AreBorn, Attends, Enters, HasRoom, IsNextTime, IsSame, KeepsRest, crew_size, queue, roles};
+ghost use Rattle.pt_crew.specs.Crews.{left, time_of, waiting, was_refused};
 ghost use Rattle.pt_crew.specs.Running.{is_idle};
 ghost use Rattle.pt_crew.specs.Stepping.{BeginsStep, EndsStep, EntersChild, IsAnswered, QueueIsLonger, first_of, is_running};
-ghost use Rattle.pt_hands.specs.Pulling.{AreAllQueued, AttendsHands, Fills, HandView, NoneNoted, NotesLoss};
+ghost use Rattle.pt_hands.specs.Pulling.{AreAllQueued, AttendsHands, Fills, HandView, HandsGoOn, NoneNoted, NotesLoss};
 ghost use Rattle.pt_hands.specs.Pulling.{NotesLost, Pulls, SameViews, crew_of, hand_views};
 ghost use Rattle.pt_events.specs.declared.event.Event.TheVariants.{Left};
 ghost use Rattle.pt_hands.specs.Pulling.{new_hand};
-ghost use Rattle.pt_hands.specs.Taking.{IsAllNoted, NotesExit, PullsInto, TakesJob};
+ghost use Rattle.pt_hands.specs.Taking.{IsAllNoted, KeepsExit, KeepsExits, NotesExit, PullsInto, TakesJob};
 
 use crate::hand::{Hand, Job, job_of_exit};
 use pt_crew::{Crew, Next};
+use pt_events::Stamped;
 use pt_workers::{Desk, Event, Fault, Loss, Pid, Reason};
 use std::alloc::{AllocError, Global};
 
@@ -185,6 +186,32 @@ impl Hands {
         ensures longer { QueueIsLonger (queue (crew_of self.old)) (queue (crew_of self.new)) }
         ensures rest { KeepsRest (crew_of self.old) (crew_of self.new) }
     {
+        self.begin_over()
+    }
+
+    /// Continues over the desk of the same number in a node that was resumed, as [`begin_again`](Hands::begin_again) does,
+    /// whether each exit was told or not. The reason of an exit in this history is told once the exit is.
+    ///
+    /// The history is that of the settled node before it was resumed, the oldest event first. It costs time for each event
+    /// of it, and for each process.
+    pub fn go_on(&mut self, history: &[Stamped])
+        ensures { HandsGoOn (reverse history.now) self.old self.new }
+    {
+        self.keep_exits(history);
+        let _ = self.begin_over();
+    }
+
+    /// Puts each process into the queue, and reads the journal from its beginning.
+    fn begin_over(&mut self) -> Result<(), AllocError>
+        ensures crew { OnOk result ((d e : ShardState) → Attends (crew_of self.old) d
+            → AreBorn (roles (crew_of self.old)) e → Attends (crew_of self.new) e) }
+        ensures read { OnOk result (self.new.read ≡ 0) }
+        ensures all { OnOk result (AreAllQueued (crew_of self.new)) }
+        ensures ok { HasRoom (crew_of self.old) → IsOk result }
+        ensures roles { AreSame (roles (crew_of self.old)) (roles (crew_of self.new)) }
+        ensures longer { QueueIsLonger (queue (crew_of self.old)) (queue (crew_of self.new)) }
+        ensures rest { KeepsRest (crew_of self.old) (crew_of self.new) }
+    {
         self.crew.begin_again()?;
         self.read = 0;
         Ok(())
@@ -342,5 +369,35 @@ impl Hands {
         let empty = hand.emptied();
         let _ = self.crew.replace(p, empty);
         Some(job)
+    }
+
+    /// Keeps the reason of each exit in a history.
+    fn keep_exits(&mut self, history: &[Stamped])
+        ensures { KeepsExits (reverse history.now) self.old self.new }
+    {
+        for place in 0..history.len() {
+            self.keep_exit(&history[place].event);
+        }
+    }
+
+    /// Keeps the reason, if one of the processes exited by the event.
+    fn keep_exit(&mut self, event: &Event)
+        ensures { KeepsExit event.now self.old self.new }
+    {
+        match event {
+            Event::Left(p, reason) => self.set_kept(*p, *reason),
+            _ => {}
+        }
+    }
+
+    /// Keeps that p exited with this reason, if it is one of these processes.
+    fn set_kept(&mut self, p: Pid, reason: Reason)
+        ensures { KeepsExit (Left p reason) self.old self.new }
+    {
+        let Some(hand) = self.crew.behaviour(p) else {
+            return;
+        };
+        let kept = hand.with_kept(reason);
+        let _ = self.crew.replace(p, kept);
     }
 }

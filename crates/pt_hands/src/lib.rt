@@ -27,6 +27,7 @@
 //! - **Refusals.** A process for which there was no memory or no stamp is in the queue still. (`StaysPut`)
 //! - **Resuming.** Over the desk of a resumed node each process is in the queue, and does next what it was to do. The
 //!   hands are those of that desk if each exit was told, as it was where they are idle. (`begin_again`, `is_idle`)
+//! - **Going on.** With the history of the node before it need not have been told: its reason is kept. (`HandsGoOn`)
 #![tactic(auto)]
 
 mod hand;
