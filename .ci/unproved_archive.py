@@ -64,7 +64,7 @@ def argument(kind: str) -> str:
     if kind == "Global":
         return "rt.alloc()"
     if row := ROW.fullmatch(kind):
-        module = "desk_handle" if row[2] == "DeskHandle" else "types"
+        module = {"DeskHandle": "desk_handle", "CrewHandle": "crew_handle"}.get(row[2], "types")
         return f"{row[1]}any::<[pt_table::{module}::{row[2]}; 1]>(&rt)"
     return "&mut any(&rt)" if kind.startswith("&mut ") else "any(&rt)"
 

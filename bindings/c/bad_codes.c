@@ -92,6 +92,131 @@ static int crews(void) {
     return tried;
 }
 
+/* What two desks and their crews tell, and whether all is as it was. */
+typedef struct { state desks[2]; crew_state crews[2]; } node_state;
+
+static node_state state_of_node(pt_desk *desks, pt_crew *crews, const pt_pid *pids) {
+    node_state s;
+    memset(&s, 0, sizeof s);
+    for (int k = 0; k < 2; k++) {
+        s.desks[k] = state_of(&desks[k], pids[k]);
+        s.crews[k] = state_of_crew(&crews[k], &desks[k], pids[k]);
+    }
+    return s;
+}
+
+static bool is_same_node(node_state a, node_state b) {
+    return is_same(a.desks[0], b.desks[0]) && is_same(a.desks[1], b.desks[1]) && is_same_crew(a.crews[0], b.crews[0])
+        && is_same_crew(a.crews[1], b.crews[1]);
+}
+
+static void open_two(pt_desk *desks, pt_crew *crews, pt_pid *pids) {
+    assert(pt_open(desks, 2, (pt_config){.slots = 4, .top_version = 9, .lane = 8}) == PT_OK);
+    for (int k = 0; k < 2; k++) {
+        assert(pt_crew_open(&crews[k]) == PT_OK);
+        assert(pt_crew_spawn(&crews[k], &desks[k], 7, (pt_next){.code = PT_NEXT_PROCEED}, &pids[k]) == PT_OK);
+    }
+}
+
+/* Swaps two handles: a handle is moved, and never copied. */
+static void swap(pt_desk *desks) {
+    void *first = desks[0].at;
+    desks[0].at = desks[1].at;
+    desks[1].at = first;
+}
+
+/* Each call of a crew that has no handle, or whose desk has none: it says so, and writes nothing. */
+static int empty_crews(void) {
+    pt_desk desk = PT_NO_DESK, none = PT_NO_DESK;
+    pt_crew crew = PT_NO_CREW, nobody = PT_NO_CREW;
+    const pt_next first = {.code = PT_NEXT_PROCEED};
+    pt_pid p;
+    struct { pt_pid pid; pt_job jobs[2]; size_t count; pt_turned turned; uint64_t number; bool yes; pt_next next; } out, was;
+    assert(pt_open(&desk, 1, (pt_config){.slots = 4, .top_version = 9, .lane = 8}) == PT_OK);
+    assert(pt_crew_open(&crew) == PT_OK && pt_crew_spawn(&crew, &desk, 7, first, &p) == PT_OK);
+    state before = state_of(&desk, p);
+    crew_state crew_before = state_of_crew(&crew, &desk, p);
+    memset(&out, 0xA5, sizeof out);
+    memcpy(&was, &out, sizeof out);
+    const uint32_t codes[] = {
+        pt_crew_spawn(&nobody, &desk, 7, first, &out.pid), pt_crew_spawn(&crew, &none, 7, first, &out.pid),
+        pt_crew_spawn_child(&nobody, &desk, p, true, 7, first, &out.pid),
+        pt_crew_spawn_child(&crew, &none, p, true, 7, first, &out.pid),
+        pt_crew_step(&nobody, &desk, 9, out.jobs, 2, &out.count, &out.turned),
+        pt_crew_step(&crew, &none, 9, out.jobs, 2, &out.count, &out.turned),
+        pt_crew_answer(&nobody, &(pt_answer){p, first}, 1, &out.count),
+        pt_crew_note_loss(&nobody, &desk, 0), pt_crew_note_loss(&crew, &none, 0),
+        pt_crew_set_time(&nobody, 1), pt_crew_begin_again(&nobody), pt_crew_next_time(&nobody, &out.number),
+        pt_crew_tag(&nobody, p, &out.number), pt_crew_next(&nobody, p, &out.next), pt_crew_len(&nobody, &out.count),
+        pt_crew_queued(&nobody, &out.count), pt_crew_is_idle(&nobody, &desk, &out.yes),
+        pt_crew_is_idle(&crew, &none, &out.yes), pt_crew_refused(&nobody, &out.yes), pt_crew_give_up(&nobody),
+    };
+    const int tried = sizeof codes / sizeof *codes;
+    for (int k = 0; k < tried; k++) assert(codes[k] == PT_EMPTY);
+    assert(!memcmp(&was, &out, sizeof out) && none.at == NULL && nobody.at == NULL);
+    assert(pt_crew_note_loss(&crew, &desk, 0) == PT_NOTHING && pt_crew_open(&crew) == PT_FILLED);
+    assert(is_same(before, state_of(&desk, p)) && is_same_crew(crew_before, state_of_crew(&crew, &desk, p)));
+    assert(pt_crew_give_up(&crew) == PT_OK && pt_give_up(&desk) == PT_OK);
+    return tried;
+}
+
+/* A node that may not go on: it is as it was, and goes on once all is right. */
+static int going_on(void) {
+    pt_desk desks[2] = {PT_NO_DESK, PT_NO_DESK}, others[2] = {PT_NO_DESK, PT_NO_DESK}, missing[2] = {PT_NO_DESK, PT_NO_DESK};
+    pt_crew crews[2] = {PT_NO_CREW, PT_NO_CREW}, strangers[2] = {PT_NO_CREW, PT_NO_CREW}, nobody = PT_NO_CREW;
+    pt_gathered gathered = PT_NO_GATHERED, another = PT_NO_GATHERED;
+    pt_settled settled = PT_NO_SETTLED, rest = PT_NO_SETTLED;
+    pt_history history = PT_NO_HISTORY, told = PT_NO_HISTORY;
+    pt_pid pids[2], other_pids[2];
+    int tried = 0;
+    open_two(desks, crews, pids);
+    open_two(others, strangers, other_pids);
+    node_state before = state_of_node(desks, crews, pids);
+#define REFUSED(code, crews, crew_count, desks, count, gathered, settled, history) \
+    assert(pt_crews_go_on(crews, crew_count, desks, count, gathered, settled, history) == code), tried++
+    REFUSED(PT_EMPTY, &nobody, 1, desks, 1, &gathered, &settled, &history);
+    REFUSED(PT_EMPTY, crews, 0, desks, 0, &gathered, &settled, &history);
+    REFUSED(PT_BAD_DESKS, crews, 1, desks, 2, &gathered, &settled, &history);
+    REFUSED(PT_BAD_DESKS, crews, 2, desks, 1, &gathered, &settled, &history);
+    REFUSED(PT_BAD_DESKS, crews, 1, desks, 1, &gathered, &settled, &history);
+    REFUSED(PT_EMPTY, crews, 2, missing, 2, &gathered, &settled, &history);
+    swap(desks);
+    REFUSED(PT_BAD_DESKS, crews, 2, desks, 2, &gathered, &settled, &history);
+    assert(pt_gather(desks, 2, &gathered) == PT_BAD_DESKS && pt_gather(desks, 1, &gathered) == PT_BAD_DESKS);
+    swap(desks);
+    /* a crew is missing at the second place */
+    nobody.at = crews[1].at;
+    crews[1].at = NULL;
+    REFUSED(PT_EMPTY, crews, 2, desks, 2, &gathered, &settled, &history);
+    crews[1].at = nobody.at;
+    nobody.at = NULL;
+    /* a history that somebody has there, and nodes */
+    assert(pt_gather(others, 2, &another) == PT_OK && pt_gathered_history(&another, &told) == PT_OK);
+    REFUSED(PT_FILLED, crews, 2, desks, 2, &gathered, &settled, &told);
+    REFUSED(PT_FILLED, crews, 2, desks, 2, &another, &settled, &history);
+    assert(pt_settle_unlisted(&another, &rest) == PT_OK);
+    REFUSED(PT_FILLED, crews, 2, desks, 2, &gathered, &rest, &history);
+    assert(gathered.at == NULL && settled.at == NULL && history.at == NULL && another.at == NULL && rest.at != NULL);
+    assert(is_same_node(before, state_of_node(desks, crews, pids)));
+    /* two nodes: the one that is gathered waits until the settled one has gone on */
+    assert(pt_gather(desks, 2, &gathered) == PT_OK);
+    REFUSED(PT_FILLED, crews, 2, desks, 2, &gathered, &rest, &history);
+    /* not as many desks as the settled node has */
+    REFUSED(PT_BAD_DESKS, strangers, 1, others, 1, &another, &rest, &history);
+    assert(rest.at != NULL && another.at == NULL && history.at == NULL && others[0].at == NULL);
+#undef REFUSED
+    assert(pt_crews_go_on(strangers, 2, others, 2, &another, &rest, &history) == PT_OK && rest.at == NULL);
+    assert(pt_history_give_up(&history) == PT_OK && pt_history_give_up(&told) == PT_OK);
+    assert(pt_crews_go_on(crews, 2, desks, 2, &gathered, &settled, &history) == PT_OK && gathered.at == NULL);
+    assert(settled.at == NULL && pt_history_give_up(&history) == PT_OK);
+    for (int k = 0; k < 2; k++) {
+        assert(state_of_crew(&crews[k], &desks[k], pids[k]).next.code == PT_NEXT_PROCEED);
+        assert(pt_crew_give_up(&crews[k]) == PT_OK && pt_give_up(&desks[k]) == PT_OK);
+        assert(pt_crew_give_up(&strangers[k]) == PT_OK && pt_give_up(&others[k]) == PT_OK);
+    }
+    return tried;
+}
+
 int main(void) {
     pt_desk desk = PT_NO_DESK, none = PT_NO_DESK;
     pt_pid p, other, strange = {9, 0, 1};
@@ -127,5 +252,7 @@ int main(void) {
     assert(pt_exit(&desk, p, (pt_reason){PT_OTHER, 1}) == PT_OK && !state_of(&desk, p).is_alive);
     assert(pt_give_up(&desk) == PT_OK);
     printf("c: %d bad codes in 3 calls and %d in 3 calls of a crew, each refused\n", tried, crews());
+    int empty = empty_crews();
+    printf("c: %d calls of a crew without a handle and %d of a node that may not go on, each refused\n", empty, going_on());
     return 0;
 }

@@ -1,6 +1,7 @@
 /* Crews under load: on three desks processes send each other messages, answer at once or steps later, break down, exit
  * while they run, and are killed; whoever has exited is replaced. Each message that came to a process that lives is told
- * once and in order, each exit once with its tag and its reason, and no process is in a batch twice.
+ * once and in order, each exit once with its tag and its reason, and no process is in a batch twice. Every twenty
+ * rounds the node goes on, whatever the crews are about to do, and its histories have each message once.
  *
  *   crew_load [MESSAGES] */
 #include <assert.h>
@@ -9,7 +10,8 @@
 
 #include "pundewo.h"
 
-enum { DESKS = 3, EACH = 40, MOST = 4000, BATCH = 16 };
+/* One of the desks keeps its losses, so that its crew knows the reason of each exit. */
+enum { DESKS = 3, EACH = 40, MOST = 4000, BATCH = 16, TELLING = 1, EPOCH = 20 };
 
 typedef struct {
     pt_pid pid;
@@ -23,7 +25,7 @@ static pt_crew crews[DESKS];
 static process all[MOST];
 static size_t tags;
 static uint32_t sent[MOST][MOST], got[MOST][MOST];
-static uint64_t batches, exits, kills, lates, messages;
+static uint64_t batches, exits, kills, lates, messages, epochs, said, came;
 
 static uint64_t random_number(void) {
     static uint64_t x = 88172645463325252;
@@ -97,7 +99,7 @@ static void has_exited(const pt_job *job) {
     process *p = &all[job->tag];
     assert(!p->has_left && (p->has_own_reason || p->was_killed));
     if (job->reason.code == PT_OTHER) assert(p->has_own_reason && job->reason.number == job->tag);
-    else assert(p->was_killed && job->reason.code == PT_NO_PROCESS);
+    else assert(p->was_killed && job->reason.code == (p->desk == TELLING ? PT_KILLED : PT_NO_PROCESS));
     /* what it was to do: nothing yet, where nobody answered */
     assert(!p->is_running || job->was.code == PT_NEXT_RUNNING);
     p->has_left = true;
@@ -124,12 +126,25 @@ static void answer_late(uint8_t desk) {
     }
 }
 
+/* A turn, and what the desk lost by it or as the node went on. The budget that is left for the step is 0. */
+static uint32_t note_losses(uint32_t budget, uint64_t *handled) {
+    pt_turned turned;
+    assert(pt_turn(&desks[TELLING], budget, &turned) == PT_OK && turned.stopped == PT_OK);
+    while (pt_crew_note_loss(&crews[TELLING], &desks[TELLING], 0) == PT_OK)
+        assert(pt_next_loss(&desks[TELLING]) == PT_OK);
+    *handled = turned.handled;
+    return 0;
+}
+
 static size_t step(uint8_t desk, uint64_t limit) {
     pt_job jobs[BATCH];
     pt_answer answers[BATCH];
     pt_turned turned;
     size_t count, most = 1 + random_number() % BATCH, told = 0;
-    assert(pt_crew_step(&crews[desk], &desks[desk], 1 + random_number() % 20, jobs, most, &count, &turned) == PT_OK);
+    uint64_t before = 0;
+    uint32_t budget = 1 + (uint32_t)(random_number() % 20);
+    if (desk == TELLING) budget = note_losses(budget, &before);
+    assert(pt_crew_step(&crews[desk], &desks[desk], budget, jobs, most, &count, &turned) == PT_OK);
     assert(count <= most && turned.stopped == PT_OK);
     batches++;
     for (size_t k = 0; k < count; k++) {
@@ -145,7 +160,7 @@ static size_t step(uint8_t desk, uint64_t limit) {
     }
     answer(desk, answers, told);
     answer_late(desk);
-    return count + turned.handled;
+    return count + turned.handled + before;
 }
 
 /* Whether nothing is to be done on any desk. */
@@ -161,10 +176,42 @@ static bool is_still(void) {
     return still;
 }
 
+/* Counts what a history has: as many messages were sent as came to some process, since none is on its way at its end. */
+static void count_history(pt_history *history) {
+    size_t events, left;
+    pt_event event;
+    assert(pt_history_count(history, &events) == PT_OK && pt_history_left_count(history, &left) == PT_OK && left == 0);
+    for (size_t k = 0; k < events; k++) {
+        assert(pt_history_at(history, k, &event) == PT_OK);
+        if (event.signal.code != PT_SIGNAL_MESSAGE) continue;
+        said += event.code == PT_EVENT_SAID;
+        came += event.code == PT_EVENT_CAME;
+    }
+    assert(said == came && pt_history_give_up(history) == PT_OK);
+}
+
+/* The whole node goes on, and each desk has an empty journal. */
+static void go_on(void) {
+    pt_gathered gathered = PT_NO_GATHERED;
+    pt_settled settled = PT_NO_SETTLED;
+    pt_history history = PT_NO_HISTORY;
+    assert(pt_crews_go_on(crews, DESKS, desks, DESKS, &gathered, &settled, &history) == PT_OK);
+    assert(gathered.at == NULL && settled.at == NULL);
+    for (uint8_t d = 0; d < DESKS; d++) {
+        size_t events, queued, len;
+        assert(pt_event_count(&desks[d], &events) == PT_OK && events == 0);
+        assert(pt_crew_queued(&crews[d], &queued) == PT_OK && pt_crew_len(&crews[d], &len) == PT_OK && queued == len);
+    }
+    count_history(&history);
+    epochs++;
+}
+
 static void run(uint64_t limit) {
+    uint64_t rounds = 0;
     for (int quiet = 0; quiet < 3;) {
         size_t did = 0;
         for (uint8_t d = 0; d < DESKS; d++) did += step(d, limit);
+        if (++rounds % EPOCH == 0) go_on();
         if (messages < limit && did == 0) {
             uint32_t tag = somebody();
             if (!all[tag].has_left && !all[tag].was_killed && !all[tag].has_own_reason) send_some(tag, limit);
@@ -193,6 +240,7 @@ int main(int argc, char **argv) {
         assert(pt_crew_open(&crews[d]) == PT_OK);
         for (int k = 0; k < EACH; k++) start(d);
     }
+    assert(pt_keep_losses(&desks[TELLING], true) == PT_OK);
     run(limit);
     for (uint8_t d = 0; d < DESKS; d++) {
         size_t len;
@@ -200,9 +248,11 @@ int main(int argc, char **argv) {
         live += len;
     }
     assert(live == all_told() && live + exits == tags);
+    go_on();
+    assert(said == messages && epochs > 1);
     for (uint8_t d = 0; d < DESKS; d++) assert(pt_crew_give_up(&crews[d]) == PT_OK && pt_give_up(&desks[d]) == PT_OK);
-    printf("c: crews told of %llu messages in %llu batches, and %llu exits; %llu were killed, %llu answers were late\n",
-        (unsigned long long)messages, (unsigned long long)batches, (unsigned long long)exits, (unsigned long long)kills,
-        (unsigned long long)lates);
+    printf("c: crews told of %llu messages in %llu batches and %llu epochs, and %llu exits; %llu were killed, %llu answers"
+        " were late\n", (unsigned long long)messages, (unsigned long long)batches, (unsigned long long)epochs,
+        (unsigned long long)exits, (unsigned long long)kills, (unsigned long long)lates);
     return 0;
 }

@@ -15,9 +15,10 @@
  *  - every pointer is valid and aligned, what it points to is initialized, and no two pointers of one call overlap;
  *  - a bool is 0 or 1. A code in a struct that is passed in may have any value: PT_BAD_CODE answers one that means
  *    nothing;
- *  - a crew is used with one desk alone: that of its first call, or, after pt_crew_begin_again, the desk of the same
- *    number in the node that was resumed;
- *  - pt_gather gets all desks of one pt_open or of one pt_resume, each once and in order;
+ *  - a crew is used with one desk alone: that of its first call, or, after pt_crews_go_on or pt_crew_begin_again, the
+ *    desk of the same number in the node that was resumed;
+ *  - pt_gather and pt_crews_go_on get desks of one pt_open or of one resumption: they see whether these are all, and in
+ *    order, but not whether they are of one node;
  *  - malloc, realloc and free come from one allocator, with malloc's usual alignment; no call is made from a signal
  *    handler, nor in the forked child of a process with threads.
  */
@@ -197,8 +198,9 @@ typedef struct { pt_pid pid; pt_next next; } pt_answer;
 uint32_t pt_open(pt_desk *desks, size_t count, pt_config config);
 
 /* Brings all desks of one pt_open or one pt_resume together, in order: their handles are empty then, and `out` has the
- * node. PT_EMPTY where a desk is missing, PT_FILLED where `out` has a node; PT_MEMORY, and then all desks are as they
- * were. */
+ * node. PT_EMPTY where a desk is missing, or `count` is 0; PT_BAD_DESKS where there are more or fewer than their node has,
+ * or one is not at the place of its number; PT_FILLED where `out` has a node; PT_MEMORY, and then all desks are as they
+ * were. Desks of different nodes are not told apart. */
 uint32_t pt_gather(pt_desk *desks, size_t count, pt_gathered *out);
 
 /* Brings the letters left over to their receivers: `node` is empty then, and `out` has the settled node. PT_EMPTY,
@@ -308,9 +310,33 @@ uint32_t pt_crew_note_loss(pt_crew *crew, pt_desk *desk, size_t place);
 uint32_t pt_crew_set_time(pt_crew *crew, uint64_t now);
 
 /* For a node that was resumed: goes on over its desk of the same number. Each process is in the queue then, does next
- * what it was to do, and is told by the next steps that it has exited, where it did in settling. PT_MEMORY, and then it
- * may be called again. */
+ * what it was to do, and is told by the next steps that it has exited, where it did in settling. Each exit has to be told
+ * before the node is gathered, as it is where the crew is idle; pt_crews_go_on does not ask for that. PT_MEMORY, and then
+ * it may be called again. */
 uint32_t pt_crew_begin_again(pt_crew *crew);
+
+/* Goes on with a whole node, at any time between two steps: crews[k] is the crew of desks[k]. It gathers the desks, settles
+ * the node without the list of all pids, takes its history, resumes it, and lets each crew go on over the desk of its
+ * number. After PT_OK `desks` has the desks, with empty journals, `history` what happened since they had empty journals
+ * last, and `gathered` and `settled` are empty. Each process of the crews does next what it was to do, and running ones may
+ * be answered as before. Each is in the queue, so that the next steps find what it got, and tell of each exit that was not
+ * told, with its reason: also if it exited in settling, and a loss told the reason (pt_crew_note_loss). What the desks lost
+ * and keep, they keep.
+ *
+ * The four handles of one node are those of the desks, `gathered`, `settled` and `history`. At first the desks are full,
+ * and the other three are empty. What is refused, in this order:
+ *  - nothing has changed: PT_EMPTY: a crew is missing. PT_BAD_DESKS: there are not as many crews as desks. PT_FILLED:
+ *    `history` is not empty, or some desk is not while `gathered` or `settled` has a node. Then as pt_gather: PT_EMPTY,
+ *    PT_BAD_DESKS, and PT_MEMORY, where all desks are full still;
+ *  - the node is in `gathered`, with what was handled so far, and the desks are empty: PT_MEMORY; PT_WORN: a clock stands
+ *    at its limit;
+ *  - the node is in `settled`, and all else is empty: PT_MEMORY.
+ * In each case the crews are as they were, and nothing is lost: the same call, made again, goes on where it stopped. A
+ * node that is not to go on is read and given up by the calls of its handle. A node that the caller has gathered or settled
+ * (pt_gather, pt_settle_unlisted) goes on in the same way; PT_FILLED where both handles have one, and PT_BAD_DESKS, with
+ * the node in `settled`, where it has not as many desks. */
+uint32_t pt_crews_go_on(pt_crew *crews, size_t crew_count, pt_desk *desks, size_t desk_count, pt_gathered *gathered,
+    pt_settled *settled, pt_history *history);
 
 /* The earliest time until which a process waits that is not in the queue. PT_NOTHING: there is none. */
 uint32_t pt_crew_next_time(pt_crew *crew, uint64_t *out);

@@ -1,3 +1,4 @@
 pub mod Nodes
 pub mod About
 pub mod Crews
+pub mod GoingOn

@@ -26,6 +26,7 @@ use Rattle.pt_table.specs.declared.types.PtConfig.{PtConfig}
 use Rattle.pt_table.specs.Codes.{open_code, stop_code, empty, filled}
 use Rattle.pt_table.specs.Crossing.{config_in}
 use Rattle.pt_table.specs.Answers.{HandlePlace, value_behind, values, full, HistoryState}
+use Rattle.pt_table.specs.InOrder.{are_in_order}
 
 -- opening ------------------------------------------------------------------------------
 
@@ -69,6 +70,14 @@ OpensAs c code old new =
 abbrev pub AreAllFull : List (HandlePlace DeskState) → Type 0
 AreAllFull places = (0 < length places) × (length (values places) ≡ length places)
 
+-- whether each is at the place of its number, and there are as many as their node has
+abbrev pub in_order : List (HandlePlace DeskState) → Bool
+in_order places = are_in_order 0 (length places) places
+
+-- there is a handle, each has a desk, and so they are all desks of a node in order, if they are of one
+abbrev pub IsWholeNode : List (HandlePlace DeskState) → Type 0
+IsWholeNode places = AreAllFull places × (in_order places ≡ true)
+
 -- what holds of a node that was gathered of these desks
 pub record IsGatheredOf (desks : List DeskState) (g : GatheredState) : Type 0 where
   pub gathers : Gathers desks g
@@ -108,10 +117,17 @@ abbrev pub IfEmpty : {S : Type 0} → HandlePlace S → Type 0 → Type 0 → Ty
 IfEmpty (Some (Some s)) P Q = Q
 IfEmpty _ P Q = P
 
+-- they are brought together, where out is empty
+abbrev pub GathersWhole : ℕ → List (HandlePlace DeskState) → List (HandlePlace DeskState) → HandlePlace GatheredState
+    → HandlePlace GatheredState → Type 0
+GathersWhole code old new before after =
+    IfEmpty before (Joins code (values old) new before after) (Refused filled code old new before after)
+
 pub record GathersAs (code : ℕ) (old new : List (HandlePlace DeskState)) (before after : HandlePlace GatheredState) : Type 0 where
-  pub all_full : AreAllFull old
-      → IfEmpty before (Joins code (values old) new before after) (Refused filled code old new before after)
   pub not_all : ¬ AreAllFull old → Refused empty code old new before after
+  pub out_of_order : AreAllFull old → in_order old ≡ false
+      → Refused (open_code (Bounds Desks)) code old new before after
+  pub all_full : AreAllFull old → in_order old ≡ true → GathersWhole code old new before after
 
 -- settling -----------------------------------------------------------------------------
 

@@ -15,18 +15,21 @@
 //! - **Exports.** Each function returns the code of the call that it makes on its handle's value, and writes that
 //!   call's answer. (`CallsThrough`, `ReadsThrough`)
 //! - **Failures.** If a function fails, each handle and each struct passed in is as it was, also if there is no memory.
-//! - **Handles.** An empty handle, a full one that must be empty, and a wrong number of desks are codes.
+//! - **Handles.** An empty handle, a full one that must be empty, and a wrong number or order of desks are codes.
 //! - **Bad codes.** So is a pick, a reason, or what a process does next, whose own code means nothing.
 //! - **Crews.** A step hands out what `Hands` hands out, in order, no process twice, and no wake-up is lost. Of a row of
 //!   answers each is taken, up to the first that is refused. (`CrewSteps`, `AnswersInOrder`)
 //! - **Nodes.** Opening, gathering, settling and resuming leave in the handles what `open`, `gather`, `settle` and
 //!   `resume` promise, or `settle_unlisted` and `resume_settled`.
+//! - **Going on.** A node and its crews go through the stages of a pause in one call. Whichever is refused, its code says
+//!   so, and the node is in the handle where that stage leaves it. (`NodeGoesOn`)
 //! - **Threads.** Each handle may go to another thread.
 #![tactic(auto)]
 
 mod about;
 mod calls;
 mod crews;
+mod going_on;
 mod losses;
 mod node;
 mod reads;

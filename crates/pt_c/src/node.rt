@@ -4,7 +4,7 @@ ghost use Rattle.std.specs.Prelude.{◌≡◌, ◌≤◌, [], map, length, IfOk,
 ghost use Rattle.std.specs.Vec.{vec_capacity};
 ghost use Rattle.pt_workers.specs.Desks.{AreDesks};
 ghost use Rattle.pt_table.specs.Answers.{value_behind, values};
-ghost use Rattle.pt_c.specs.Nodes.{OpensAs, OpensMany, AreAllFull, GathersAs, Joins, SettlesAs, GivesUp, HandleTells, Writes};
+ghost use Rattle.pt_c.specs.Nodes.{OpensAs, OpensMany, AreAllFull, IsWholeNode, GathersAs, GathersWhole, Joins, SettlesAs, GivesUp, HandleTells, Writes};
 ghost use Rattle.pt_c.specs.Nodes.{IsHistoryOf, IsQuietHistoryOf};
 
 use pt_node::{Config, Desk, Gathered, OpenError, Quiet, Setting, abandon, gather, open};
@@ -23,7 +23,7 @@ use pt_table::quiet_handle::{
     QuietHandle, claim as claim_quiet, filled as filled_quiet, hold as hold_quiet,
     is_full as has_quiet, spare as spare_quiet,
 };
-use pt_table::rows::{count_full, empty_all, fill_all, spare_places};
+use pt_table::rows::{are_in_order, count_full, empty_all, fill_all, spare_places};
 use pt_table::types::PtConfig;
 use std::alloc::{AllocError, Global};
 
@@ -72,16 +72,17 @@ fn open_many(alloc: Global, count: usize, config: PtConfig) -> Result<Vec<Desk>,
 /// Brings the desks of a node together, as `gather` does. `out` has the node then, and the handles of the desks are
 /// empty.
 ///
-/// All handles must have a desk: it returns 9 if one has none, or there is no handle. Then they must be all desks of
-/// one `pt_open`, each once and in order. `out` must be empty: it returns 10 if it is not. If it returns 2, for want of
-/// memory, all desks are in their handles as they were.
+/// All handles must have a desk: it returns 9 if one has none, or there is no handle. They must be all desks of one
+/// `pt_open` or of one resumption, each once and in order: it returns 11 if there are more or fewer than their node has, or
+/// one is not at the place of its number. Desks of different nodes are not told apart. `out` must be empty: it returns
+/// 10 if it is not. If it returns 2, for want of memory, all desks are in their handles as they were.
 #[unsafe(no_mangle)]
 pub extern "C" fn pt_gather(
     alloc: Global,
     desks: &mut [DeskHandle],
     out: &mut GatheredHandle,
 ) -> u32
-    requires { AreAllFull (map (λ h. h.state) desks.old) → AreDesks (values (map (λ h. h.state) desks.old)) }
+    requires { IsWholeNode (map (λ h. h.state) desks.old) → AreDesks (values (map (λ h. h.state) desks.old)) }
     ensures { GathersAs result (map (λ h. h.state) desks.old) (map (λ h. h.state) desks.new)
         out.old.state out.new.state }
 {
@@ -89,6 +90,19 @@ pub extern "C" fn pt_gather(
     if count == 0 || count != desks.len() {
         return EMPTY;
     }
+    if !are_in_order(alloc, desks) {
+        return open_code(OpenError::Bounds(Setting::Desks));
+    }
+    gather_whole(alloc, desks, out)
+}
+
+/// Brings the desks of a node together, which are in their handles.
+fn gather_whole(alloc: Global, desks: &mut [DeskHandle], out: &mut GatheredHandle) -> u32
+    requires full { AreAllFull (map (λ h. h.state) desks.old) }
+    requires node { AreDesks (values (map (λ h. h.state) desks.old)) }
+    ensures { GathersWhole result (map (λ h. h.state) desks.old) (map (λ h. h.state) desks.new)
+        out.old.state out.new.state }
+{
     if has_gathered(alloc, out) {
         return FILLED;
     }

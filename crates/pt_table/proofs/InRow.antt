@@ -97,6 +97,18 @@ module _ {H S : Type 0} (st : H → HandlePlace S) where
       ap st is ∙ sym (get_or-map st hs k h (st h) within) ∙ ap (λ z. get_or z k (st h)) (are ∙ ap (λ z. pre ++ z) f.2) ∙ get_at pre f.0 f.1 k (st h) long in
       (f.1, f.2 ∙ ap (λ z. z ∷ f.1) (sym here))
 
+  -- it is changed, and all others stay
+  pub changed :
+      (hs : List H) (pre rest : List (HandlePlace S)) (k : ℕ) (h : H)
+      → map st hs ≡ pre ++ rest → length pre ≡ k → k < length hs → h ≡ get_or hs k h
+      → (rest' : List (HandlePlace S)) × (rest ≡ st h ∷ rest') × ((h' : H) → map st (set hs k h') ≡ pre ++ st h' ∷ rest')
+  changed hs pre rest k h are long within is =
+      let f = at_first hs pre rest k h are long within is in (
+        f.0,
+        f.1,
+        λ h'. map-set st hs k h' ∙ ap (λ z. set z k (st h')) (are ∙ ap (λ z. pre ++ z) f.1) ∙ set_at pre (st h) f.0 k (st h') long,
+      )
+
   pub counted :
       (hs : List H) (whole seen rest : List (HandlePlace S)) (k count : ℕ) (h h' : H)
       → map st hs ≡ whole → whole ≡ seen ++ rest → length seen ≡ k → count ≡ length (values seen) → k < length hs → h ≡ get_or hs k h → st h' ≡ st h

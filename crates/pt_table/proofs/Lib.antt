@@ -4,3 +4,4 @@ pub mod Handles
 pub mod InRow
 pub mod Waking
 pub mod InCrew
+pub mod AlongRow

@@ -2,8 +2,10 @@ pub mod Held
 pub mod Crossing
 pub mod Jobs
 pub mod Crewing
+pub mod GoingOn
 pub mod Codes
 pub mod Answers
+pub mod InOrder
 pub mod Reading
 pub mod Losing
 pub mod Waking

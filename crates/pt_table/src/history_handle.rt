@@ -51,7 +51,8 @@ impl HistoryHandle {
         }
     }
 
-    pub(crate) fn none() -> HistoryHandle
+    /// The handle that has no place.
+    pub fn none() -> HistoryHandle
         ensures { result.state ≡ None }
     {
         HistoryHandle {

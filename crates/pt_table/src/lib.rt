@@ -14,6 +14,7 @@
 //!   and nothing has changed. (`IfCrosses`)
 //! - **Crews.** A step hands out what `Hands` hands out, each job as its struct, and an answer is that of `Hands`. Of a row
 //!   of answers each is taken up to the first that is refused. (`CrewSteps`, `TakesAnswers`)
+//! - **Going on.** Each crew of a row goes on with the history, as `Hands` does. (`AllCrewsGoOn`)
 //! - **Losses.** What a desk lost is read item by item, and each loss is passed once. (`Losing`)
 //! - **Wake-ups.** `Woken` says which process is returned next. No event gives an item to any other process, or makes
 //!   it exit. (`NobodyIsMissed`)

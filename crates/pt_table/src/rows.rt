@@ -1,12 +1,15 @@
-//! The handles of desks, in a row.
+//! The handles of desks, and those of crews, in a row.
 
-ghost use Rattle.std.specs.Prelude.{◌≡◌, ◌≤◌, [], map, length, replicate, None, IfOk, vec_len};
+ghost use Rattle.std.specs.Prelude.{◌≡◌, ◌≤◌, [], map, length, replicate, reverse, None, IfOk, vec_len};
 ghost use Rattle.std.specs.Vec.{vec_capacity};
-ghost use Rattle.pt_table.specs.Answers.{values, full};
+ghost use Rattle.pt_table.specs.Answers.{value_behind, values, full};
+ghost use Rattle.pt_table.specs.InOrder.{are_in_order, is_desk_at};
+ghost use Rattle.pt_table.specs.GoingOn.{AllCrewsGoOn, CrewGoesOn};
 
-use crate::desk_handle::{DeskHandle, filled, is_full, spare, take_out};
+use crate::crew_handle::{CrewHandle, claim as claim_crew, hold as hold_crew, is_full as has_crew};
+use crate::desk_handle::{DeskHandle, claim, filled, hold, is_full, spare, take_out};
 use crate::held::HeldDesk;
-use pt_node::Desk;
+use pt_node::{Desk, Stamped};
 use std::alloc::{AllocError, Global};
 
 /// The number of handles that have a desk.
@@ -19,6 +22,38 @@ pub fn count_full(alloc: Global, desks: &mut [DeskHandle]) -> usize
         count += usize::from(is_full(alloc, &mut desks[k]));
     }
     count
+}
+
+/// Whether each handle has the desk of its place, in a node of as many desks as there are handles.
+pub fn are_in_order(alloc: Global, desks: &mut [DeskHandle]) -> bool
+    ensures same { map (λ h. h.state) desks.new ≡ map (λ h. h.state) desks.old }
+    ensures order { result ≡ are_in_order 0 (length desks.old) (map (λ h. h.state) desks.old) }
+{
+    let count = desks.len();
+    for k in 0..count {
+        if !is_desk_at(alloc, &mut desks[k], k, count) {
+            return false;
+        }
+    }
+    true
+}
+
+/// Whether the handle has the desk of this place, in a node of so many desks.
+fn is_desk_at(alloc: Global, h: &mut DeskHandle, place: usize, count: usize) -> bool
+    ensures same { h.new.state ≡ h.old.state }
+    ensures at { result ≡ is_desk_at place count (value_behind h.old.state) }
+{
+    let Some(held) = claim(alloc, h) else {
+        return false;
+    };
+    let at = match &held.desk {
+        Some(desk) => {
+            usize::from(desk.number()) == place && usize::from(desk.config().desks) == count
+        }
+        None => false,
+    };
+    *h = hold(held);
+    at
 }
 
 /// Takes the desks of all handles, and their places.
@@ -67,4 +102,38 @@ pub fn spare_places(alloc: Global, count: usize) -> Result<Vec<Box<HeldDesk, Glo
         places.push(spare(alloc)?)?;
     }
     Ok(places)
+}
+
+/// The number of handles that have a crew.
+pub fn count_crews(alloc: Global, crews: &mut [CrewHandle]) -> usize
+    ensures same { map (λ h. h.state) crews.new ≡ map (λ h. h.state) crews.old }
+    ensures count { result ≡ length (values (map (λ h. h.state) crews.old)) }
+{
+    let mut count = 0;
+    for k in 0..crews.len() {
+        count += usize::from(has_crew(alloc, &mut crews[k]));
+    }
+    count
+}
+
+/// Each crew goes on over a desk of the resumed node, with the history of the node before.
+pub fn go_on_all(alloc: Global, crews: &mut [CrewHandle], history: &[Stamped])
+    ensures { AllCrewsGoOn (reverse history.now) (map (λ h. h.state) crews.old) (map (λ h. h.state) crews.new) }
+{
+    for k in 0..crews.len() {
+        go_on_one(alloc, &mut crews[k], history);
+    }
+}
+
+/// The crew of the handle goes on, if there is one.
+fn go_on_one(alloc: Global, h: &mut CrewHandle, history: &[Stamped])
+    ensures { CrewGoesOn (reverse history.now) h.old.state h.new.state }
+{
+    let Some(mut place) = claim_crew(alloc, h) else {
+        return;
+    };
+    if let Some(crew) = &mut place.crew {
+        crew.go_on(history);
+    }
+    *h = hold_crew(place);
 }

@@ -1,0 +1,93 @@
+-- Going on with a node and its crews: what each stage leaves in the handles.
+use Rattle.std.specs.Prelude.{◌≡◌, ◌≢◌, ℕ, zero, suc, Bool, true, false, ◌||◌, MatchBool, List, length, reverse, Some, None, is_some}
+use Rattle.pt_signal.specs.declared.config.OpenError.TheVariants.{Bounds}
+use Rattle.pt_signal.specs.declared.config.Setting.TheVariants.{Desks}
+use Rattle.pt_desk.specs.DeskState.{DeskState}
+use Rattle.pt_gathered.specs.Gathered.{GatheredState}
+use Rattle.pt_gathered.specs.Quiet.{QuietState}
+use Rattle.pt_hands.specs.declared.hands.Hands.{Hands}
+use Rattle.pt_table.specs.Codes.{empty, filled, open_code}
+use Rattle.pt_table.specs.Answers.{HandlePlace, HistoryState, value_behind, values}
+use Rattle.pt_table.specs.GoingOn.{AllCrewsGoOn}
+use Rattle.pt_c.specs.Nodes.{GathersAs, HandleTells, IfEmpty, IfNone, IsQuietHistoryOf, ResumesAs, SettlesAs}
+
+-- what the handles of the call have
+pub record Places : Type 0 where
+  pub crews : List (HandlePlace Hands)
+  pub desks : List (HandlePlace DeskState)
+  pub gathered : HandlePlace GatheredState
+  pub settled : HandlePlace QuietState
+  pub history : HandlePlace HistoryState
+
+-- a stage returned the first code. If it is 0, P holds, of what comes behind the stage; else it is the code of the call, and
+-- all else was kept
+abbrev pub IfPassed : ℕ → ℕ → Type 0 → Type 0 → Type 0
+IfPassed zero code kept P = P
+IfPassed (suc n) code kept P = (code ≡ suc n) × kept
+
+-- whether the handle has one
+abbrev pub has : {S : Type 0} → HandlePlace S → Bool
+has p = is_some (value_behind p)
+
+-- the desks are gathered; or they were before, and their handles have to be empty
+abbrev pub GathersFirst : ℕ → List (HandlePlace DeskState) → List (HandlePlace DeskState) → HandlePlace GatheredState
+    → HandlePlace GatheredState → HandlePlace QuietState → Type 0
+GathersFirst code old new before after settled =
+    MatchBool (has before || has settled)
+    ((new ≡ old) × (after ≡ before) × IfNone (values old) (code ≡ 0) (code ≡ filled))
+    (GathersAs code old new before after)
+
+-- the node is settled; or it was before, and then there is no other
+abbrev pub SettlesFirst : ℕ → HandlePlace GatheredState → HandlePlace GatheredState → HandlePlace QuietState → HandlePlace QuietState
+    → Type 0
+SettlesFirst code old new before after =
+    MatchBool (has before)
+    ((new ≡ old) × (after ≡ before) × IfEmpty old (code ≡ 0) (code ≡ filled))
+    (SettlesAs code old new before after)
+
+-- the crews go on with the history of the handle
+abbrev pub GoOnWith : HandlePlace HistoryState → List (HandlePlace Hands) → List (HandlePlace Hands) → Type 0
+GoOnWith (Some (Some h)) old new = AllCrewsGoOn (reverse h.events) old new
+GoOnWith _ old new = new ≡ old
+
+-- The history of the node is told, and then the node is resumed. Once it is, the crews go on with the history, and it is
+-- in its handle.
+abbrev pub ResumesWithCrews : ℕ → List (HandlePlace Hands) → List (HandlePlace Hands) → List (HandlePlace DeskState)
+    → List (HandlePlace DeskState) → HandlePlace QuietState → HandlePlace QuietState → HandlePlace HistoryState
+    → HandlePlace HistoryState → Type 0
+ResumesWithCrews code crews later desks back settled left before after =
+    (told : ℕ) × (h : HandlePlace HistoryState) × HandleTells told (value_behind settled) IsQuietHistoryOf None h
+    × IfPassed told code ((later ≡ crews) × (back ≡ desks) × (left ≡ settled) × (after ≡ before))
+    ((resumed : ℕ) × ResumesAs resumed settled left desks back
+    × IfPassed resumed code ((later ≡ crews) × (after ≡ before))
+    ((code ≡ 0) × GoOnWith h crews later × (after ≡ h)))
+
+-- one stage behind the other, up to the first that is refused
+pub record Stages (code : ℕ) (old new : Places) : Type 0 where
+  pub gathered_code : ℕ
+  pub desks : List (HandlePlace DeskState)
+  pub gathered : HandlePlace GatheredState
+  pub gathers : GathersFirst gathered_code old.desks desks old.gathered gathered old.settled
+  pub rest : IfPassed gathered_code code (new ≡ record old { desks = desks; gathered = gathered })
+      ((settled_code : ℕ) × (left : HandlePlace GatheredState) × (settled : HandlePlace QuietState)
+      × SettlesFirst settled_code gathered left old.settled settled
+      × IfPassed settled_code code (new ≡ record old { desks = desks; gathered = left; settled = settled })
+      ((new.gathered ≡ left)
+      × ResumesWithCrews code old.crews new.crews desks new.desks settled new.settled old.history new.history))
+
+-- what is refused before them: nothing has changed
+abbrev pub RefusesWith : ℕ → ℕ → Places → Places → Type 0
+RefusesWith is code old new = (code ≡ is) × (new ≡ old)
+
+-- each handle has a crew
+abbrev pub AreAllCrews : List (HandlePlace Hands) → Type 0
+AreAllCrews crews = length (values crews) ≡ length crews
+
+pub record NodeGoesOn (code : ℕ) (old new : Places) : Type 0 where
+  pub no_crew : ¬ AreAllCrews old.crews → RefusesWith empty code old new
+  pub not_as_many : AreAllCrews old.crews → length old.crews ≢ length old.desks
+      → RefusesWith (open_code (Bounds Desks)) code old new
+  pub told_before : AreAllCrews old.crews → length old.crews ≡ length old.desks → has old.history ≡ true
+      → RefusesWith filled code old new
+  pub stages : AreAllCrews old.crews → length old.crews ≡ length old.desks → has old.history ≡ false
+      → Stages code old new

@@ -1,0 +1,12 @@
+-- `count_crews`: what holds in its loop over `k`.
+use Rattle.std.proofs.Common.{◌≡◌, ℕ, List, ◌++◌, map, length}
+use Rattle.pt_hands.specs.declared.hands.Hands.{Hands}
+use Rattle.pt_table.specs.Answers.{HandlePlace, values}
+use Rattle.pt_table.proofs.rows.count_crews.Given as goal
+
+abbrev pub invariant-loop-k : goal.invariant-loop-k
+invariant-loop-k l = record {
+  same : map (λ h. h.state) l.crews ≡ map (λ h. h.state) l.fn.crews;
+  split : (seen : List (HandlePlace Hands)) × (rest : List (HandlePlace Hands))
+      × (map (λ h. h.state) l.fn.crews ≡ seen ++ rest) × (length seen ≡ l.k) × (l.count ≡ length (values seen));
+}

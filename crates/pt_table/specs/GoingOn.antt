@@ -1,0 +1,18 @@
+-- The crews of a node that goes on, in their handles.
+use Rattle.std.specs.Prelude.{⊤, ◌≡◌, List, [], ◌∷◌, Option, Some, None}
+use Rattle.pt_events.specs.declared.event.Stamped.{Stamped}
+use Rattle.pt_hands.specs.declared.hands.Hands.{Hands}
+use Rattle.pt_hands.specs.Pulling.{HandsGoOn}
+use Rattle.pt_table.specs.Answers.{HandlePlace}
+
+-- the crew of a handle goes on with this history, whose newest event is in front; a handle that has none stays so
+abbrev pub CrewGoesOn : List Stamped → HandlePlace Hands → HandlePlace Hands → Type 0
+CrewGoesOn past (Some (Some old)) (Some (Some new)) = HandsGoOn past old new
+CrewGoesOn past (Some (Some old)) _ = ⊥
+CrewGoesOn past old new = new ≡ old
+
+-- so does each of them
+abbrev pub AllCrewsGoOn : List Stamped → List (HandlePlace Hands) → List (HandlePlace Hands) → Type 0
+AllCrewsGoOn past [] [] = ⊤
+AllCrewsGoOn past (old ∷ olds) (new ∷ news) = CrewGoesOn past old new × AllCrewsGoOn past olds news
+AllCrewsGoOn past _ _ = ⊥
