@@ -1,5 +1,5 @@
 #!/usr/bin/env python3
-"""Prints the worked rows of checks/rows as one table, which C, Rust and Python play.
+"""Prints the worked rows of checks/rows, and those of crews (crew_rows.txt), as one table, which C, Rust and Python play.
 
     bindings/rows.py > TABLE
 
@@ -26,6 +26,7 @@ sys.dont_write_bytecode = True
 from play import Line, Play, Wrong, is_call, is_expect, plays_of, read_rows, row_files  # noqa: E402
 
 FEWEST_ROWS = 115
+CREW_ROWS = Path(__file__).with_name("crew_rows.txt")
 DEFAULTS = {"desks": 1, "slots": 1024, "top_version": 2**32 - 1, "lane": 64, "start": 0}
 BY_DESK = {"spawn", "turn", "clock", "pending", "journal", "event", "vacant", "knows"}
 WITHOUT_ACTOR = {"turn_all", "turn_until_still", "events", "gather"}
@@ -116,6 +117,13 @@ def lines_of(play: Play) -> Iterator[str]:
             state.names[name] = step.answer[0]
 
 
+def crew_lines() -> Iterator[str]:
+    """The lines of the table for the rows of crews, which are written as they stand in it."""
+    for line in CREW_ROWS.read_text().splitlines():
+        if line and not line.startswith("#"):
+            yield line
+
+
 def main() -> int:
     """Prints the table, and returns the status."""
     try:
@@ -123,6 +131,7 @@ def main() -> int:
         for row in rows:
             for play in plays_of(row):
                 print("\n".join(lines_of(play)))
+        print("\n".join(crew_lines()))
     except (Wrong, OSError, ValueError) as fault:
         print(f"rows.py: {fault}", file=sys.stderr)
         return 1

@@ -1,7 +1,7 @@
 #!/usr/bin/env bash
 # Builds the static library and what stands over it, and runs all of it: C, Rust and Python play one table of calls, the
-# worked rows of checks/rows, and compare each answer; each compares its structs and codes with what the library says of
-# itself; the C examples run under valgrind.
+# worked rows of checks/rows and those of crews, and compare each answer; each compares its structs and codes with what the
+# library says of itself; the C examples run under valgrind.
 #
 #   bindings/run.sh           everything, over an archive of `rt lib`, which proves what was not proved on this machine
 #   bindings/run.sh --gate    everything, over an archive that is built on the libraries which `rt ci` has just proved
@@ -115,7 +115,7 @@ by_the_page() { # SED-SCRIPT
 mkdir -p "$work/page"
 ln -s "$here" "$work/page/bindings"
 by_the_page '' >"$work/printed"
-for example in about bad_codes crew crew_load losses no_memory resumed ring supervisor; do
+for example in about bad_codes crew crew_load losses no_memory refused resumed ring supervisor; do
     by_the_page "/^\.\//d; s/ping_pong/$example/g" >"$work/printed"
     [ -x "$work/page/$example" ] || { echo "bindings: the lines of docs/EMBEDDING.md do not build $example"; exit 1; }
 done
@@ -134,6 +134,7 @@ build ring
 build resumed
 build no_memory
 build losses
+build refused
 "$work/about"
 "$work/bad_codes"
 "$work/crew_load"
@@ -141,6 +142,7 @@ build losses
 "$work/rows" "$work/table"
 "$work/no_memory"
 "$work/losses"
+"$work/refused"
 "$work/supervisor" | diff "$here/c/supervisor.out" -
 "$work/resumed" | diff "$here/c/resumed.out" -
 "$work/ring" >"$work/printed"

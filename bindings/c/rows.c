@@ -1,4 +1,5 @@
-/* Plays the table of worked rows (bindings/rows.py) through the C interface, and compares each answer. */
+/* Plays the table of worked rows (bindings/rows.py), with those of crews, through the C interface, and compares each
+ * answer. */
 #define _POSIX_C_SOURCE 200809L /* fmemopen */
 
 #include <stdlib.h>
@@ -7,15 +8,18 @@
 #include "pundewo.h"
 #include "pundewo_text.h"
 
-enum { MOST_DESKS = 64, MOST_HANDLES = MOST_DESKS + 2, MOST_WORDS = 8, MOST_BYTES = 65536 };
+enum { MOST_DESKS = 64, MOST_HANDLES = MOST_DESKS + 2, MOST_WORDS = 16, MOST_BYTES = 65536, MOST_JOBS = 16 };
 
-/* A node, in one of its states. Its desks are in one of two places, so that a refused open leaves them alone. */
+/* A node, in one of its states. Its desks are in one of two places, so that a refused open leaves them alone. The row may
+ * have a crew for each. */
 typedef struct {
     pt_desk desks[2][MOST_HANDLES];
     size_t place, count;
     bool is_running;
     pt_gathered gathered;
     pt_quiet quiet;
+    pt_settled settled;
+    pt_crew crews[MOST_HANDLES];
 } node;
 
 /* ---- words of the table */
@@ -104,6 +108,7 @@ static bool give_up(node *n) {
         for (size_t k = 0; k < n->count; k++) fine &= pt_give_up(&n->desks[n->place][k]) == PT_OK;
     if (n->gathered.at) fine &= pt_gathered_give_up(&n->gathered) == PT_OK;
     if (n->quiet.at) fine &= pt_quiet_give_up(&n->quiet) == PT_OK;
+    for (size_t k = 0; k < n->count && n->crews[k].at; k++) fine &= pt_crew_give_up(&n->crews[k]) == PT_OK;
     n->is_running = false;
     n->count = 0;
     return fine;
@@ -483,6 +488,192 @@ static void call_resume(FILE *to, node *n, char **w) {
     print_code(to, code);
 }
 
+/* ---- crews */
+
+static pt_crew *crew_of(node *n, char **w) { return &n->crews[w[1][0] == '<' ? pid_of(w[1]).shard : number_of(w[1])]; }
+
+/* A code that the words name, or the one that a name stands for; `code:N` may mean nothing. */
+static bool is_code(const char *word, uint32_t *code) {
+    return word != NULL && sscanf(word, "code:%" SCNu32, code) == 1;
+}
+
+/* What a process does next, from the words up to a comma. */
+static pt_next next_of(char **w) {
+    static const char *const names[] = {"wait", "wait-until", "proceed", "stop", "running"};
+    char *words[MOST_WORDS + 1] = {0};
+    pt_next next = {0};
+    for (size_t k = 0; w[k] != NULL && strcmp(w[k], ","); k++) words[k] = w[k];
+    if (is_code(words[0], &next.code)) return next;
+    while (next.code < PT_NEXT_RUNNING && strcmp(words[0], names[next.code])) next.code++;
+    if (next.code == PT_NEXT_STOP && !is_code(words[1], &next.reason.code)) next.reason = reason_of(words[1]);
+    char **pick = words + 1;
+    if (next.code == PT_NEXT_WAIT_UNTIL) next.until = strtoull(words[1], NULL, 10), pick++;
+    if (next.code <= PT_NEXT_WAIT_UNTIL && !is_code(pick[0], &next.pick.code)) next.pick = pick_of(pick);
+    return next;
+}
+
+static void print_crew_next(FILE *to, pt_next next) {
+    static const char *const names[] = {"wait", "wait-until", "proceed", "stop", "running"};
+    fputs(names[next.code], to);
+    if (next.code == PT_NEXT_WAIT_UNTIL) fprintf(to, " %" PRIu64, next.until);
+    if (next.code <= PT_NEXT_WAIT_UNTIL) fputc(' ', to), pt_print_pick(to, next.pick);
+    if (next.code == PT_NEXT_STOP) fputc(' ', to), pt_print_reason(to, next.reason);
+}
+
+static void print_job(FILE *to, pt_job job) {
+    static const char *const names[] = {"start ", "proceed ", "item ", "timeout ", "exit "};
+    fputs(names[job.code], to);
+    pt_print_pid(to, job.pid);
+    fprintf(to, " %" PRIu64, job.tag);
+    if (job.code == PT_JOB_ITEM) fputc(' ', to), pt_print_item(to, job.item);
+    if (job.code == PT_JOB_EXIT) {
+        fputc(' ', to), pt_print_reason(to, job.reason);
+        fputc(' ', to), print_crew_next(to, job.was);
+    }
+}
+
+static void print_size(FILE *to, uint32_t code, size_t size) {
+    if (code == PT_OK) fprintf(to, "%zu", size);
+    else print_code(to, code);
+}
+
+static void print_found(FILE *to, uint32_t code, uint64_t number) {
+    if (code == PT_OK) fprintf(to, "%" PRIu64, number);
+    else fputs("none", to);
+}
+
+static void call_crews_open(FILE *to, node *n, char **w) {
+    uint32_t code = PT_OK;
+    (void)w;
+    for (size_t k = 0; k < n->count && code == PT_OK; k++) code = pt_crew_open(&n->crews[k]);
+    print_code(to, code);
+}
+
+static void call_crew_spawn(FILE *to, node *n, char **w) {
+    pt_pid pid;
+    uint64_t tag = strtoull(w[2], NULL, 10);
+    uint32_t code = pt_crew_spawn(crew_of(n, w), desk_of(n, w), tag, next_of(w + 3), &pid);
+    print_spawned(to, code, pid);
+}
+
+static void call_crew_spawn_child(FILE *to, node *n, char **w) {
+    pt_pid pid;
+    uint64_t tag = strtoull(w[3], NULL, 10);
+    bool linked = !strcmp(w[2], "true");
+    uint32_t code = pt_crew_spawn_child(crew_of(n, w), desk_of(n, w), pid_of(w[1]), linked, tag, next_of(w + 4), &pid);
+    print_spawned(to, code, pid);
+}
+
+static void call_crew_step(FILE *to, node *n, char **w) {
+    pt_job jobs[MOST_JOBS];
+    pt_turned turned;
+    size_t count = 0;
+    uint32_t code = pt_crew_step(crew_of(n, w), desk_of(n, w), number_of(w[2]), jobs, number_of(w[3]), &count, &turned);
+    if (code != PT_OK) {
+        print_code(to, code);
+        return;
+    }
+    print_turned(to, turned);
+    for (size_t k = 0; k < count; k++) fputs("; ", to), print_job(to, jobs[k]);
+}
+
+static void call_crew_answer(FILE *to, node *n, char **w) {
+    pt_answer answers[MOST_JOBS];
+    size_t count = 0, taken = 0;
+    for (size_t k = 2; w[k] != NULL; k++)
+        if (k == 2 || !strcmp(w[k - 1], ",")) answers[count++] = (pt_answer){pid_of(w[k]), next_of(w + k + 1)};
+    uint32_t code = pt_crew_answer(crew_of(n, w), answers, count, &taken);
+    fprintf(to, "taken %zu", taken);
+    if (code != PT_OK) fputs(", then ", to), print_code(to, code);
+}
+
+static void call_crew_losses(FILE *to, node *n, char **w) {
+    pt_desk *desk = desk_of(n, w);
+    pt_loss loss;
+    pt_item item;
+    size_t count = 0;
+    for (; pt_loss_at(desk, 0, &loss) == PT_OK; count++) {
+        print_next(to, count);
+        pt_print_pid(to, loss.pid);
+        fputc(' ', to);
+        if (loss.has_exited) pt_print_reason(to, loss.reason);
+        else fputs("stray", to);
+        for (size_t k = 0; pt_loss_item(desk, 0, k, &item) == PT_OK; k++)
+            fputs(k > 0 ? ", " : " ", to), pt_print_item(to, item);
+        if (pt_crew_note_loss(crew_of(n, w), desk, 0) != PT_OK || pt_next_loss(desk) != PT_OK) fputs(" wrong", to);
+    }
+    if (pt_crew_note_loss(crew_of(n, w), desk, 0) != PT_NOTHING || pt_next_loss(desk) != PT_NOTHING) fputs(" wrong", to);
+    print_nothing(to, count);
+}
+
+static void call_keep_losses(FILE *to, node *n, char **w) {
+    print_code(to, pt_keep_losses(desk_of(n, w), !strcmp(w[2], "true")));
+}
+
+static void call_crew_next(FILE *to, node *n, char **w) {
+    pt_next next;
+    if (pt_crew_next(crew_of(n, w), pid_of(w[2]), &next) == PT_OK) print_crew_next(to, next);
+    else fputs("none", to);
+}
+
+static void call_crew_tag(FILE *to, node *n, char **w) {
+    uint64_t tag = 0;
+    uint32_t code = pt_crew_tag(crew_of(n, w), pid_of(w[2]), &tag);
+    print_found(to, code, tag);
+}
+
+static void call_crew_next_time(FILE *to, node *n, char **w) {
+    uint64_t time = 0;
+    uint32_t code = pt_crew_next_time(crew_of(n, w), &time);
+    print_found(to, code, time);
+}
+
+static void call_crew_set_time(FILE *to, node *n, char **w) {
+    print_code(to, pt_crew_set_time(crew_of(n, w), strtoull(w[2], NULL, 10)));
+}
+
+static void call_crew_len(FILE *to, node *n, char **w) {
+    size_t len = 0;
+    uint32_t code = pt_crew_len(crew_of(n, w), &len);
+    print_size(to, code, len);
+}
+
+static void call_crew_queued(FILE *to, node *n, char **w) {
+    size_t queued = 0;
+    uint32_t code = pt_crew_queued(crew_of(n, w), &queued);
+    print_size(to, code, queued);
+}
+
+static void call_crew_idle(FILE *to, node *n, char **w) {
+    bool idle = false;
+    uint32_t code = pt_crew_is_idle(crew_of(n, w), desk_of(n, w), &idle);
+    print_bool(to, code, idle);
+}
+
+static void call_crew_refused(FILE *to, node *n, char **w) {
+    bool refused = false;
+    uint32_t code = pt_crew_refused(crew_of(n, w), &refused);
+    print_bool(to, code, refused);
+}
+
+static void call_crew_begin_again(FILE *to, node *n, char **w) { print_code(to, pt_crew_begin_again(crew_of(n, w))); }
+
+static void call_crews_go_on(FILE *to, node *n, char **w) {
+    pt_history history = PT_NO_HISTORY;
+    size_t events = 0;
+    (void)w;
+    uint32_t code = pt_crews_go_on(
+        n->crews, n->count, n->desks[n->place], n->count, &n->gathered, &n->settled, &history);
+    n->is_running = n->desks[n->place][0].at != NULL;
+    if (code != PT_OK) {
+        print_code(to, code);
+        return;
+    }
+    pt_history_count(&history, &events);
+    fprintf(to, "events %zu", events);
+    if (pt_history_give_up(&history) != PT_OK || n->gathered.at || n->settled.at) fputs(" wrong", to);
+}
+
 /* ---- the table */
 
 typedef void call(FILE *, node *, char **);
@@ -497,7 +688,13 @@ static const struct { const char *name; call *make; } calls[] = {
     {"alive", call_alive}, {"knows", call_knows}, {"waiting", call_waiting}, {"linked", call_linked},
     {"watching", call_watching}, {"kept", call_kept}, {"gather", call_gather}, {"left_over", call_left_over},
     {"history", call_history}, {"settle", call_settle}, {"pids", call_pids}, {"account", call_account},
-    {"ended", call_ended}, {"resume", call_resume},
+    {"ended", call_ended}, {"resume", call_resume}, {"keep_losses", call_keep_losses}, {"crews_open", call_crews_open},
+    {"crew_spawn", call_crew_spawn}, {"crew_spawn_child", call_crew_spawn_child}, {"crew_step", call_crew_step},
+    {"crew_answer", call_crew_answer}, {"crew_losses", call_crew_losses}, {"crew_next", call_crew_next},
+    {"crew_tag", call_crew_tag}, {"crew_next_time", call_crew_next_time}, {"crew_set_time", call_crew_set_time},
+    {"crew_len", call_crew_len}, {"crew_queued", call_crew_queued}, {"crew_idle", call_crew_idle},
+    {"crew_refused", call_crew_refused}, {"crew_begin_again", call_crew_begin_again},
+    {"crews_go_on", call_crews_go_on},
 };
 
 /* Makes the call that the words are, and writes its answer to `got`, of MOST_BYTES. */

@@ -18,7 +18,7 @@ import ctypes as c
 import itertools
 from contextlib import ExitStack, contextmanager
 from threading import Lock
-from typing import Any, Callable, Iterator, Optional, Sequence, TypeVar
+from typing import Any, Callable, Iterator, Optional, Sequence, TypeVar, Union
 
 from ._library import (
     BUILD, CAccount, CAnswer, CBody, CConfig, CEvent, CHandle, CIds, CItem, CJob, CLeftOver, CLoss, CNext, CPick, CPid, CReason,
@@ -40,8 +40,8 @@ if not BUILD.startswith(f"pundewo {__version__}, "):
 __all__ = [
     "ANY", "BUILD", "EVENTS", "ITEMS", "JOBS", "KILL", "KILLED", "NEXTS", "NOPROC", "NORMAL", "PICKS", "PROCEED", "REASONS",
     "RUNNING", "SHUTDOWN", "SIGNALS", "Account", "Body", "Busy", "Code", "Config", "Crew", "Desk", "Event", "Fault",
-    "Gathered", "History", "Ids", "Item", "Job", "LeftOver", "LinkId", "Loss", "Next", "Pick", "Pid", "Quiet", "Reason", "Ref",
-    "Settled", "Signal", "Turned", "Unsettled", "gather", "open_node",
+    "Gathered", "History", "Ids", "Item", "Job", "LeftOver", "LinkId", "Loss", "Next", "NotGoneOn", "Pick", "Pid", "Quiet",
+    "Reason", "Ref", "Settled", "Signal", "Turned", "Unsettled", "gather", "go_on", "open_node",
 ]
 
 T = TypeVar("T")
@@ -554,7 +554,8 @@ class Crew(_Held):
 
     def begin_again(self, desk: Desk) -> None:
         """Goes on over the desk of the same number in the node that was resumed. Each process is in the queue, and does next
-        what it was to do. Fault: MEMORY, and then it may be called again."""
+        what it was to do. Each exit has to be told before the node is gathered, as it is where the crew is idle: `go_on`
+        does not ask for that. Fault: MEMORY, and then it may be called again."""
         node = of_type("desk", desk, Desk)._node
         if desk._opened is not self._opened or desk.number != self._number:
             raise ValueError(f"desk is {shown(desk)} of a node, and must be that of the crew in a node that was resumed")
@@ -782,21 +783,32 @@ def open_node(count: int = 1, config: Config = Config()) -> list[Desk]:
     return _desks_of(handles, object())
 
 
+def _all_of(name: str, values: Sequence[H], kind: type[H]) -> list[H]:
+    """The values, each of this type."""
+    try:
+        given = iter(values)
+    except TypeError:
+        raise TypeError(f"{name} is {shown(values)}, and must be a sequence of type {kind.__name__}") from None
+    return [of_type(f"{name}[{place}]", value, kind) for place, value in enumerate(given)]
+
+
+def _whole(name: str, desks: Sequence[Desk]) -> list[Desk]:
+    """The desks, if they are all desks of one node in order."""
+    desks = _all_of(name, desks, Desk)
+    whole = bool(desks) and len(desks) == desks[0]._count and all(
+        desk._node is desks[0]._node and desk.number == number for number, desk in enumerate(desks))
+    if not whole:
+        raise ValueError("desks are not all desks of one node in order")
+    return desks
+
+
 def gather(desks: Sequence[Desk]) -> Gathered:
     """Brings all desks of one `open_node` or one `Quiet.resume` together, each once and in order; they are empty then.
 
     Raises ValueError if they are not that, Busy if another thread is using one, and Fault without memory. The desks are
     as they were then.
     """
-    try:
-        given = iter(desks)
-    except TypeError:
-        raise TypeError(f"desks is {shown(desks)}, and must be a sequence of type Desk") from None
-    desks = [of_type(f"desks[{place}]", desk, Desk) for place, desk in enumerate(given)]
-    whole = bool(desks) and len(desks) == desks[0]._count and all(
-        desk._node is desks[0]._node and desk.number == number for number, desk in enumerate(desks))
-    if not whole:
-        raise ValueError("desks are not all desks of one node in order")
+    desks = _whole("desks", desks)
     gathered = Gathered()._from(desks[0])
     with ExitStack() as locks:
         for desk in desks:
@@ -808,3 +820,67 @@ def gather(desks: Sequence[Desk]) -> Gathered:
     if code:
         raise _fault(lib.pt_gather, (), code)
     return gathered
+
+
+class NotGoneOn(Fault):
+    """A node that has not gone on. Nothing is lost: `go_on` with its `node` and the same crews does the rest."""
+
+    # the desks, or the gathered or the settled node, with what was done
+    node: Union[list[Desk], Gathered, Settled]
+
+
+def _crews_of(crews: Sequence[Crew], node: Union[list[Desk], Gathered, Settled]) -> list[Crew]:
+    """The crews, if they are those of the desks of the node, in order."""
+    crews = _all_of("crews", crews, Crew)
+    count = len(node) if isinstance(node, list) else node.desks()
+    opened = node[0]._opened if isinstance(node, list) else node._opened
+    fit = len(crews) == count and all(
+        crew._number == number and crew._opened is opened and (not isinstance(node, list) or crew._node is node[0]._node)
+        for number, crew in enumerate(crews))
+    if not fit:
+        raise ValueError("crews are not those of all desks of the node in order")
+    return crews
+
+
+def go_on(node: Union[Sequence[Desk], Gathered, Settled], crews: Sequence[Crew]) -> tuple[list[Desk], History]:
+    """Goes on with a whole node, at any time between two steps: gathers its desks, settles it, takes its history, and
+    resumes it. Each crew goes on over the desk of its number. Returns the desks, with empty journals, and what happened
+    since they had empty journals last. What was passed as `node` is empty then.
+
+    Each process of the crews does next what it was to do, and running ones may be answered as before. Each is in the queue,
+    so that the next steps find what it got, and tell of each exit that was not told, with its reason: also if it exited in
+    settling, and a loss told the reason (`Crew.next_loss`). What the desks lost and keep, they keep.
+
+    Raises ValueError if these are not all desks of one node and their crews, in order, and Busy if another thread is using
+    one: nothing has changed then. NotGoneOn: MEMORY, or WORN if a clock is at its limit. It has the node, with what was
+    done, and the crews are as they were.
+    """
+    if not isinstance(node, (Gathered, Settled)):
+        node = _whole("node", node)
+    crews = _crews_of(crews, node)
+    held: list[_Held] = [*node] if isinstance(node, list) else [node]
+    gathered, settled, history = Gathered()._from(held[0]), Settled()._from(held[0]), History()
+    with ExitStack() as locks:
+        for it in [*held, *crews]:
+            locks.enter_context(it._held_alone())
+        desks = (CHandle * len(crews))(*(it._handle for it in held if isinstance(it, Desk)))
+        given = (CHandle * len(crews))(*(crew._handle for crew in crews))
+        if not isinstance(node, list):
+            (gathered if isinstance(node, Gathered) else settled)._handle.at = node._handle.at
+        code = lib.pt_crews_go_on(given, len(crews), desks, len(crews), gathered._at, settled._at, history._at)
+        for it in held:
+            it._handle.at = None
+        for crew, handle in zip(crews, given):
+            crew._handle.at = handle.at
+        if code and isinstance(node, list):
+            for desk, handle in zip(node, desks):
+                desk._handle.at = handle.at
+    if code:
+        fault = _fault(lib.pt_crews_go_on, (), code, NotGoneOn)
+        assert isinstance(fault, NotGoneOn)
+        fault.node = gathered if gathered._handle.at else settled if settled._handle.at else node
+        raise fault
+    resumed = _desks_of(desks, held[0]._opened)
+    for crew, desk in zip(crews, resumed):
+        crew._node = desk._node
+    return resumed, history

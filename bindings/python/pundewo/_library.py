@@ -177,6 +177,7 @@ def _declare() -> None:
         "crew_step": [p(CHandle), c.c_uint32, p(CJob), size, p(size), p(CTurned)],
         "crew_answer": [p(CAnswer), size, p(size)], "crew_set_time": [c.c_uint64], "crew_begin_again": [],
         "crew_next_time": [p(c.c_uint64)], "crew_tag": [CPid, p(c.c_uint64)], "crew_next": [CPid, p(CNext)],
+        "crews_go_on": [p(CHandle), size, p(CHandle), size, p(CHandle), p(CHandle), p(CHandle)],
         "crew_len": [p(size)], "crew_queued": [p(size)], "crew_is_idle": [p(CHandle), p(flag)], "crew_refused": [p(flag)],
         "quiet_desks": [p(c.c_uint8)], "history_left_count": [p(size)], "history_left_at": [size, p(CLeftOver)],
     }
@@ -184,7 +185,7 @@ def _declare() -> None:
         call = getattr(lib, "pt_" + name, None)
         if call is None:
             raise other(f"is {BUILD}, and has no call pt_{name}")
-        call.argtypes = words if name in ("open", "gather") else [p(CHandle), *words]
+        call.argtypes = words if name in ("open", "gather", "crews_go_on") else [p(CHandle), *words]
         call.restype = c.c_uint32
 
 

@@ -28,6 +28,18 @@ class Desks(Domain):
         yield from ([first, second, first], [first, second, object()], first, p.Pid(0, 0, 1), [p.Gathered()], object())
 
 
+class Nodes(Desks):
+    """The same, where a gathered or a settled node does, too."""
+
+
+class Crews(Domain):
+    """The crews of all desks of a node, in order: what passes depends on the node."""
+
+    def bad(self, draw: random.Random) -> Iterator[Any]:
+        first, second = (p.Crew(desk) for desk in p.open_node(2))
+        yield from ([], [first], [first, second], [first, 1], None, 0, 2**70, "ab", first, [p.Gathered()], object(), p.Crew)
+
+
 class OneDesk(Domain):
     """The desk of a crew: what passes depends on the crew."""
 
@@ -45,7 +57,7 @@ class Answers(Domain):
         yield from ([(pid, p.ANY)], [((0, 0, 1), p.PROCEED)], [(pid, ("proceed", None, None, None))], object(), "ab")
 
 
-DESK, ANSWERS = OneDesk(), Answers()
+DESK, ANSWERS, CREWS = OneDesk(), Answers(), Crews()
 
 # Each public call of each class, and of the module, with its parameters.
 CALLS: dict[str, dict[str, dict[str, Domain]]] = {
@@ -78,11 +90,13 @@ CALLS: dict[str, dict[str, dict[str, Domain]]] = {
         "next_time": {},
         "tag": {"p": PID}, "next": {"p": PID}, "queued": {}, "is_idle": {"desk": DESK}, "refused": {}, "close": {},
     },
-    "": {"open_node": {"count": BYTE, "config": CONFIG}, "gather": {"desks": Desks()}},
+    "": {"open_node": {"count": BYTE, "config": CONFIG}, "gather": {"desks": Desks()},
+         "go_on": {"node": Nodes(), "crews": CREWS}},
 }
-ERRORS = {"Fault", "Unsettled", "Busy", "Code"}
+ERRORS = {"Fault", "NotGoneOn", "Unsettled", "Busy", "Code"}
 TYPES = {int: Ints, bool: Flag, typing.Sequence[p.Desk]: Desks, p.Desk: OneDesk,
-         typing.Sequence[tuple[p.Pid, p.Next]]: Answers}
+         typing.Sequence[tuple[p.Pid, p.Next]]: Answers, typing.Sequence[p.Crew]: Crews,
+         typing.Union[typing.Sequence[p.Desk], p.Gathered, p.Settled]: Nodes}
 
 
 def public_calls(where: str) -> dict[str, Callable[..., Any]]:
@@ -145,6 +159,7 @@ class Node:
         self.history = self.quiet.history()
         self.crew = p.Crew(here)
         self.crew.spawn(here, 7)
+        self.crews = [self.crew, p.Crew(there)]
         self.at: dict[str, Any] = {
             "Desk": here, "Crew": self.crew, "Gathered": self.gathered, "Settled": self.settled, "Quiet": self.quiet,
             "History": self.history, "": p}
@@ -163,7 +178,7 @@ class Node:
         """Words with which the call would change the node, or read it."""
         values = {PID: self.b, REF: self.monitor, BODY: p.Body(1, 1), REASON: p.Reason("other", 3), PICK: p.ANY,
                   FLAG: True, WORD: 8, LONG: 0, BYTE: 1, CONFIG: p.Config(slots=8), SHORT: 4, NEXT: p.PROCEED,
-                  DESK: self.desks[0], ANSWERS: []}
+                  DESK: self.desks[0], ANSWERS: [], CREWS: self.crews}
         return {word: values.get(domain, self.desks) for word, domain in CALLS[where][name].items()}
 
     def told(self) -> list[Any]:
@@ -196,7 +211,7 @@ class Calls(unittest.TestCase):
     def test_what_is_in_range_crosses_whole(self) -> None:
         draw, node = random.Random(4), Node()
         for where, name, words in rows():
-            if name in ("gather", "answer", "answer_all"):
+            if name in ("gather", "go_on", "answer", "answer_all"):
                 continue
             for word, domain in words.items():
                 if domain is DESK:

@@ -3,6 +3,7 @@
 from __future__ import annotations
 
 import unittest
+from typing import Any
 
 import pundewo as p
 from pundewo import ANY, PROCEED, RUNNING, Body, Item, Job, Next
@@ -99,6 +100,72 @@ class Crews(unittest.TestCase):
         again = p.gather(desks).settle_unlisted().into_quiet().resume()
         self.crew.begin_again(again[0])
         self.assertEqual(self.step(self.crew, again[0]), [])
+
+    def test_a_node_goes_on_with_its_crews(self) -> None:
+        crews = [self.crew, p.Crew(self.desks[1])]
+        a, b = self.crew.spawn(self.desk, 1), crews[1].spawn(self.desks[1], 2, WAIT)
+        gone = crews[1].spawn(self.desks[1], 3, WAIT)
+        self.desks[1].keep_losses(True)
+        self.step(self.crew, self.desk)
+        why = p.Reason("other", 9)
+        self.desks[1].exit(gone, why)
+        self.desk.exit_signal(a, b, p.KILL)
+        self.desk.send(a, a, Body(1, 5))
+        events = sum(desk.event_count() for desk in self.desks)
+        desks, history = p.go_on(self.desks, crews)
+        self.assertEqual((len(history), list(history.left_over())), (events + 2, []))
+        self.assertEqual([desk.event_count() for desk in desks], [0, 0])
+        with self.assertRaisesRegex(p.Fault, "clock.*: empty"):
+            self.desk.clock()
+        self.assertEqual(self.crew.next(a), RUNNING)
+        self.assertTrue(self.crew.answer(a, WAIT))
+        self.assertEqual(self.step(self.crew, desks[0]), [Job("item", a, 1, Item("user", a, body=Body(1, 5)))])
+        losses = [crews[1].next_loss(desks[1]) for _ in range(3)]
+        self.assertEqual([loss and (loss.pid, loss.reason) for loss in losses], [(gone, why), (b, p.KILLED), None])
+        self.assertEqual(self.step(crews[1], desks[1]), [Job("exit", b, 2, reason=p.KILLED, was=WAIT),
+                                                         Job("exit", gone, 3, reason=why, was=WAIT)])
+        # and once more, of a node that was gathered or settled
+        desks, history = p.go_on(p.gather(desks), crews)
+        self.assertEqual(len(history), 1)
+        desks, history = p.go_on(p.gather(desks).settle_unlisted(), crews)
+        self.assertEqual((len(history), len(self.crew), len(crews[1])), (0, 1, 0))
+
+    def test_a_node_goes_on_with_its_own_crews_alone(self) -> None:
+        crews = [self.crew, p.Crew(self.desks[1])]
+        others = p.open_node(2)
+        stranger = p.Crew(others[1])
+        for wrong in (crews[:1], crews[::-1], [self.crew, stranger], []):
+            with self.assertRaisesRegex(ValueError, "crews are not those of all desks of the node in order"):
+                p.go_on(self.desks, wrong)
+        for desks in (self.desks[::-1], self.desks[:1], []):
+            with self.assertRaisesRegex(ValueError, "desks are not all desks of one node in order"):
+                p.go_on(desks, crews)
+        with self.assertRaisesRegex(TypeError, "crews is 7, and must be a sequence of type Crew"):
+            p.go_on(self.desks, 7)  # type: ignore[arg-type]
+        with self.assertRaisesRegex(TypeError, r"node\[0\] is .*, and must be .*Desk"):
+            p.go_on([self.crew], crews)  # type: ignore[list-item]
+        with self.crew._held_alone(), self.assertRaises(p.Busy):
+            p.go_on(self.desks, crews)
+        gathered = p.gather(self.desks)
+        with self.assertRaisesRegex(ValueError, "crews are not"):
+            p.go_on(gathered, [self.crew, stranger])
+        desks, _ = p.go_on(gathered, crews)
+        self.assertEqual([desk.number for desk in desks], [0, 1])
+        self.assertEqual(p.go_on(others, [p.Crew(others[0]), stranger])[0][1].number, 1)
+
+    def test_a_worn_node_comes_back(self) -> None:
+        desks = p.open_node(1, p.Config(start=2**62 - 2))
+        crew = p.Crew(desks[0])
+        a = crew.spawn(desks[0], 1, WAIT)
+        desks[0].send(a, a, Body(1, 5))
+        node: Any = desks
+        for _ in range(2):
+            with self.assertRaises(p.NotGoneOn) as caught:
+                p.go_on(node, [crew])
+            self.assertEqual((caught.exception.code, caught.exception.call), (p.Code.WORN, "crews_go_on"))
+            node = caught.exception.node
+            self.assertIsInstance(node, p.Gathered)
+        self.assertEqual((len(node.history()), len(list(node.history().left_over())), crew.tag(a)), (2, 1, 1))
 
     def test_texts(self) -> None:
         pid = p.Pid(0, 1, 2)

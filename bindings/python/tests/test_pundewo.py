@@ -7,6 +7,7 @@ from typing import Any, Callable
 
 import pundewo as p
 import pundewo.values as v
+from crew_rows import OnCrew
 from pundewo import Code, Config, Fault, Pick, Pid, Reason, Ref
 from pundewo._library import (
     CAccount, CAnswer, CBody, CConfig, CEvent, CIds, CItem, CJob, CLeftOver, CLoss, CNext, CPick,
@@ -103,7 +104,9 @@ ON_DESK: Calls = {
     "vacant": lambda d, w: d.vacant(),
     "linked": lambda d, w: d.linked(pid(w[0]), pid(w[1])),
     "waiting": lambda d, w: waiting(d, pid(w[0])),
+    "keep_losses": lambda d, w: d.keep_losses(w[1] == "true") or "ok",
 }
+ON_CREW = OnCrew(pid, pick, reason, turned)
 ON_HISTORY: Calls = {
     "events": lambda h, w: len(h),
     "event": lambda h, w: event(h.events(), w),
@@ -142,10 +145,11 @@ def turn_until_still(desks: Any, budget: Any) -> Any:
 
 
 class Player:
-    """A node in one of its states: `node` is None, the desks, a Gathered or a Quiet."""
+    """A node in one of its states: `node` is None, the desks, a Gathered or a Quiet; and the crews of its desks."""
 
     def __init__(self) -> None:
         self.node: Any = None
+        self.crews: list[p.Crew] = []
 
     def make(self, name: Any, words: Any) -> Any:
         """Makes a call, and returns the text of its answer."""
@@ -159,6 +163,12 @@ class Player:
             count, *settings = map(int, words)
             self.node = p.open_node(count, Config(*settings))
             return "ok"
+        if name == "crews_go_on":
+            return self.go_on()
+        if name.startswith("crew_"):
+            number = pid(words[0]).shard if words[0].startswith("<") else int(words[0])
+            desk = self.node[number] if isinstance(self.node, list) else None
+            return ON_CREW.make(self.crews[number], desk, name, words)
         if isinstance(self.node, p.Gathered):
             return self.settle() if name == "settle" else ON_HISTORY[name](self.node.history(), words)
         if isinstance(self.node, p.Quiet):
@@ -168,6 +178,14 @@ class Player:
     def gather(self) -> Any:
         self.node = p.gather(self.node)
         return f"left-over {len(list(self.node.history().left_over()))}"
+
+    def go_on(self) -> str:
+        try:
+            self.node, history = p.go_on(self.node, self.crews)
+        except p.NotGoneOn as fault:
+            self.node = fault.node
+            raise
+        return f"events {len(history)}"
 
     def settle(self) -> Any:
         self.node = self.node.settle()
@@ -186,6 +204,9 @@ class Player:
             return turned(turn_each(self.node, int(words[0]))[0])
         if name == "turn_until_still":
             return turn_until_still(self.node, int(words[0]))
+        if name == "crews_open":
+            self.crews = [p.Crew(desk) for desk in self.node]
+            return "ok"
         if name == "events":
             return sum(desk.event_count() for desk in self.node)
         number = pid(words[0]).shard if words[0].startswith("<") else int(words[0])
@@ -215,12 +236,15 @@ class Rows(unittest.TestCase):
                     continue
                 call, _, answer = line.partition(" = ")
                 name, *words = call.split()
+                # (no value has such a code)
+                if any(word.startswith("code:") for word in words):
+                    continue
                 told = player.make(name, words)
                 if answer:
                     self.assertEqual(told, answer, f"{row}: {call}")
                     answers += 1
         player.close()
-        self.assertTrue(rows >= 115 and answers >= 2000)
+        self.assertTrue(rows >= 125 and answers >= 2000)
 
 
 class About(unittest.TestCase):

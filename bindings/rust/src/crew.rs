@@ -1,8 +1,12 @@
 //! The processes of one desk whose handlers are the program's own.
 
-use crate::raw::{self, RawAnswer, RawJob, RawNext, RawTurned};
-use crate::{Desk, Fault, Held, Item, Loss, NONE, OK, Pick, Pid, Reason, Turned, fault_of, found, told};
+use crate::raw::{self, Handle, RawAnswer, RawJob, RawNext, RawTurned};
+use crate::{
+    Desk, Fault, Gathered, Held, History, Item, Loss, NONE, OK, Origin, Pick, Pid, Reason, Settled, Turned, desks_of,
+    fault_of, found, is_whole, told,
+};
 use std::fmt;
+use std::mem;
 
 /// What a process of a [`Crew`] does next.
 #[derive(Clone, Copy, Debug, PartialEq, Eq, PartialOrd, Ord, Hash)]
@@ -230,6 +234,9 @@ impl Crew {
     /// Goes on over a desk of the resumed node, the one of the same number. Each process is in the queue then, does next
     /// what it was to do, and is told by the next steps that it has exited, if it did in settling.
     ///
+    /// Each exit has to be told before the node is gathered, as it is where the crew is idle. [`go_on`] does not ask for
+    /// that.
+    ///
     /// # Errors
     ///
     /// [`Fault::WrongDesk`], else [`Fault::Memory`], and then it may be called again.
@@ -308,6 +315,155 @@ impl Crew {
         unsafe { raw::pt_crew_refused(&mut self.handle.lent(), &mut out) };
         out
     }
+}
+
+/// A node that goes on: its desks, or the node that a refused [`go_on`] has left.
+#[derive(Debug)]
+pub enum Node {
+    /// All desks of a node, each once and in order.
+    Desks(Vec<Desk>),
+    /// The gathered node, with what was handled so far.
+    Gathered(Gathered),
+    /// The settled node.
+    Settled(Settled),
+}
+
+impl From<Vec<Desk>> for Node {
+    fn from(desks: Vec<Desk>) -> Node {
+        Node::Desks(desks)
+    }
+}
+
+/// A node that has not gone on, and why. Nothing is lost: [`go_on`] with this node and the same crews does the rest.
+#[derive(Debug)]
+pub struct NodeBack {
+    /// Why it has not gone on.
+    pub fault: Fault,
+    /// The node, with what was done.
+    pub node: Node,
+}
+
+impl fmt::Display for NodeBack {
+    fn fmt(&self, f: &mut fmt::Formatter<'_>) -> fmt::Result {
+        write!(f, "the node has not gone on: {}", self.fault)
+    }
+}
+
+impl std::error::Error for NodeBack {}
+
+/// So that `?` passes it on where a [`Fault`] is returned: the node is given up then.
+impl From<NodeBack> for Fault {
+    fn from(back: NodeBack) -> Fault {
+        back.fault
+    }
+}
+
+/// Goes on with a whole node, at any time between two steps: gathers its desks, settles it, takes its history, and resumes
+/// it. Each crew goes on over the desk of its number. Returns the desks, with empty journals, and what happened since they
+/// had empty journals last.
+///
+/// Each process of the crews does next what it was to do, and running ones may be answered as before. Each is in the queue,
+/// so that the next steps find what it got, and tell of each exit that was not told, with its reason: also if it exited in
+/// settling, and a loss told the reason ([`Crew::next_loss`]). What the desks lost and keep, they keep.
+///
+/// ```
+/// use pundewo::{Config, Crew, Next, Reason, What, go_on, open};
+///
+/// let mut desks = open(1, Config::default())?;
+/// let mut crews = [Crew::new(&desks[0])?];
+/// let pid = crews[0].spawn(&mut desks[0], 7, Next::Proceed)?;
+/// desks[0].exit(pid, Reason::Other(3))?;
+/// let (mut desks, history) = go_on(desks, &mut crews)?;
+/// assert_eq!((history.count(), desks[0].event_count()), (2, 0));
+/// let mut jobs = Vec::new();
+/// crews[0].step(&mut desks[0], 64, 64, &mut jobs)?;
+/// assert_eq!(jobs[0].what, What::Exit(Reason::Other(3), Next::Proceed));
+/// # Ok::<(), pundewo::Fault>(())
+/// ```
+///
+/// # Errors
+///
+/// The node comes back: as it was with [`Fault::NotOneNode`], if these are not all desks of one node, with
+/// [`Fault::BadDesks`], if there are not as many crews as desks, and with [`Fault::WrongDesk`], if a crew is not that of
+/// the desk at its place. With [`Fault::Memory`], or [`Fault::Worn`] if a clock is at its limit, it has what was done so
+/// far. The crews are as they were.
+pub fn go_on(node: impl Into<Node>, crews: &mut [Crew]) -> Result<(Vec<Desk>, History), NodeBack> {
+    let node = node.into();
+    match node.origin_for(crews) {
+        Ok(origin) => node.passed(origin, crews),
+        Err(fault) => Err(NodeBack { fault, node }),
+    }
+}
+
+impl Node {
+    /// What the desks of the node have in common, if it may go on with these crews.
+    fn origin_for(&self, crews: &[Crew]) -> Result<Origin, Fault> {
+        let (origin, count) = match self {
+            Node::Desks(desks) if !is_whole(desks) => return Err(Fault::NotOneNode),
+            Node::Desks(desks) => (desks[0].origin, desks.len()),
+            Node::Gathered(gathered) => (gathered.origin, gathered.desks().into()),
+            Node::Settled(settled) => (settled.origin, settled.desks().into()),
+        };
+        if crews.len() != count {
+            return Err(Fault::BadDesks);
+        }
+        let fits = |(crew, number): (&Crew, u8)| match self {
+            Node::Desks(desks) => crew.is_of(&desks[usize::from(number)]).is_ok(),
+            Node::Gathered(_) | Node::Settled(_) => (crew.opened, crew.number) == (origin.opened, number),
+        };
+        if crews.iter().zip(0..).all(fits) { Ok(origin) } else { Err(Fault::WrongDesk) }
+    }
+
+    /// The handles of the desks, which are empty where they are gathered; of the gathered node; and of the settled one.
+    fn take(mut self, count: usize) -> (Vec<Handle>, Handle, Handle) {
+        let mut taken = ((0..count).map(|_| NONE).collect(), NONE, NONE);
+        match &mut self {
+            Node::Desks(desks) => {
+                taken.0 = desks.iter_mut().map(|desk| mem::replace(desk.handle.own(), NONE)).collect();
+            }
+            Node::Gathered(gathered) => taken.1 = mem::replace(gathered.handle.own(), NONE),
+            Node::Settled(settled) => taken.2 = mem::replace(settled.handle.own(), NONE),
+        }
+        taken
+    }
+
+    fn passed(self, origin: Origin, crews: &mut [Crew]) -> Result<(Vec<Desk>, History), NodeBack> {
+        let node = if let Node::Desks(desks) = &self { Some(desks[0].node) } else { None };
+        let (mut desks, mut gathered, mut settled) = self.take(crews.len());
+        let mut history = NONE;
+        let mut taken: Vec<Handle> = crews.iter_mut().map(|crew| mem::replace(crew.handle.own(), NONE)).collect();
+        let (count, first, row) = (desks.len(), taken.as_mut_ptr(), desks.as_mut_ptr());
+        // SAFETY: the handles are those of all desks of one node in order, or of that node, and of as many crews, each of
+        // its desk; each is the only one, and that of the history is empty.
+        let code = unsafe { raw::pt_crews_go_on(first, count, row, count, &mut gathered, &mut settled, &mut history) };
+        for (crew, handle) in crews.iter_mut().zip(taken) {
+            *crew.handle.own() = handle;
+        }
+        if code != OK {
+            let node = if !gathered.at.is_null() {
+                Node::Gathered(Gathered { handle: Held::new(gathered), origin })
+            } else if !settled.at.is_null() {
+                Node::Settled(Settled { handle: Held::new(settled), origin })
+            } else {
+                Node::Desks(desks_again(desks, origin, node))
+            };
+            return Err(NodeBack { fault: fault_of(code), node });
+        }
+        let desks = desks_of(desks, origin);
+        for (crew, desk) in crews.iter_mut().zip(&desks) {
+            crew.node = desk.node;
+        }
+        Ok((desks, History { handle: Held::new(history) }))
+    }
+}
+
+/// The desks that they were before, of this node.
+fn desks_again(handles: Vec<Handle>, origin: Origin, node: Option<u64>) -> Vec<Desk> {
+    let mut desks = desks_of(handles, origin);
+    if let Some(node) = node {
+        desks.iter_mut().for_each(|desk| desk.node = node);
+    }
+    desks
 }
 
 impl From<Next> for RawNext {

@@ -72,7 +72,7 @@ mod reading;
 pub mod runtime;
 mod values;
 
-pub use crew::{Crew, Job, Next, NotTaken, What};
+pub use crew::{Crew, Job, Next, Node, NodeBack, NotTaken, What, go_on};
 pub use iterators::{Events, Journal, LeftOvers, Links, Living, Monitors, Pids, Waiting, Watchers};
 pub use reading::NotRead;
 pub use values::{
@@ -254,17 +254,21 @@ impl From<DesksBack> for Fault {
     }
 }
 
+/// Whether these are all desks of one node, each once and in order.
+fn is_whole(desks: &[Desk]) -> bool {
+    desks.first().is_some_and(|first| {
+        let (node, count) = (first.node, first.count);
+        desks.len() == count && desks.iter().zip(0..).all(|(desk, number)| desk.node == node && desk.number == number)
+    })
+}
+
 /// Brings all desks of one [`open`] or one [`resume`](Quiet::resume) together, each once and in order.
 ///
 /// # Errors
 ///
 /// The desks come back as they were, with [`Fault::NotOneNode`] if they are not that, or with [`Fault::Memory`].
 pub fn gather(mut desks: Vec<Desk>) -> Result<Gathered, DesksBack> {
-    let whole = desks.first().is_some_and(|first| {
-        let (node, count) = (first.node, first.count);
-        desks.len() == count && desks.iter().zip(0..).all(|(desk, number)| desk.node == node && desk.number == number)
-    });
-    if !whole {
+    if !is_whole(&desks) {
         return Err(DesksBack { fault: Fault::NotOneNode, desks });
     }
     let mut handles: Vec<Handle> = desks.iter_mut().map(|desk| std::mem::replace(desk.handle.own(), NONE)).collect();

@@ -241,6 +241,10 @@ unsafe extern "C" {
     pub fn pt_crew_note_loss(crew: &mut Handle, h: &mut Handle, place: usize) -> u32;
     pub fn pt_crew_set_time(crew: &mut Handle, now: u64) -> u32;
     pub fn pt_crew_begin_again(crew: &mut Handle) -> u32;
+    pub fn pt_crews_go_on(
+        crews: *mut Handle, crew_count: usize, desks: *mut Handle, desk_count: usize, gathered: &mut Handle,
+        settled: &mut Handle, history: &mut Handle,
+    ) -> u32;
     pub fn pt_crew_next_time(crew: &mut Handle, out: &mut u64) -> u32;
     pub fn pt_crew_tag(crew: &mut Handle, p: Pid, out: &mut u64) -> u32;
     pub fn pt_crew_next(crew: &mut Handle, p: Pid, out: &mut RawNext) -> u32;

@@ -1,6 +1,8 @@
 //! The crew of a desk: what its processes are told, and which desk it takes.
 
-use pundewo::{Body, Config, Crew, Desk, Fault, Item, Job, Next, NotTaken, Pick, Reason, What, gather, open};
+use pundewo::{
+    Body, Config, Crew, Desk, Fault, Item, Job, Next, Node, NotTaken, Pick, Pid, Reason, What, gather, go_on, open,
+};
 
 const ANY: Next = Next::Wait(Pick::Any);
 
@@ -110,5 +112,100 @@ fn a_crew_takes_its_own_desk_alone() -> Result<(), Fault> {
     crew.step(&mut desks[1], 8, 8, &mut jobs)?;
     let item = Item::User(sender, Body { kind: 1, num: 2, who: None });
     assert_eq!(jobs, [Job { pid, tag: 5, what: What::Item(item) }]);
+    Ok(())
+}
+
+/// Desks, a crew for each, and the process of each crew.
+type Crewed = (Vec<Desk>, Vec<Crew>, Vec<Pid>);
+
+/// A node of so many desks. The process of each crew waits.
+fn crewed(count: usize, start: u64) -> Result<Crewed, Fault> {
+    let mut desks = open(count, Config { start, ..Config::default() })?;
+    let mut crews = desks.iter().map(Crew::new).collect::<Result<Vec<_>, _>>()?;
+    let pids = (0..count).map(|d| crews[d].spawn(&mut desks[d], d as u64, ANY)).collect::<Result<_, _>>()?;
+    Ok((desks, crews, pids))
+}
+
+/// A process is killed in settling, one has exited and was not told so, and one is running: each goes on, and so does a
+/// second time.
+#[test]
+fn a_node_goes_on_with_its_crews() -> Result<(), Fault> {
+    let (mut desks, mut crews, pids) = crewed(2, 0)?;
+    desks[1].keep_losses(true);
+    let runs = crews[0].spawn(&mut desks[0], 9, Next::Proceed)?;
+    assert_eq!(jobs(&mut crews[0], &mut desks[0]).len(), 1);
+    let left = crews[1].spawn(&mut desks[1], 8, Next::Stop(Reason::Other(4)))?;
+    desks[1].exit(left, Reason::Other(5))?;
+    desks[0].exit_signal(runs, pids[1], Reason::Kill)?;
+    let said = Body { kind: 1, num: 7, who: None };
+    desks[0].send(runs, pids[0], said)?;
+    let before = desks.iter().map(Desk::event_count).sum::<usize>();
+    let (mut desks, history) = go_on(desks, &mut crews)?;
+    // the kill and the message came, and no letter is left over
+    assert_eq!((history.count(), history.left_over().count()), (before + 2, 0));
+    assert_eq!(desks.iter().map(Desk::event_count).collect::<Vec<_>>(), [0, 0]);
+    assert_eq!(crews[0].next(runs), Some(Next::Running));
+    crews[0].answer(&[(runs, ANY)]).expect("it runs still");
+    let told = Job { pid: pids[0], tag: 0, what: What::Item(Item::User(runs, said)) };
+    assert_eq!(jobs(&mut crews[0], &mut desks[0]), [told]);
+    let mut losses = 0;
+    while crews[1].next_loss(&mut desks[1])?.is_some() {
+        losses += 1;
+    }
+    assert_eq!(losses, 2);
+    let mut told = jobs(&mut crews[1], &mut desks[1]);
+    told.sort();
+    let killed = Job { pid: pids[1], tag: 1, what: What::Exit(Reason::Killed, ANY) };
+    let gone = Job { pid: left, tag: 8, what: What::Exit(Reason::Other(5), Next::Stop(Reason::Other(4))) };
+    assert_eq!(told, [killed, gone]);
+    let (desks, history) = go_on(desks, &mut crews)?;
+    assert_eq!((history.count(), crews[0].len(), crews[1].len()), (1, 2, 0));
+    drop((desks, history));
+    Ok(())
+}
+
+/// What does not fit comes back as it was.
+#[test]
+fn a_node_goes_on_with_its_own_crews_alone() -> Result<(), Fault> {
+    let (mut desks, mut crews, _) = crewed(2, 0)?;
+    let (_others, mut strangers, _) = crewed(2, 0)?;
+    let back = go_on(desks, &mut strangers).expect_err("another node's");
+    assert_eq!(back.to_string(), "the node has not gone on: the crew is of another desk");
+    let back = go_on(back.node, &mut crews[..1]).expect_err("too few");
+    assert_eq!(back.fault, Fault::BadDesks);
+    crews.swap(0, 1);
+    let back = go_on(back.node, &mut crews).expect_err("out of order");
+    assert_eq!(back.fault, Fault::WrongDesk);
+    crews.swap(0, 1);
+    let Node::Desks(mut again) = back.node else { panic!("nothing was done") };
+    again.swap(0, 1);
+    let back = go_on(again, &mut crews).expect_err("out of order");
+    assert_eq!(back.fault, Fault::NotOneNode);
+    let Node::Desks(mut again) = back.node else { panic!("nothing was done") };
+    again.swap(0, 1);
+    (desks, _) = go_on(again, &mut crews)?;
+    // a node that was gathered or settled goes on in the same way
+    let gathered = gather(desks)?;
+    let back = go_on(Node::Gathered(gathered), &mut strangers).expect_err("another node's");
+    assert_eq!(back.fault, Fault::WrongDesk);
+    let (desks, _) = go_on(back.node, &mut crews)?;
+    let (mut desks, history) = go_on(Node::Settled(gather(desks)?.settle_unlisted()?), &mut crews)?;
+    assert_eq!((history.count(), crews[1].is_idle(&desks[1])?), (0, false));
+    assert_eq!(jobs(&mut crews[1], &mut desks[1]), []);
+    assert!(crews[1].is_idle(&desks[1])?);
+    Ok(())
+}
+
+/// A clock at its limit takes no receipt: the node comes back gathered, and again.
+#[test]
+fn a_worn_node_comes_back() -> Result<(), Fault> {
+    let (mut desks, mut crews, pids) = crewed(1, (1 << 62) - 2)?;
+    desks[0].send(pids[0], pids[0], Body { kind: 1, num: 1, who: None })?;
+    let back = go_on(desks, &mut crews).expect_err("the clock is at its limit");
+    assert!(back.fault == Fault::Worn && matches!(back.node, Node::Gathered(_)));
+    let back = go_on(back.node, &mut crews).expect_err("the clock is at its limit");
+    let Node::Gathered(gathered) = back.node else { panic!("it is gathered") };
+    let history = gathered.history()?;
+    assert_eq!((history.count(), history.left_over().count(), crews[0].len()), (2, 1, 1));
     Ok(())
 }

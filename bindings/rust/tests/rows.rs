@@ -1,7 +1,11 @@
 //! Plays the table of worked rows (`bindings/rows.py`), which `PUNDEWO_ROWS` names, and compares each answer.
 
+#[path = "rows/crews.rs"]
+mod crews;
+
 use pundewo::{
-    Account, Body, Config, Desk, Event, Fault, Gathered, History, Pick, Pid, Quiet, Reason, Ref, Turned, gather, open,
+    Account, Body, Config, Crew, Desk, Event, Fault, Gathered, History, Pick, Pid, Quiet, Reason, Ref, Turned, gather,
+    go_on, open,
 };
 use std::fmt::Display;
 
@@ -53,6 +57,7 @@ fn refused(fault: Fault) -> String {
         Fault::BadTopVersion => "bounds top_version".to_string(),
         Fault::BadLane => "bounds lane".to_string(),
         Fault::BadStart => "bounds start".to_string(),
+        Fault::NotRunning => "not running".to_string(),
         fault => format!("{fault:?}").to_lowercase(),
     }
 }
@@ -119,6 +124,10 @@ fn on_desk(desk: &mut Desk, name: &str, w: &[&str]) -> String {
         "vacant" => or_none(desk.vacant()),
         "linked" => or_none(desk.linked(pid(w[0]), pid(w[1]))),
         "waiting" => or_none(desk.waiting(pid(w[0])).map(|items| joined(items, "; "))),
+        "keep_losses" => {
+            desk.keep_losses(w[1] == "true");
+            "ok".to_string()
+        }
         name => panic!("no call {name}"),
     }
 }
@@ -152,16 +161,23 @@ fn turn_until_still(desks: &mut [Desk], budget: u32) -> String {
     format!("handled {handled}")
 }
 
-/// Makes a call of a node that runs: of all its desks, or of the one that the first word names.
-fn on_desks(desks: &mut [Desk], name: &str, w: &[&str]) -> String {
+/// The number of the desk that a word names, by itself or by a pid.
+fn number_of(word: &str) -> usize {
+    if word.starts_with('<') { pid(word).shard.into() } else { word.parse().unwrap() }
+}
+
+/// Makes a call of a node that runs: of all its desks, or of the one that the first word names, or of its crew.
+fn on_desks(desks: &mut [Desk], crews: &mut Vec<Crew>, name: &str, w: &[&str]) -> String {
     match name {
+        "crews_open" => done(desks.iter().map(Crew::new).collect::<Result<_, _>>().map(|opened| *crews = opened)),
+        _ if name.starts_with("crew_") => {
+            let desk = number_of(w[0]);
+            crews::on_crew(&mut crews[desk], &mut desks[desk], name, w)
+        }
         "turn_all" => turned_text(turn_each(desks, w[0].parse().unwrap()).0),
         "turn_until_still" => turn_until_still(desks, w[0].parse::<u32>().unwrap().max(1)),
         "events" => desks.iter().map(Desk::event_count).sum::<usize>().to_string(),
-        _ => {
-            let desk: usize = if w[0].starts_with('<') { pid(w[0]).shard.into() } else { w[0].parse().unwrap() };
-            on_desk(&mut desks[desk], name, w)
-        }
+        _ => on_desk(&mut desks[number_of(w[0])], name, w),
     }
 }
 
@@ -220,8 +236,23 @@ fn settled(gathered: Gathered) -> (Node, String) {
     }
 }
 
+fn gone_on(node: Node, crews: &mut [Crew]) -> (Node, String) {
+    let node = match node {
+        Node::Running(desks) => pundewo::Node::Desks(desks),
+        Node::Gathered(gathered) => pundewo::Node::Gathered(gathered),
+        Node::Settled(_) | Node::Closed => panic!("the node does not go on"),
+    };
+    match go_on(node, crews) {
+        Ok((desks, history)) => (Node::Running(desks), format!("events {}", history.count())),
+        Err(back) => {
+            let pundewo::Node::Gathered(gathered) = back.node else { panic!("the node is not gathered") };
+            (Node::Gathered(gathered), refused(back.fault))
+        }
+    }
+}
+
 /// Makes the call that the words are, and answers its text.
-fn make(node: &mut Node, name: &str, w: &[&str]) -> String {
+fn make(node: &mut Node, crews: &mut Vec<Crew>, name: &str, w: &[&str]) -> String {
     if name == "open" {
         return opened(node, w);
     }
@@ -229,9 +260,15 @@ fn make(node: &mut Node, name: &str, w: &[&str]) -> String {
         ("gather", Node::Running(desks)) => gathered(desks),
         ("settle", Node::Gathered(gathered)) => settled(gathered),
         ("resume", Node::Settled(quiet)) => (Node::Running(quiet.resume().unwrap()), "ok".to_string()),
+        ("crews_go_on", node) => gone_on(node, crews),
         (name, Node::Running(mut desks)) => {
-            let answer = on_desks(&mut desks, name, w);
+            let answer = on_desks(&mut desks, crews, name, w);
             (Node::Running(desks), answer)
+        }
+        ("crew_len" | "crew_next", Node::Gathered(gathered)) => {
+            let crew = &crews[number_of(w[0])];
+            let answer = if name == "crew_len" { crew.len().to_string() } else { crews::next_of(crew, w[1]) };
+            (Node::Gathered(gathered), answer)
         }
         (name, Node::Gathered(gathered)) => {
             let answer = on_history(gathered.history().unwrap(), name, w);
@@ -267,23 +304,28 @@ fn close(node: Node) {
 #[test]
 fn the_rows_answer_as_they_do_in_rattle() {
     let table = std::fs::read_to_string(std::env::var("PUNDEWO_ROWS").expect("PUNDEWO_ROWS names the table")).unwrap();
-    let mut node = Node::Closed;
+    let (mut node, mut crews) = (Node::Closed, Vec::new());
     let (mut row, mut rows, mut answers) = ("", 0, 0);
     for line in table.lines() {
         if let Some(name) = line.strip_prefix("row ") {
             close(std::mem::replace(&mut node, Node::Closed));
+            crews.clear();
             row = name;
             rows += 1;
             continue;
         }
         let (call, wanted) = line.split_once(" = ").map_or((line, None), |(call, wanted)| (call, Some(wanted)));
         let words: Vec<&str> = call.split(' ').collect();
-        let answer = make(&mut node, words[0], &words[1..]);
+        // (no value has such a code)
+        if words.iter().any(|word| word.starts_with("code:")) {
+            continue;
+        }
+        let answer = make(&mut node, &mut crews, words[0], &words[1..]);
         if let Some(wanted) = wanted {
             assert_eq!(answer, wanted, "{row}: {call}");
             answers += 1;
         }
     }
     close(node);
-    assert!(rows >= 115 && answers >= 2000);
+    assert!(rows >= 125 && answers >= 2000);
 }

@@ -2,7 +2,8 @@
 
 use pundewo::{
     Account, Body, Config, Crew, Desk, DesksBack, Event, Fault, Gathered, Happened, History, Ids, Item, Job, LeftOver,
-    LinkId, Next, NotRead, NotTaken, Pick, Pid, Quiet, Reason, Ref, Resting, Signal, Turned, Unsettled, gather, open, runtime,
+    LinkId, Next, Node, NodeBack, NotRead, NotTaken, Pick, Pid, Quiet, Reason, Ref, Resting, Signal, Turned, Unsettled,
+    gather, open, runtime,
 };
 use std::collections::{BTreeSet, HashSet};
 use std::error::Error;
@@ -20,6 +21,7 @@ fn errors_go_to_other_threads() {
     goes::<Resting>();
     goes::<NotRead>();
     goes::<NotTaken>();
+    goes::<NodeBack>();
     goes::<runtime::StartFault>();
     goes::<runtime::SpawnFault>();
     goes::<runtime::StopFault>();
@@ -36,6 +38,7 @@ fn types_go_to_other_threads_and_are_printed() {
     goes::<History>();
     goes::<Config>();
     goes::<Crew>();
+    goes::<Node>();
     goes::<runtime::Runtime>();
     goes::<runtime::Handle>();
     goes::<runtime::Address<Vec<u8>>>();

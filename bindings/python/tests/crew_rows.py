@@ -1,0 +1,88 @@
+"""The calls of crews in the table of rows."""
+
+from itertools import groupby
+
+import pundewo as p
+
+
+def next_of(words, read):
+    """What a process does next, of its words; `read` reads a pick and a reason."""
+    pick, reason = read
+    name, *rest = words
+    if name == "wait":
+        return p.Next(name, pick(rest))
+    if name == "wait-until":
+        return p.Next(name, pick(rest[1:]), int(rest[0]))
+    return p.Next(name, reason=reason(rest[0])) if name == "stop" else p.Next(name)
+
+
+def loss_text(loss):
+    items = ", ".join(map(str, loss.items))
+    return " ".join(map(str, (loss.pid, loss.reason or "stray"))) + (f" {items}" if items else "")
+
+
+def losses(crew, desk):
+    found = []
+    while (loss := crew.next_loss(desk)) is not None:
+        found.append(loss_text(loss))
+    return "; ".join(found) or "nothing"
+
+
+def answer(crew, words, pid, read):
+    rows = [list(row) for is_comma, row in groupby(words, lambda word: word == ",") if not is_comma]
+    answers = [(pid(row[0]), next_of(row[1:], read)) for row in rows]
+    taken = crew.answer_all(answers)
+    return f"taken {taken}" if taken == len(answers) else f"taken {taken}, then not running"
+
+
+class OnCrew:
+    """Makes the calls of a crew; it is given the readers of words, and what prints a turn."""
+
+    def __init__(self, pid, pick, reason, turned):
+        self.pid, self.read, self.turned = pid, (pick, reason), turned
+
+    def make(self, crew, desk, name, w):
+        return getattr(self, name)(crew, desk, w)
+
+    def crew_spawn(self, crew, desk, w):
+        return crew.spawn(desk, int(w[1]), next_of(w[2:], self.read))
+
+    def crew_spawn_child(self, crew, desk, w):
+        return crew.spawn_child(desk, self.pid(w[0]), w[1] == "true", int(w[2]), next_of(w[3:], self.read))
+
+    def crew_step(self, crew, desk, w):
+        jobs, turned = crew.step(desk, int(w[1]), int(w[2]))
+        return "; ".join([self.turned(turned), *map(str, jobs)])
+
+    def crew_answer(self, crew, desk, w):
+        return answer(crew, w[1:], self.pid, self.read)
+
+    def crew_losses(self, crew, desk, w):
+        return losses(crew, desk)
+
+    def crew_next(self, crew, desk, w):
+        return crew.next(self.pid(w[1]))
+
+    def crew_tag(self, crew, desk, w):
+        return crew.tag(self.pid(w[1]))
+
+    def crew_next_time(self, crew, desk, w):
+        return crew.next_time()
+
+    def crew_set_time(self, crew, desk, w):
+        return crew.set_time(int(w[1])) or "ok"
+
+    def crew_len(self, crew, desk, w):
+        return len(crew)
+
+    def crew_queued(self, crew, desk, w):
+        return crew.queued()
+
+    def crew_idle(self, crew, desk, w):
+        return crew.is_idle(desk)
+
+    def crew_refused(self, crew, desk, w):
+        return crew.refused()
+
+    def crew_begin_again(self, crew, desk, w):
+        return crew.begin_again(desk) or "ok"

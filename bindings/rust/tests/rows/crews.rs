@@ -1,0 +1,97 @@
+//! The calls of crews in the table of rows.
+
+use super::{or_none, pick, pid, reason, refused, text, turned_text};
+use pundewo::{Crew, Desk, Fault, Job, Loss, Next, Pid, What};
+
+fn next(words: &[&str]) -> Next {
+    match words {
+        ["wait", rest @ ..] => Next::Wait(pick(rest)),
+        ["wait-until", time, rest @ ..] => Next::WaitUntil(pick(rest), time.parse().unwrap()),
+        ["proceed"] => Next::Proceed,
+        ["stop", why] => Next::Stop(reason(why)),
+        ["running"] => Next::Running,
+        _ => panic!("nothing that a process does: {words:?}"),
+    }
+}
+
+fn next_text(next: Next) -> String {
+    match next {
+        Next::Wait(pick) => format!("wait {pick}"),
+        Next::WaitUntil(pick, time) => format!("wait-until {time} {pick}"),
+        Next::Proceed => "proceed".to_string(),
+        Next::Stop(why) => format!("stop {why}"),
+        Next::Running => "running".to_string(),
+    }
+}
+
+fn job_text(Job { pid, tag, what }: Job) -> String {
+    match what {
+        What::Start => format!("start {pid} {tag}"),
+        What::Proceed => format!("proceed {pid} {tag}"),
+        What::Item(item) => format!("item {pid} {tag} {item}"),
+        What::Timeout => format!("timeout {pid} {tag}"),
+        What::Exit(why, was) => format!("exit {pid} {tag} {why} {}", next_text(was)),
+    }
+}
+
+fn loss_text(loss: &Loss) -> String {
+    let why = loss.reason.map_or("stray".to_string(), |why| why.to_string());
+    let items: Vec<String> = loss.items.iter().map(ToString::to_string).collect();
+    let items = if items.is_empty() { items.concat() } else { format!(" {}", items.join(", ")) };
+    format!("{} {why}{items}", loss.pid)
+}
+
+fn step(crew: &mut Crew, desk: &mut Desk, budget: u32, most: usize) -> Result<String, Fault> {
+    let mut jobs = Vec::new();
+    let turned = crew.step(desk, budget, most, &mut jobs)?;
+    let texts: Vec<String> = jobs.into_iter().map(|job| format!("; {}", job_text(job))).collect();
+    Ok(turned_text(turned) + &texts.concat())
+}
+
+fn answer(crew: &mut Crew, words: &[&str]) -> String {
+    let given = words.split(|&word| word == ",").map(|words| (pid(words[0]), next(&words[1..])));
+    let answers: Vec<(Pid, Next)> = given.collect();
+    match crew.answer(&answers) {
+        Ok(()) => format!("taken {}", answers.len()),
+        Err(refusal) => format!("taken {}, then {}", refusal.taken, refused(refusal.fault)),
+    }
+}
+
+fn losses(crew: &mut Crew, desk: &mut Desk) -> Result<String, Fault> {
+    let mut texts = Vec::new();
+    while let Some(loss) = crew.next_loss(desk)? {
+        texts.push(loss_text(&loss));
+    }
+    Ok(if texts.is_empty() { "nothing".to_string() } else { texts.join("; ") })
+}
+
+/// What a process does next.
+pub fn next_of(crew: &Crew, word: &str) -> String {
+    crew.next(pid(word)).map_or("none".to_string(), next_text)
+}
+
+/// Makes a call of a crew, which the first word names by its number or by a pid of its desk.
+pub fn on_crew(crew: &mut Crew, desk: &mut Desk, name: &str, w: &[&str]) -> String {
+    match name {
+        "crew_spawn" => text(crew.spawn(desk, w[1].parse().unwrap(), next(&w[2..]))),
+        "crew_spawn_child" => {
+            text(crew.spawn_child(desk, pid(w[0]), w[1] == "true", w[2].parse().unwrap(), next(&w[3..])))
+        }
+        "crew_step" => text(step(crew, desk, w[1].parse().unwrap(), w[2].parse().unwrap())),
+        "crew_answer" => answer(crew, &w[1..]),
+        "crew_losses" => text(losses(crew, desk)),
+        "crew_next" => next_of(crew, w[1]),
+        "crew_tag" => or_none(crew.tag(pid(w[1]))),
+        "crew_next_time" => or_none(crew.next_time()),
+        "crew_set_time" => {
+            crew.set_time(w[1].parse().unwrap());
+            "ok".to_string()
+        }
+        "crew_len" => crew.len().to_string(),
+        "crew_queued" => crew.queued().to_string(),
+        "crew_idle" => text(crew.is_idle(desk)),
+        "crew_refused" => crew.refused().to_string(),
+        "crew_begin_again" => text(crew.begin_again(desk).map(|()| "ok")),
+        name => panic!("no call {name}"),
+    }
+}
