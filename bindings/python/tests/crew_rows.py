@@ -1,11 +1,19 @@
 """The calls of crews in the table of rows."""
 
+from __future__ import annotations
+
+from collections.abc import Callable
 from itertools import groupby
+from typing import Any
 
 import pundewo as p
 
+Words = list[str]
+# What reads a pick, and what reads a reason.
+Readers = tuple[Callable[[Words], Any], Callable[[str], Any]]
 
-def next_of(words, read):
+
+def next_of(words: Words, read: Readers) -> p.Next:
     """What a process does next, of its words; `read` reads a pick and a reason."""
     pick, reason = read
     name, *rest = words
@@ -16,19 +24,19 @@ def next_of(words, read):
     return p.Next(name, reason=reason(rest[0])) if name == "stop" else p.Next(name)
 
 
-def loss_text(loss):
+def loss_text(loss: p.Loss) -> str:
     items = ", ".join(map(str, loss.items))
     return " ".join(map(str, (loss.pid, loss.reason or "stray"))) + (f" {items}" if items else "")
 
 
-def losses(crew, desk):
-    found = []
+def losses(crew: p.Crew, desk: p.Desk) -> str:
+    found: list[str] = []
     while (loss := crew.next_loss(desk)) is not None:
         found.append(loss_text(loss))
     return "; ".join(found) or "nothing"
 
 
-def answer(crew, words, pid, read):
+def answer(crew: p.Crew, words: Words, pid: Callable[[str], p.Pid], read: Readers) -> str:
     rows = [list(row) for is_comma, row in groupby(words, lambda word: word == ",") if not is_comma]
     answers = [(pid(row[0]), next_of(row[1:], read)) for row in rows]
     taken = crew.answer_all(answers)
@@ -38,51 +46,59 @@ def answer(crew, words, pid, read):
 class OnCrew:
     """Makes the calls of a crew; it is given the readers of words, and what prints a turn."""
 
-    def __init__(self, pid, pick, reason, turned):
+    def __init__(
+        self,
+        pid: Callable[[str], Any],
+        pick: Callable[[Words], Any],
+        reason: Callable[[str], Any],
+        turned: Callable[[Any], str],
+    ) -> None:
         self.pid, self.read, self.turned = pid, (pick, reason), turned
 
-    def make(self, crew, desk, name, w):
+    def make(self, crew: p.Crew, desk: p.Desk, name: str, w: Words) -> Any:
         return getattr(self, name)(crew, desk, w)
 
-    def crew_spawn(self, crew, desk, w):
+    def crew_spawn(self, crew: p.Crew, desk: p.Desk, w: Words) -> p.Pid:
         return crew.spawn(desk, int(w[1]), next_of(w[2:], self.read))
 
-    def crew_spawn_child(self, crew, desk, w):
+    def crew_spawn_child(self, crew: p.Crew, desk: p.Desk, w: Words) -> p.Pid:
         return crew.spawn_child(desk, self.pid(w[0]), w[1] == "true", int(w[2]), next_of(w[3:], self.read))
 
-    def crew_step(self, crew, desk, w):
+    def crew_step(self, crew: p.Crew, desk: p.Desk, w: Words) -> str:
         jobs, turned = crew.step(desk, int(w[1]), int(w[2]))
         return "; ".join([self.turned(turned), *map(str, jobs)])
 
-    def crew_answer(self, crew, desk, w):
+    def crew_answer(self, crew: p.Crew, desk: p.Desk, w: Words) -> str:
         return answer(crew, w[1:], self.pid, self.read)
 
-    def crew_losses(self, crew, desk, w):
+    def crew_losses(self, crew: p.Crew, desk: p.Desk, w: Words) -> str:
         return losses(crew, desk)
 
-    def crew_next(self, crew, desk, w):
+    def crew_next(self, crew: p.Crew, desk: p.Desk, w: Words) -> Any:
         return crew.next(self.pid(w[1]))
 
-    def crew_tag(self, crew, desk, w):
+    def crew_tag(self, crew: p.Crew, desk: p.Desk, w: Words) -> Any:
         return crew.tag(self.pid(w[1]))
 
-    def crew_next_time(self, crew, desk, w):
+    def crew_next_time(self, crew: p.Crew, desk: p.Desk, w: Words) -> Any:
         return crew.next_time()
 
-    def crew_set_time(self, crew, desk, w):
-        return crew.set_time(int(w[1])) or "ok"
+    def crew_set_time(self, crew: p.Crew, desk: p.Desk, w: Words) -> str:
+        crew.set_time(int(w[1]))
+        return "ok"
 
-    def crew_len(self, crew, desk, w):
+    def crew_len(self, crew: p.Crew, desk: p.Desk, w: Words) -> int:
         return len(crew)
 
-    def crew_queued(self, crew, desk, w):
+    def crew_queued(self, crew: p.Crew, desk: p.Desk, w: Words) -> int:
         return crew.queued()
 
-    def crew_idle(self, crew, desk, w):
+    def crew_idle(self, crew: p.Crew, desk: p.Desk, w: Words) -> bool:
         return crew.is_idle(desk)
 
-    def crew_refused(self, crew, desk, w):
+    def crew_refused(self, crew: p.Crew, desk: p.Desk, w: Words) -> bool:
         return crew.refused()
 
-    def crew_begin_again(self, crew, desk, w):
-        return crew.begin_again(desk) or "ok"
+    def crew_begin_again(self, crew: p.Crew, desk: p.Desk, w: Words) -> str:
+        crew.begin_again(desk)
+        return "ok"

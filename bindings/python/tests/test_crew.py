@@ -134,10 +134,12 @@ class Crews(unittest.TestCase):
         crews = [self.crew, p.Crew(self.desks[1])]
         others = p.open_node(2)
         stranger = p.Crew(others[1])
-        for wrong in (crews[:1], crews[::-1], [self.crew, stranger], []):
+        wrong_crews: list[list[p.Crew]] = [crews[:1], crews[::-1], [self.crew, stranger], []]
+        for wrong in wrong_crews:
             with self.assertRaisesRegex(ValueError, "crews are not those of all desks of the node in order"):
                 p.go_on(self.desks, wrong)
-        for desks in (self.desks[::-1], self.desks[:1], []):
+        wrong_desks: list[list[p.Desk]] = [self.desks[::-1], self.desks[:1], []]
+        for desks in wrong_desks:
             with self.assertRaisesRegex(ValueError, "desks are not all desks of one node in order"):
                 p.go_on(desks, crews)
         with self.assertRaisesRegex(TypeError, "crews is 7, and must be a sequence of type Crew"):
