@@ -1,5 +1,5 @@
 -- The teams of the scene `team`.
-use Rattle.std.specs.Prelude.{List}
+use Rattle.std.specs.Prelude.{List, []}
 use Rattle.std.specs.Option.{option_map}
 use Rattle.pt_desk.specs.DeskState.{DeskState}
 use Rattle.pt_crew.specs.declared.crew.Crew.{Crew}
@@ -14,4 +14,4 @@ boss_of b = option_map standing b.boss
 
 -- the crew of each desk is a team: its supervisors hold their children
 abbrev pub AreTeams : List (Crew Member) → List DeskState → Type 0
-AreTeams crews desks = AllUphold (Keeps boss_of) crews desks
+AreTeams crews desks = AllUphold (Keeps [] boss_of) crews desks

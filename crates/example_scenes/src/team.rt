@@ -2,7 +2,7 @@
 //! is still, it is settled. Then each child that its supervisor wants alive is alive, by the theorem on nodes that are
 //! still.
 
-ghost use Rattle.std.specs.Prelude.{◌≡◌, IfOk, Ok};
+ghost use Rattle.std.specs.Prelude.{◌≡◌, [], IfOk, Ok};
 ghost use Rattle.pt_crew.specs.declared.behaviour.Next.{Next};
 ghost use Rattle.pt_desk.specs.DeskState.{GoesOn};
 ghost use Rattle.pt_gathered.specs.Gathered.{IsGathered};
@@ -107,7 +107,7 @@ fn team<'a>(alloc: Global, curtain: &'a Curtain) -> Result<Member<'a>, AllocErro
 
 /// The crew of a desk, which its supervisor has entered.
 fn staffed<'a>(alloc: Global, desk: &mut Desk, curtain: &'a Curtain) -> Result<Crew<Member<'a>>>
-    ensures upholds { IfOk result (λ c. UpholdsOn (Keeps boss_of) c desk.new.shard) }
+    ensures upholds { IfOk result (λ c. UpholdsOn (Keeps [] boss_of) c desk.new.shard) }
     ensures goes_on { GoesOn desk.old desk.new }
 {
     quiet_children_live::<Member<'a>>();
@@ -215,7 +215,7 @@ pub fn play<'a, R: Threads + Wait + Sync>(
     alloc: Global,
     curtain: &'a Curtain,
 ) -> Result<Teams<'a>>
-    ensures live { IfOk result (λ t. AllChildrenLive boss_of t.crews.items t.quiet.gathered) }
+    ensures live { IfOk result (λ t. AllChildrenLive [] boss_of t.crews.items t.quiet.gathered) }
     ensures stopped { StoppedChildrenEnded boss_of }
 {
     gathered_children_live::<Member<'a>, FreeGate>(&FreeGate);

@@ -1,11 +1,10 @@
 -- The supervisors of a node that is gathered.
-use Rattle.std.proofs.Common.{◌≡◌, ℕ, ◌<◌, true, List, [], ◌∷◌, length, get_or, sym, ap, subst, ◌∙◌, arith}
+use Rattle.std.proofs.Common.{◌≡◌, ◌<◌, List, [], ◌∷◌, length, get_or, sym, ap, subst, ◌∙◌, arith}
 use Rattle.std.proofs.lemmas.List.{get_or-map, get_or_default, length-map}
 use Rattle.pt_events.specs.Locality.{JournalsSay}
 use Rattle.pt_laws.specs.JournalLaws.{MergeIsThere}
 use Rattle.pt_shard.specs.ShardState.{ShardState}
 use Rattle.pt_desk.specs.DeskState.{DeskState}
-use Rattle.pt_workers.specs.Desks.{all_shards}
 use Rattle.pt_crew.specs.declared.crew.Crew.{Crew}
 use Rattle.pt_crew.specs.Waking.{IsAwake}
 use Rattle.pt_crew.specs.Crews.{members, queue}
@@ -20,9 +19,9 @@ shard_of d = d.shard
 
 module _ {B : Type 0} (part : PartOf B) (say : JournalsSay) (there : MergeIsThere) where
   pub all_children_live : GatheredChildrenLive part
-  all_children_live crews [] g upholds idle shards whole stand d c x l = absurd (let none = ap length shards in omega (arith, l, none))
-  all_children_live crews (y ∷ ys) g upholds idle shards whole stand d c x l =
-      children_live part say there crew s g whole stand (omega (arith, l, number_is)) at on.upholds (awake_idle crew s awake.1 awake.0)
+  all_children_live past crews [] g upholds idle shards whole stand d c x l = absurd (let none = ap length shards in omega (arith, l, none))
+  all_children_live past crews (y ∷ ys) g upholds idle shards whole stand d c x l =
+      children_live part say there past crew s g whole stand (omega (arith, l, number_is)) at on.upholds (awake_idle crew s awake.1 awake.0)
     where
       desks : List DeskState
       desks = y ∷ ys
@@ -39,8 +38,8 @@ module _ {B : Type 0} (part : PartOf B) (say : JournalsSay) (there : MergeIsTher
       same : s ≡ (get_or desks d y).shard
       same = ap (λ (ss : List ShardState). get_or ss d x) shards ∙ get_or-map shard_of desks d y x within
 
-      on : UpholdsOn (Keeps part) crew s
-      on = subst (λ (z : ShardState). UpholdsOn (Keeps part) crew z) (sym same) (upholds.each d c y within)
+      on : UpholdsOn (Keeps past part) crew s
+      on = subst (λ (z : ShardState). UpholdsOn (Keeps past part) crew z) (sym same) (upholds.each d c y within)
 
       awake : (queue crew ≡ []) × IsAwake (members crew) (queue crew) s
       awake = idle_awake crew s (ap (is_idle crew) same ∙ idle.each d c y within) on.attends

@@ -53,7 +53,7 @@ each-weaker P Q f (x ∷ xs) h = (f x h.0, each-weaker P Q f xs h.1)
 
 -- what a letter on its way within a desk tells -----------------------------------------------------
 
-ended_later : (p : Pid) (e : Event) (f : Phase) → is_ended f ≡ true → is_ended (after p e f) ≡ true
+pub ended_later : (p : Pid) (e : Event) (f : Phase) → is_ended f ≡ true → is_ended (after p e f) ≡ true
 ended_later p e unborn h = absurd (cc)
 ended_later p e (living s) h = absurd (cc)
 ended_later p e (ended r s) h = ap is_ended (after_ended p e r s)

@@ -1,12 +1,13 @@
 -- What a supervisor does keeps its children held.
-use Rattle.std.proofs.Common.{◌≡◌, ◌⊎◌, inl, inr, ℕ, ◌<◌, ◌≤◌, ◌+◌, min, Bool, true, false, cond, ◌||◌, ◌&&◌, not, List, [], ◌∷◌, ◌++◌, take, length, slice_get, slice_set, get_or, Option, Some, None, Result, Ok, Err, is_some, refl, sym, ap, subst, ◌∙◌, arith}
+use Rattle.std.proofs.Common.{◌≡◌, ◌⊎◌, inl, inr, ℕ, ◌<◌, ◌≤◌, ◌+◌, min, Bool, true, false, cond, ◌||◌, ◌&&◌, not, List, [], ◌∷◌, ◌++◌, take, length, slice_get, slice_set, get_or, Option, Some, None, Result, Ok, Err, is_some, append_assoc, refl, sym, ap, subst, ◌∙◌, arith}
 use Rattle.std.specs.Prelude.{nat_lt, nat_le, position}
 use Rattle.std.proofs.lemmas.Bool.{cases_eq}
 use Rattle.std.proofs.lemmas.Option.{slice_get_within, slice_get-get_or, get_or_from_slice_get}
+use Rattle.std.proofs.lemmas.List.{map-append}
 use Rattle.std.proofs.lemmas.List.Folds.{list_any-append}
 use Rattle.std.proofs.lemmas.List.Quantifiers.{position-Some}
 use Rattle.std.proofs.lemmas.List.Sums.{fails_before_first}
-use Rattle.std.specs.List.{list_any, position_or_len}
+use Rattle.std.specs.List.{flat_map, list_any, position_or_len}
 use Rattle.pt_signal.specs.declared.pid.Pid.{Pid}
 use Rattle.pt_signal.specs.declared.ids.LinkId.{LinkId}
 use Rattle.pt_signal.specs.declared.item.Item.{Item}
@@ -18,7 +19,8 @@ use Rattle.pt_signal.proofs.Same.{same_pid_refl, same_pid_is}
 use Rattle.pt_events.specs.declared.event.Event.{Event}
 use Rattle.pt_events.specs.declared.event.Event.TheVariants.{Born, Said}
 use Rattle.pt_events.specs.declared.event.Stamped.{Stamped}
-use Rattle.pt_events.specs.History.{Start, at_start, Phase, unborn, living, ended, is_unborn, is_living, state_of, change, newborn, linked, while_living, touches}
+use Rattle.pt_events.specs.History.{Past, Phase, unborn, living, ended, is_unborn, is_living, state_of, change, newborn, linked, while_living, touches}
+use Rattle.pt_events.specs.Journal.{events}
 use Rattle.pt_laws.proofs.linking.Entries.{held-enter}
 use Rattle.pt_shard.specs.declared.fault.Fault.{Fault}
 use Rattle.pt_shard.specs.declared.fault.Fault.TheVariants.{Full, Memory, Worn, Gone, Myself, NoProc}
@@ -31,7 +33,7 @@ use Rattle.pt_supervisor.specs.declared.children.Child.{Child}
 use Rattle.pt_supervisor.specs.Children.{NoneLives, is_child}
 use Rattle.pt_supervisor.specs.Hearing.{Standing, gone, heard, heard_at, lives_again, lost, restarted_child, started_again, stopped}
 use Rattle.pt_supervisor.specs.Limits.{allows}
-use Rattle.pt_supervisor.specs.Keeping.{pid_of_child, child_at, is_exit_of, is_cut, has_cut, IsTied, IsHeld, Family, tells_end, has_told, was_started, IsPlaced, Remembers}
+use Rattle.pt_supervisor.specs.Keeping.{pid_of_child, child_at, is_exit_of, is_cut, has_cut, all_events, IsTied, IsHeld, Family, tells_end, has_told, WereTold, all_children, was_started, IsPlaced, Remembers}
 use Rattle.pt_supervisor.proofs.Wanting.{set_same, set_other, set_keeps, again_same, again_count}
 use Rattle.pt_supervisor.proofs.Telling.{one_taken}
 use Rattle.pt_supervisor.proofs.Tying.{or_right, entered_tied}
@@ -194,82 +196,90 @@ goes_event me d e ev own bare is = record {
   acts = λ q other born. alone_then q d (shard_after ev d) e (alone_event ev d q (own q other) (bare q)) (alone_is (shard_after ev d) e is q);
 }
 
-pub cut_later : (me q : Pid) (d e : ShardState) → IsLater d e → has_cut me q d.journal ≡ true → has_cut me q e.journal ≡ true
-cut_later me q d e x h =
-    ap (has_cut me q) x.journal ∙ list_any-append (λ (s : Stamped). is_cut me q s.event) x.more d.journal
-    ∙ or_right (has_cut me q x.more) (has_cut me q d.journal) h
+-- what happened is that, and then more
+whole_later : (past : Past) (d e : ShardState) (x : IsLater d e) → all_events past e ≡ events x.more ++ all_events past d
+whole_later past d e x =
+    ap (λ (j : List Stamped). events j ++ past) x.journal ∙ ap (λ (p : Past). p ++ past) (map-append (λ (s : Stamped). s.event) x.more d.journal)
+    ∙ append_assoc (events x.more) (events d.journal) past
 
-told_later : (me q : Pid) (d e : ShardState) → IsLater d e → has_told me q d.journal ≡ true → has_told me q e.journal ≡ true
-told_later me q d e x h =
-    ap (has_told me q) x.journal ∙ list_any-append (λ (s : Stamped). tells_end me q s.event) x.more d.journal
-    ∙ or_right (has_told me q x.more) (has_told me q d.journal) h
+any_later : (test : Event → Bool) (past : Past) (d e : ShardState) → IsLater d e → list_any test (all_events past d) ≡ true → list_any test (all_events past e) ≡ true
+any_later test past d e x h =
+    ap (list_any test) (whole_later past d e x) ∙ list_any-append test (events x.more) (all_events past d) ∙ or_right (list_any test (events x.more)) (list_any test (all_events past d)) h
+
+pub cut_later : (past : Past) (me q : Pid) (d e : ShardState) → IsLater d e → has_cut me q (all_events past d) ≡ true → has_cut me q (all_events past e) ≡ true
+cut_later past me q d e x h = any_later (is_cut me q) past d e x h
+
+pub told_later : (past : Past) (me q : Pid) (d e : ShardState) → IsLater d e → has_told me q (all_events past d) ≡ true → has_told me q (all_events past e) ≡ true
+told_later past me q d e x h = any_later (tells_end me q) past d e x h
 
 -- where it bears nobody, nobody is forgotten
-pub remembers_step : (children : List Child) (started : ℕ) (me : Pid) (d e : ShardState) → IsLater d e → children_by me e.journal ≡ children_by me d.journal
-    → Remembers children started me d → Remembers children started me e
-remembers_step children started me d e later bare r new q was =
-    go (r (ap (λ (t : Start). is_unborn (at_start t me)) (sym later.start) ∙ new) q (ap (λ (qs : List Pid). list_any (same_pid q) (take started qs)) (sym bare) ∙ was))
+pub remembers_step : (past : Past) (children : List Child) (started : ℕ) (me : Pid) (d e : ShardState) → IsLater d e → children_by me e.journal ≡ children_by me d.journal
+    → Remembers past children started me d → Remembers past children started me e
+remembers_step past children started me d e later bare r were q was =
+    go (r (subst (WereTold past me) later.start were) q
+    (ap (λ (qs : List Pid). list_any (same_pid q) (take started (qs ++ flat_map (child_by me) past))) (sym bare) ∙ was))
   where
-    go : IsPlaced children q ⊎ (has_told me q d.journal ≡ true) → IsPlaced children q ⊎ (has_told me q e.journal ≡ true)
+    go : IsPlaced children q ⊎ (has_told me q (all_events past d) ≡ true) → IsPlaced children q ⊎ (has_told me q (all_events past e) ≡ true)
     go (inl placed) = inl placed
-    go (inr told) = inr (told_later me q d e later told)
+    go (inr told) = inr (told_later past me q d e later told)
 
 -- an item is heard
-pub remembers_less : (item : Item) (s m : Standing) (me : Pid) (d e : ShardState) → IsLater d e → children_by me e.journal ≡ children_by me d.journal
-    → ((q : Pid) → is_exit_of q item ≡ true → is_unborn (at_start d.start me) ≡ true → has_told me q d.journal ≡ true)
-    → Less item s m → Remembers s.children s.started me d → Remembers m.children m.started me e
-remembers_less item s m me d e later bare tells less r new q was =
-    go (remembers_step s.children s.started me d e later bare r new q (ap (λ (n : ℕ). was_started n me q e.journal) (sym less.count) ∙ was))
+pub remembers_less : (past : Past) (item : Item) (s m : Standing) (me : Pid) (d e : ShardState) → IsLater d e → children_by me e.journal ≡ children_by me d.journal
+    → ((q : Pid) → is_exit_of q item ≡ true → WereTold past me d.start → has_told me q (all_events past d) ≡ true)
+    → Less item s m → Remembers past s.children s.started me d → Remembers past m.children m.started me e
+remembers_less past item s m me d e later bare tells less r were q was =
+    go (remembers_step past s.children s.started me d e later bare r were q (ap (λ (n : ℕ). was_started past n me q e) (sym less.count) ∙ was))
   where
-    there : is_unborn (at_start d.start me) ≡ true
-    there = ap (λ (t : Start). is_unborn (at_start t me)) (sym later.start) ∙ new
+    there : WereTold past me d.start
+    there = subst (WereTold past me) later.start were
 
-    go : IsPlaced s.children q ⊎ (has_told me q e.journal ≡ true) → IsPlaced m.children q ⊎ (has_told me q e.journal ≡ true)
+    go : IsPlaced s.children q ⊎ (has_told me q (all_events past e) ≡ true) → IsPlaced m.children q ⊎ (has_told me q (all_events past e) ≡ true)
     go (inl placed) = elim (less.kept placed.0 q placed.1) [
       | inl still ↦ inl (placed.0, still)
-      | inr out ↦ inr (told_later me q d e later (tells q out there))
+      | inr out ↦ inr (told_later past me q d e later (tells q out there))
     ]
     go (inr told) = inr told
 
 -- a supervisor that has begun ---------------------------------------------------------------------------
 
-pub record Kept (children : List Child) (started : ℕ) (stopping : Option Reason) (me : Pid) (e : ShardState) : Type 0 where
+pub record Kept (past : Past) (children : List Child) (started : ℕ) (stopping : Option Reason) (me : Pid) (e : ShardState) : Type 0 where
   pub state : ProcessState
   pub living_is : phase_of e me ≡ living state
   pub traps : state.traps ≡ true
-  pub family : Family children stopping me e
-  pub remembers : Remembers children started me e
+  pub family : Family past children stopping me e
+  pub remembers : Remembers past children started me e
 
-pub family_step : (children : List Child) (stopping : Option Reason) (me : Pid) (d e : ShardState) → IsLater d e → ((q : Pid) → IsTied (state_in d me) q → IsHeld me q e) → Family children stopping me d → Family children stopping me e
-family_step children stopping me d e later ties f = record {
+pub family_step : (past : Past) (children : List Child) (stopping : Option Reason) (me : Pid) (d e : ShardState) → IsLater d e → ((q : Pid) → IsTied (state_in d me) q → IsHeld past me q e) → Family past children stopping me d
+    → Family past children stopping me e
+family_step past children stopping me d e later ties f = record {
   born = λ place q is. born_then d e later q (f.born place q is);
   apart = f.apart;
   held = λ none place q is. go q (f.held none place q is);
 }
   where
-    go : (q : Pid) → IsHeld me q d → IsHeld me q e
+    go : (q : Pid) → IsHeld past me q d → IsHeld past me q e
     go q (inl h) = ties q h
-    go q (inr h) = inr (cut_later me q d e later h)
+    go q (inr h) = inr (cut_later past me q d e later h)
 
-family_kept : (children : List Child) (started : ℕ) (stopping : Option Reason) (me : Pid) (d e : ShardState) → IsLater d e → (k : Kept children started stopping me d) → (t : ProcessState) → phase_of e me ≡ living t
-    → ((q : Pid) → IsTied k.state q → IsTied t q) → Family children stopping me e
-family_kept children started stopping me d e later k t now ties =
-    family_step children stopping me d e later (λ q h.
+family_kept : (past : Past) (children : List Child) (started : ℕ) (stopping : Option Reason) (me : Pid) (d e : ShardState) → IsLater d e → (k : Kept past children started stopping me d) → (t : ProcessState) → phase_of e me ≡ living t
+    → ((q : Pid) → IsTied k.state q → IsTied t q) → Family past children stopping me e
+family_kept past children started stopping me d e later k t now ties =
+    family_step past children stopping me d e later (λ q h.
     inl (subst (λ (f : Phase). IsTied (state_of f) q) (sym now) (ties q (subst (λ (f : Phase). IsTied (state_of f) q) k.living_is h)))) k.family
 
-pub kept_step : (children : List Child) (started : ℕ) (stopping : Option Reason) (me : Pid) (d e : ShardState) → IsLater d e → children_by me e.journal ≡ children_by me d.journal
-    → (k : Kept children started stopping me d) → (t : ProcessState) → phase_of e me ≡ living t
-    → t.traps ≡ true → ((q : Pid) → IsTied k.state q → IsTied t q) → Kept children started stopping me e
-kept_step children started stopping me d e later bare k t now traps ties = record {
+pub kept_step : (past : Past) (children : List Child) (started : ℕ) (stopping : Option Reason) (me : Pid) (d e : ShardState) → IsLater d e → children_by me e.journal ≡ children_by me d.journal
+    → (k : Kept past children started stopping me d) → (t : ProcessState) → phase_of e me ≡ living t
+    → t.traps ≡ true → ((q : Pid) → IsTied k.state q → IsTied t q) → Kept past children started stopping me e
+kept_step past children started stopping me d e later bare k t now traps ties = record {
   state = t;
   living_is = now;
   traps = traps;
-  family = family_kept children started stopping me d e later k t now ties;
-  remembers = remembers_step children started me d e later bare k.remembers;
+  family = family_kept past children started stopping me d e later k t now ties;
+  remembers = remembers_step past children started me d e later bare k.remembers;
 }
 
-pub kept_is : (children : List Child) (started : ℕ) (stopping : Option Reason) (me : Pid) (d e : ShardState) → e ≡ d → Kept children started stopping me d → Kept children started stopping me e
-kept_is children started stopping me d e is k = subst (Kept children started stopping me) (sym is) k
+pub kept_is : (past : Past) (children : List Child) (started : ℕ) (stopping : Option Reason) (me : Pid) (d e : ShardState) → e ≡ d → Kept past children started stopping me d → Kept past children started stopping me e
+kept_is past children started stopping me d e is k = subst (Kept past children started stopping me) (sym is) k
 
 -- an event of its own
 pub own_phase : (me : Pid) (ev : Event) (d : ShardState) (s : ProcessState) (own : touches me ev ≡ true) → phase_of d me ≡ living s → phase_of (shard_after ev d) me ≡ change me ev (living s)
@@ -288,16 +298,16 @@ module _ (me p : Pid) (reason : Reason) where
   told_goes d e (Err Myself) c = absurd c
   told_goes d e (Err NoProc) c = absurd c
 
-  pub told_kept : (children : List Child) (started : ℕ) (stopping : Option Reason) (d e : ShardState) (result : Result (Unit {0}) Fault) → Calls me (Some (Said me p (Signal.Exit reason))) (tt {0}) d result e → Kept children started stopping me d → Kept children started stopping me e
-  told_kept children started stopping d e (Ok x) c k =
-      kept_step children started stopping me d e (told_goes d e (Ok x) c).later (ap (λ (f : ShardState). children_by me f.journal) c.3) k k.state
+  pub told_kept : (past : Past) (children : List Child) (started : ℕ) (stopping : Option Reason) (d e : ShardState) (result : Result (Unit {0}) Fault) → Calls me (Some (Said me p (Signal.Exit reason))) (tt {0}) d result e → Kept past children started stopping me d → Kept past children started stopping me e
+  told_kept past children started stopping d e (Ok x) c k =
+      kept_step past children started stopping me d e (told_goes d e (Ok x) c).later (ap (λ (f : ShardState). children_by me f.journal) c.3) k k.state
       (phase_is (shard_after (Said me p (Signal.Exit reason)) d) e c.3 me ∙ own_phase me (Said me p (Signal.Exit reason)) d k.state (same_pid_refl me) k.living_is) k.traps (λ q h. h)
-  told_kept children started stopping d e (Err Gone) c k = kept_is children started stopping me d e c.1 k
-  told_kept children started stopping d e (Err Worn) c k = kept_is children started stopping me d e c.3 k
-  told_kept children started stopping d e (Err Memory) c k = kept_is children started stopping me d e c.3 k
-  told_kept children started stopping d e (Err Full) c k = absurd c
-  told_kept children started stopping d e (Err Myself) c k = absurd c
-  told_kept children started stopping d e (Err NoProc) c k = absurd c
+  told_kept past children started stopping d e (Err Gone) c k = kept_is past children started stopping me d e c.1 k
+  told_kept past children started stopping d e (Err Worn) c k = kept_is past children started stopping me d e c.3 k
+  told_kept past children started stopping d e (Err Memory) c k = kept_is past children started stopping me d e c.3 k
+  told_kept past children started stopping d e (Err Full) c k = absurd c
+  told_kept past children started stopping d e (Err Myself) c k = absurd c
+  told_kept past children started stopping d e (Err NoProc) c k = absurd c
 
 -- a birth --------------------------------------------------------------------------------------------------
 
@@ -336,14 +346,16 @@ module _ (me p : Pid) (d e : ShardState) (i : LinkId) (unborn_is : is_unborn (ph
       let other : same_pid me p ≡ false = apart_from me (living_born (phase_of d me) (ap is_living is)) in
       same_phase me ∙ (λ n. cond (other n || same_pid_refl me n) (cond (other n) (newborn (Some me) (Some i) (is n)) (while_living (linked (Some p) (Some i)) (is n))) (is n))
 
-  one_more : children_by me e.journal ≡ p ∷ children_by me d.journal
-  one_more = ap (children_by me) journal ∙ ap (λ (b : Bool). cond b (p ∷ []) [] ++ children_by me d.journal) (same_pid_refl me)
+  one_more : (past : Past) → all_children past me e ≡ p ∷ all_children past me d
+  one_more past =
+      ap (λ (j : List Stamped). children_by me j ++ flat_map (child_by me) past) journal
+      ∙ ap (λ (b : Bool). (cond b (p ∷ []) [] ++ children_by me d.journal) ++ flat_map (child_by me) past) (same_pid_refl me)
 
-  pub born_kept : (children : List Child) (started top place : ℕ) (c : Child) → slice_get children place ≡ Some c → c.pid ≡ None → Kept children started None me d
-      → Kept (slice_set children place (record c { pid = Some p })) (min (started + 1) top) None me e
-  born_kept children started top place c at missing k = record {
-    remembers = λ new q was. remembered new q (one_taken started top q p (children_by me d.journal)
-        (ap (λ (qs : List Pid). list_any (same_pid q) (take (min (started + 1) top) qs)) (sym one_more) ∙ was));
+  pub born_kept : (past : Past) (children : List Child) (started top place : ℕ) (c : Child) → slice_get children place ≡ Some c → c.pid ≡ None → Kept past children started None me d
+      → Kept past (slice_set children place (record c { pid = Some p })) (min (started + 1) top) None me e
+  born_kept past children started top place c at missing k = record {
+    remembers = λ were q was. remembered were q (one_taken started top q p (all_children past me d)
+        (ap (λ (qs : List Pid). list_any (same_pid q) (take (min (started + 1) top) qs)) (sym (one_more past)) ∙ was));
     state = t;
     living_is = linked_now k.state k.living_is;
     traps = k.traps;
@@ -376,8 +388,8 @@ module _ (me p : Pid) (d e : ShardState) (i : LinkId) (unborn_is : is_unborn (ph
       t : ProcessState
       t = record (k.state) { links = enter p i k.state.links }
 
-      old : Family children None me e
-      old = family_kept children started None me d e born_goes.later k t (linked_now k.state k.living_is) (λ q h. entered_tied k.state p q i h)
+      old : Family past children None me e
+      old = family_kept past children started None me d e born_goes.later k t (linked_now k.state k.living_is) (λ q h. entered_tied k.state p q i h)
 
       still_placed : (q : Pid) → IsPlaced children q → IsPlaced (slice_set children place v) q
       still_placed q placed = elim (cases_eq placed.0 place) [
@@ -385,14 +397,14 @@ module _ (me p : Pid) (d e : ShardState) (i : LinkId) (unborn_is : is_unborn (ph
         | inr other ↦ (placed.0, set_same_at children place placed.0 v q other placed.1)
       ]
 
-      onward : (q : Pid) → IsPlaced children q ⊎ (has_told me q d.journal ≡ true) → IsPlaced (slice_set children place v) q ⊎ (has_told me q e.journal ≡ true)
+      onward : (q : Pid) → IsPlaced children q ⊎ (has_told me q (all_events past d) ≡ true) → IsPlaced (slice_set children place v) q ⊎ (has_told me q (all_events past e) ≡ true)
       onward q (inl placed) = inl (still_placed q placed)
-      onward q (inr told) = inr (told_later me q d e born_goes.later told)
+      onward q (inr told) = inr (told_later past me q d e born_goes.later told)
 
-      remembered : is_unborn (at_start e.start me) ≡ true → (q : Pid) → (same_pid q p ≡ true) ⊎ (list_any (same_pid q) (take started (children_by me d.journal)) ≡ true)
-          → IsPlaced (slice_set children place v) q ⊎ (has_told me q e.journal ≡ true)
-      remembered new q (inl same) = inl (place, set_at children place c v at ∙ ap Some (sym (same_pid_is q p same)))
-      remembered new q (inr was) = onward q (k.remembers (ap (λ (s : Start). is_unborn (at_start s me)) (sym start) ∙ new) q was)
+      remembered : WereTold past me e.start → (q : Pid) → (same_pid q p ≡ true) ⊎ (list_any (same_pid q) (take started (all_children past me d)) ≡ true)
+          → IsPlaced (slice_set children place v) q ⊎ (has_told me q (all_events past e) ≡ true)
+      remembered were q (inl same) = inl (place, set_at children place c v at ∙ ap Some (sym (same_pid_is q p same)))
+      remembered were q (inr was) = onward q (k.remembers (subst (WereTold past me) start were) q was)
 
       is_new : (j : ℕ) (q : Pid) → child_at (slice_set children place v) j ≡ Some q → j ≡ place → p ≡ q
       is_new j q is same =

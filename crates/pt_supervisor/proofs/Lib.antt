@@ -5,6 +5,7 @@ pub mod Starting
 pub mod Ending
 pub mod Tying
 pub mod Telling
+pub mod Before
 pub mod Families
 pub mod Tending
 pub mod Still

@@ -9,7 +9,7 @@ use Rattle.pt_signal.specs.declared.item.Pick.{Pick}
 use Rattle.pt_signal.specs.Values.{same_pid, fits}
 use Rattle.pt_signal.specs.Process.{held}
 use Rattle.pt_signal.proofs.Same.{same_pid_is}
-use Rattle.pt_events.specs.History.{Phase, unborn, living, ended, is_living, state_of, life, alive}
+use Rattle.pt_events.specs.History.{Past, Phase, unborn, living, ended, is_living, state_of, life, alive}
 use Rattle.pt_events.specs.Journal.{events}
 use Rattle.pt_events.specs.Locality.{JournalsSay}
 use Rattle.pt_laws.specs.JournalLaws.{MergeIsThere}
@@ -25,7 +25,7 @@ use Rattle.pt_crew.specs.Crews.{members, queue, role, roles, waiting}
 use Rattle.pt_crew.specs.Upholding.{Relation, AllFirst, Upholds}
 use Rattle.pt_crew.proofs.Waking.{by_cases, some_none}
 use Rattle.pt_supervisor.specs.Hearing.{Standing}
-use Rattle.pt_supervisor.specs.Keeping.{pid_of_child, is_exit_of, has_cut, IsHeld, Holds, PartOf, HoldsAs, IsIdle, QuietChildrenLive}
+use Rattle.pt_supervisor.specs.Keeping.{pid_of_child, is_exit_of, has_cut, all_events, IsHeld, Holds, PartOf, HoldsAs, IsIdle, QuietChildrenLive}
 use Rattle.pt_supervisor.proofs.Wanting.{lives_when_wanted}
 
 -- a crew of nobody upholds what it likes
@@ -63,21 +63,21 @@ pid_of : (o : Option Pid) → is_some o ≡ true → (q : Pid) × (o ≡ Some q)
 pid_of None h = absurd (cc)
 pid_of (Some q) h = (q, refl)
 
-holds_of : (o : Option Standing) (s : Standing) (next : Next) (p : Pid) (d : ShardState) → o ≡ Some s → lives d p ≡ true → HoldsAs o next p d → Holds s next p d
-holds_of o s next p d is alive h = (subst (λ (x : Option Standing). HoldsAs x next p d) is h).0 alive
+holds_of : (past : Past) (o : Option Standing) (s : Standing) (next : Next) (p : Pid) (d : ShardState) → o ≡ Some s → lives d p ≡ true → HoldsAs past o next p d → Holds past s next p d
+holds_of past o s next p d is alive h = (subst (λ (x : Option Standing). HoldsAs past x next p d) is h).0 alive
 
 module _ {B : Type 0} (part : PartOf B) (say : JournalsSay) (there : MergeIsThere) where
   pub children_live : QuietChildrenLive part
-  children_live c d g whole stand number at upholds idle merged m p b s is part_is here home place child at_place wanted = (q.0, q.1, outcome)
+  children_live past c d g node stand number at upholds idle merged m p b s is part_is here home place child at_place wanted = (q.0, q.1, outcome)
     where
-      holds : Holds s (Wait Pick.Any) p d
-      holds = holds_of (part b) s (Wait Pick.Any) p d part_is here (upholds.members p (b, Wait Pick.Any) is).1
+      holds : Holds past s (Wait Pick.Any) p d
+      holds = holds_of past (part b) s (Wait Pick.Any) p d part_is here (upholds.members p (b, Wait Pick.Any) is).1
 
       q : (q : Pid) × (child.pid ≡ Some q)
       q = pid_of child.pid (lives_when_wanted child wanted (holds.waits.0 place child (slice_get_within s.children place child at_place) at_place))
 
       same_life : life (begins g) (events merged) p ≡ phase_of d p
-      same_life = said_here g whole say there merged m p d (subst (λ (n : ℕ). n < length g.shards) (sym home) number) (subst (λ (n : ℕ). d ≡ get_or g.shards n d) (sym home) at)
+      same_life = said_here g node say there merged m p d (subst (λ (n : ℕ). n < length g.shards) (sym home) number) (subst (λ (n : ℕ). d ≡ get_or g.shards n d) (sym home) at)
 
       lives_there : alive (begins g) (events merged) p ≡ true
       lives_there = ap is_living same_life ∙ here
@@ -89,12 +89,12 @@ module _ {B : Type 0} (part : PartOf B) (say : JournalsSay) (there : MergeIsTher
           let none = (stand merged p q.0 m other lives_there).1 dead in
           let bad : true ≡ false = sym ties ∙ ap (λ (f : Phase). is_some (held (state_of f).links q.0)) (sym same_life) ∙ ap is_some none in absurd (cc))
 
-      go : IsHeld p q.0 d → same_pid p q.0 ≡ false → (alive (begins g) (events merged) q.0 ≡ true) ⊎ (has_cut p q.0 d.journal ≡ true)
+      go : IsHeld past p q.0 d → same_pid p q.0 ≡ false → (alive (begins g) (events merged) q.0 ≡ true) ⊎ (has_cut p q.0 (all_events past d) ≡ true)
       go (inr cut) other = inr cut
       go (inl (inl ties)) other = inl (linked other ties)
       go (inl (inr waits)) other = absurd (idle_empty (phase_of d p) (is_exit_of q.0) here (idle p (b, Wait Pick.Any) is) waits)
 
-      outcome : (alive (begins g) (events merged) q.0 ≡ true) ⊎ (has_cut p q.0 d.journal ≡ true)
+      outcome : (alive (begins g) (events merged) q.0 ≡ true) ⊎ (has_cut p q.0 (all_events past d) ≡ true)
       outcome = by_cases (same_pid p q.0)
           (λ same. inl (subst (λ (x : Pid). alive (begins g) (events merged) x ≡ true) (same_pid_is p q.0 same) lives_there))
           (λ other. go (holds.family.held holds.waits.2 place q.0 (ap pid_of_child at_place ∙ q.1)) other)

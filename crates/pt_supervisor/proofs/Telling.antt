@@ -16,12 +16,10 @@ use Rattle.pt_signal.specs.Values.{same_pid, same_ref, fits, without_first}
 use Rattle.pt_signal.specs.Process.{ProcessState, fresh, verdict, obey, held, holds_any, link_exit, down, handle, say}
 use Rattle.pt_events.specs.declared.event.Event.{Event}
 use Rattle.pt_events.specs.declared.event.Event.TheVariants.{Born, Said, Came, Took, Flag, Left, Refused}
-use Rattle.pt_events.specs.declared.event.Stamped.{Stamped}
-use Rattle.pt_events.specs.History.{Start, Phase, unborn, living, ended, at_start, is_unborn, state_of, life, change, touches, newborn, linked, while_living, gets, live_or_end}
+use Rattle.pt_events.specs.History.{Past, Start, Phase, unborn, living, ended, at_start, is_unborn, state_of, life, change, touches, newborn, linked, while_living, gets, live_or_end}
 use Rattle.pt_events.specs.History.{after as turned}
-use Rattle.pt_events.specs.Journal.{events}
 use Rattle.pt_crew.proofs.Waking.{by_cases}
-use Rattle.pt_supervisor.specs.Keeping.{is_exit_of, tells_end, has_told}
+use Rattle.pt_supervisor.specs.Keeping.{is_exit_of, tells_end, has_told, WereTold}
 use Rattle.pt_supervisor.proofs.Tying.{or_left, or_right}
 
 -- lists ------------------------------------------------------------------------------------------
@@ -177,15 +175,19 @@ module _ (me q : Pid) where
       (λ on. changed e f on (subst (λ (b : Bool). waits (cond b (change me e f) f) ≡ true) on h))
       (λ off. inr (subst (λ (b : Bool). waits (cond b (change me e f) f) ≡ true) off h))
 
-  none_waits : {Y : Type 0} (f : Phase) → is_unborn f ≡ true → waits f ≡ true → Y
-  none_waits unborn new h = absurd (cc)
-  none_waits (living s) new h = absurd (cc)
-  none_waits (ended r s) new h = absurd (cc)
-
-  -- of one that was not there as the journal began
-  pub waits_told : (start : Start) (journal : List Stamped) → is_unborn (at_start start me) ≡ true → waits (life start (events journal) me) ≡ true → has_told me q journal ≡ true
-  waits_told start [] new h = none_waits (at_start start me) new h
-  waits_told start (s ∷ journal) new h = elim (step s.event (life start (events journal) me) h) [
-    | inl t ↦ or_left (tells_end me q s.event) (has_told me q journal) t
-    | inr w ↦ or_right (tells_end me q s.event) (has_told me q journal) (waits_told start journal new w)
+  -- where those that waited first had come before
+  pub waits_told : (first : Past) (start : Start) → WereTold first me start → (past : Past) → waits (life start past me) ≡ true → has_told me q (past ++ first) ≡ true
+  waits_told first start were [] h = were q h
+  waits_told first start were (e ∷ past) h = elim (step e (life start past me) h) [
+    | inl t ↦ or_left (tells_end me q e) (has_told me q (past ++ first)) t
+    | inr w ↦ or_right (tells_end me q e) (has_told me q (past ++ first)) (waits_told first start were past w)
   ]
+
+-- for one that was not there none waited
+none_waits : {Y : Type 0} (q : Pid) (f : Phase) → is_unborn f ≡ true → list_any (is_exit_of q) (state_of f).waiting ≡ true → Y
+none_waits q unborn new h = absurd (cc)
+none_waits q (living s) new h = absurd (cc)
+none_waits q (ended r s) new h = absurd (cc)
+
+pub new_told : (past : Past) (me : Pid) (start : Start) → is_unborn (at_start start me) ≡ true → WereTold past me start
+new_told past me start new q waits = none_waits q (at_start start me) new waits

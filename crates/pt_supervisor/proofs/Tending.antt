@@ -14,7 +14,8 @@ use Rattle.pt_signal.specs.Values.{same_pid, fits, without_first}
 use Rattle.pt_signal.specs.Process.{ProcessState, handle}
 use Rattle.pt_signal.proofs.Same.{same_pid_refl}
 use Rattle.pt_events.specs.declared.event.Event.TheVariants.{Came, Said, Took, Flag, Left}
-use Rattle.pt_events.specs.History.{Phase, unborn, living, ended, is_unborn, is_living, state_of, gets, leaves, live_or_end}
+use Rattle.pt_events.specs.History.{Past, Phase, unborn, living, ended, is_unborn, is_living, state_of, gets, leaves, live_or_end}
+use Rattle.pt_events.specs.Journal.{events}
 use Rattle.pt_shard.specs.declared.fault.Fault.{Fault}
 use Rattle.pt_shard.specs.declared.fault.Fault.TheVariants.{Full, Memory, Worn, Gone, Myself, NoProc}
 use Rattle.pt_shard.specs.ShardState.{ShardState, phase_of, state_in, lives, shard_after, handled}
@@ -38,7 +39,7 @@ use Rattle.pt_supervisor.specs.Children.{NoneLives, bids, is_missing, last_alive
 use Rattle.pt_supervisor.specs.Limits.{moment}
 use Rattle.pt_supervisor.specs.Hearing.{Standing, asked_until, deadline, heard}
 use Rattle.pt_supervisor.specs.Supervising.{Bids, EndsChild, StartsOf, Nursery, BearsAs, StartsAt, StartsOne, StartsFirst, StartsAll, SupervisorScene, nursery, SupervisorSettles, AdvancesAs, SupervisorAttends, SupervisorHandles, Supervises, with_pid, with_one, after_attending}
-use Rattle.pt_supervisor.specs.Keeping.{is_exit_of, is_cut, has_cut, IsTied, IsHeld, Family, was_started, Remembers, Holds, Tends, PartOf, HoldsAs, Keeps, SupervisorBegins, AllBegin, ActsAs, SuperviseAs}
+use Rattle.pt_supervisor.specs.Keeping.{is_exit_of, is_cut, has_cut, all_events, IsTied, IsHeld, Family, all_children, was_started, Remembers, Holds, Tends, PartOf, HoldsAs, Keeps, SupervisorBegins, AllBegin, ActsAs, SuperviseAs}
 use Rattle.pt_supervisor.proofs.Tying.{or_left, stays_in, tied_by, is_unlink, handled_tied, handled_traps}
 use Rattle.pt_supervisor.proofs.Telling.{found_any, waits_told}
 use Rattle.pt_supervisor.proofs.Families.{none_at, Less, less_heard, Goes, goes_is, goes_then, goes_event, cut_later, remembers_step, remembers_less, Kept, family_step, kept_is, own_phase, told_goes, told_kept, born_goes, born_kept}
@@ -59,14 +60,14 @@ module _ {B : Type 0} (me : Pid) (b : B) (first : Next) where
   bore_goes d e wait waiting (Ok p) h = born_goes me p d e (new_link d) h.2 (ap (λ (x : ShardState). x.start) h.0.1.2) (ap (λ (x : ShardState). x.journal) h.0.1.2)
   bore_goes d e wait waiting (Err f) h = goes_is me d e (not_born f d e h.0)
 
-  bore_kept : (d e : ShardState) (wait waiting : List (Role B)) (result : Result Pid Fault) (children : List Child) (started place : ℕ) (c : Child) → slice_get children place ≡ Some c → c.pid ≡ None
-      → Bore me true b first d wait result e waiting → Kept children started None me d → Kept (with_pid place c result children) (with_one result started) None me e
-  bore_kept d e wait waiting (Ok p) children started place c at missing h k =
-      born_kept me p d e (new_link d) h.2 (ap (λ (x : ShardState). x.start) h.0.1.2) (ap (λ (x : ShardState). x.journal) h.0.1.2) children started (2 ^ 64 - 1) place c at missing k
-  bore_kept d e wait waiting (Err f) children started place c at missing h k = kept_is children started None me d e (not_born f d e h.0) k
+  bore_kept : (past : Past) (d e : ShardState) (wait waiting : List (Role B)) (result : Result Pid Fault) (children : List Child) (started place : ℕ) (c : Child) → slice_get children place ≡ Some c → c.pid ≡ None
+      → Bore me true b first d wait result e waiting → Kept past children started None me d → Kept past (with_pid place c result children) (with_one result started) None me e
+  bore_kept past d e wait waiting (Ok p) children started place c at missing h k =
+      born_kept me p d e (new_link d) h.2 (ap (λ (x : ShardState). x.start) h.0.1.2) (ap (λ (x : ShardState). x.journal) h.0.1.2) past children started (2 ^ 64 - 1) place c at missing k
+  bore_kept past d e wait waiting (Err f) children started place c at missing h k = kept_is past children started None me d e (not_born f d e h.0) k
 
-abbrev KeptIn : {S B : Type 0} → Pid → Nursery S B → Type 0
-KeptIn me n = Kept n.children n.started None me n.desk
+abbrev KeptIn : {S B : Type 0} → Past → Pid → Nursery S B → Type 0
+KeptIn past me n = Kept past n.children n.started None me n.desk
 
 -- one that is missing has no pid
 no_pid : (c : Child) → is_missing c ≡ true → c.pid ≡ None
@@ -82,61 +83,61 @@ module _ {S B : Type 0} (starts : StartsOf S B) (me : Pid) where
   bears_goes place c (Err f) old new answer h = goes_is me old.desk new.desk h.2
   bears_goes place c (Ok (b, first)) old new answer h = bore_goes me b first old.desk new.desk old.born new.born h.0 h.1
 
-  bears_kept : (place : ℕ) (c : Child) (begins : Result (B × Next) Fault) (old new : Nursery S B) (answer : Bool) → slice_get old.children place ≡ Some c → c.pid ≡ None → BearsAs me place c begins old answer new
-      → KeptIn me old → KeptIn me new
-  bears_kept place c (Err f) old new answer at missing h k =
-      subst (λ (n : ℕ). Kept new.children n None me new.desk) (sym h.4)
-      (subst (λ (xs : List Child). Kept xs old.started None me new.desk) (sym h.1) (kept_is old.children old.started None me old.desk new.desk h.2 k))
-  bears_kept place c (Ok (b, first)) old new answer at missing h k =
-      subst (λ (n : ℕ). Kept new.children n None me new.desk) (sym h.4)
-      (subst (λ (xs : List Child). Kept xs (with_one h.0 old.started) None me new.desk) (sym h.3)
-      (bore_kept me b first old.desk new.desk old.born new.born h.0 old.children old.started place c at missing h.1 k))
+  bears_kept : (past : Past) (place : ℕ) (c : Child) (begins : Result (B × Next) Fault) (old new : Nursery S B) (answer : Bool) → slice_get old.children place ≡ Some c → c.pid ≡ None → BearsAs me place c begins old answer new
+      → KeptIn past me old → KeptIn past me new
+  bears_kept past place c (Err f) old new answer at missing h k =
+      subst (λ (n : ℕ). Kept past new.children n None me new.desk) (sym h.4)
+      (subst (λ (xs : List Child). Kept past xs old.started None me new.desk) (sym h.1) (kept_is past old.children old.started None me old.desk new.desk h.2 k))
+  bears_kept past place c (Ok (b, first)) old new answer at missing h k =
+      subst (λ (n : ℕ). Kept past new.children n None me new.desk) (sym h.4)
+      (subst (λ (xs : List Child). Kept past xs (with_one h.0 old.started) None me new.desk) (sym h.3)
+      (bore_kept me b first past old.desk new.desk old.born new.born h.0 old.children old.started place c at missing h.1 k))
 
   missing_goes : (missing : Bool) (place : ℕ) (c : Child) (old new : Nursery S B) (answer : Bool)
       → MatchBool missing ((begins : Result (B × Next) Fault) × starts old.start me place begins new.start × BearsAs me place c begins old answer new) ((answer ≡ true) × (new ≡ old)) → Goes me old.desk new.desk
   missing_goes true place c old new answer h = bears_goes place c h.0 old new answer h.2
   missing_goes false place c old new answer h = goes_is me old.desk new.desk (ap (λ (n : Nursery S B). n.desk) h.1)
 
-  missing_kept : (missing : Bool) (place : ℕ) (c : Child) (old new : Nursery S B) (answer : Bool) → slice_get old.children place ≡ Some c → is_missing c ≡ missing
+  missing_kept : (past : Past) (missing : Bool) (place : ℕ) (c : Child) (old new : Nursery S B) (answer : Bool) → slice_get old.children place ≡ Some c → is_missing c ≡ missing
       → MatchBool missing ((begins : Result (B × Next) Fault) × starts old.start me place begins new.start × BearsAs me place c begins old answer new) ((answer ≡ true) × (new ≡ old))
-      → KeptIn me old → KeptIn me new
-  missing_kept true place c old new answer at missing h k = bears_kept place c h.0 old new answer at (no_pid c missing) h.2 k
-  missing_kept false place c old new answer at missing h k = subst (KeptIn me) (sym h.1) k
+      → KeptIn past me old → KeptIn past me new
+  missing_kept past true place c old new answer at missing h k = bears_kept past place c h.0 old new answer at (no_pid c missing) h.2 k
+  missing_kept past false place c old new answer at missing h k = subst (KeptIn past me) (sym h.1) k
 
   at_goes : (place : ℕ) (o : Option Child) (old new : Nursery S B) (answer : Bool) → StartsAt starts me place o old answer new → Goes me old.desk new.desk
   at_goes place None old new answer h = absurd h
   at_goes place (Some c) old new answer h = missing_goes (is_missing c) place c old new answer h
 
-  at_kept : (place : ℕ) (o : Option Child) (old new : Nursery S B) (answer : Bool) → slice_get old.children place ≡ o → StartsAt starts me place o old answer new → KeptIn me old → KeptIn me new
-  at_kept place None old new answer at h k = absurd h
-  at_kept place (Some c) old new answer at h k = missing_kept (is_missing c) place c old new answer at refl h k
+  at_kept : (past : Past) (place : ℕ) (o : Option Child) (old new : Nursery S B) (answer : Bool) → slice_get old.children place ≡ o → StartsAt starts me place o old answer new → KeptIn past me old → KeptIn past me new
+  at_kept past place None old new answer at h k = absurd h
+  at_kept past place (Some c) old new answer at h k = missing_kept past (is_missing c) place c old new answer at refl h k
 
   one_goes : (place : ℕ) (old new : Nursery S B) (answer : Bool) → StartsOne starts me place old answer new → Goes me old.desk new.desk
   one_goes place old new answer h = at_goes place (slice_get old.children place) old new answer h
 
-  one_kept : (place : ℕ) (old new : Nursery S B) (answer : Bool) → StartsOne starts me place old answer new → KeptIn me old → KeptIn me new
-  one_kept place old new answer h k = at_kept place (slice_get old.children place) old new answer refl h k
+  one_kept : (past : Past) (place : ℕ) (old new : Nursery S B) (answer : Bool) → StartsOne starts me place old answer new → KeptIn past me old → KeptIn past me new
+  one_kept past place old new answer h k = at_kept past place (slice_get old.children place) old new answer refl h k
 
   first_goes : (n : ℕ) (old new : Nursery S B) → StartsFirst starts me n old new → Goes me old.desk new.desk
   first_goes zero old new h = goes_is me old.desk new.desk (ap (λ (x : Nursery S B). x.desk) h)
   first_goes (suc n) old new h = goes_then me old.desk h.0.desk new.desk (first_goes n old h.0 h.1) (one_goes n h.0 new true h.2)
 
-  first_kept : (n : ℕ) (old new : Nursery S B) → StartsFirst starts me n old new → KeptIn me old → KeptIn me new
-  first_kept zero old new h k = subst (KeptIn me) (sym h) k
-  first_kept (suc n) old new h k = one_kept n h.0 new true h.2 (first_kept n old h.0 h.1 k)
+  first_kept : (past : Past) (n : ℕ) (old new : Nursery S B) → StartsFirst starts me n old new → KeptIn past me old → KeptIn past me new
+  first_kept past zero old new h k = subst (KeptIn past me) (sym h) k
+  first_kept past (suc n) old new h k = one_kept past n h.0 new true h.2 (first_kept past n old h.0 h.1 k)
 
   all_goes : (count : ℕ) (old new : Nursery S B) (answer : Bool) → StartsAll starts me count old answer new → Goes me old.desk new.desk
   all_goes count old new true h = first_goes count old new h
   all_goes count old new false h = goes_then me old.desk h.2.desk new.desk (first_goes h.0 old h.2 h.3) (one_goes h.0 h.2 new false h.4)
 
-  all_kept : (count : ℕ) (old new : Nursery S B) (answer : Bool) → StartsAll starts me count old answer new → KeptIn me old → KeptIn me new
-  all_kept count old new true h k = first_kept count old new h k
-  all_kept count old new false h k = one_kept h.0 h.2 new false h.4 (first_kept h.0 old h.2 h.3 k)
+  all_kept : (past : Past) (count : ℕ) (old new : Nursery S B) (answer : Bool) → StartsAll starts me count old answer new → KeptIn past me old → KeptIn past me new
+  all_kept past count old new true h k = first_kept past count old new h k
+  all_kept past count old new false h k = one_kept past h.0 h.2 new false h.4 (first_kept past h.0 old h.2 h.3 k)
 
 -- what it does once it has heard --------------------------------------------------------------------
 
-abbrev KeptAt : {S B : Type 0} → Pid → SupervisorScene S B → Type 0
-KeptAt me s = Kept s.standing.children s.standing.started s.standing.stopping me s.desk.shard
+abbrev KeptAt : {S B : Type 0} → Past → Pid → SupervisorScene S B → Type 0
+KeptAt past me s = Kept past s.standing.children s.standing.started s.standing.stopping me s.desk.shard
 
 module _ {S B : Type 0} (starts : StartsOf S B) (me : Pid) where
   abbrev BidsOn : Pid → Reason → DeskState → DeskState → Result (Unit {0}) Fault → Type 0
@@ -146,66 +147,66 @@ module _ {S B : Type 0} (starts : StartsOf S B) (me : Pid) where
   bid_goes p reason d e (inl (r, h)) = told_goes me p reason d.shard e.shard r h
   bid_goes p reason d e (inr same) = goes_is me d.shard e.shard (ap (λ (x : DeskState). x.shard) same)
 
-  bid_kept : (p : Pid) (reason : Reason) (d e : DeskState) (children : List Child) (started : ℕ) (stopping : Option Reason)
-      → ((r : Result (Unit {0}) Fault) × BidsOn p reason d e r) ⊎ (e ≡ d) → Kept children started stopping me d.shard → Kept children started stopping me e.shard
-  bid_kept p reason d e children started stopping (inl (r, h)) k = told_kept me p reason children started stopping d.shard e.shard r h k
-  bid_kept p reason d e children started stopping (inr same) k = kept_is children started stopping me d.shard e.shard (ap (λ (x : DeskState). x.shard) same) k
+  bid_kept : (past : Past) (p : Pid) (reason : Reason) (d e : DeskState) (children : List Child) (started : ℕ) (stopping : Option Reason)
+      → ((r : Result (Unit {0}) Fault) × BidsOn p reason d e r) ⊎ (e ≡ d) → Kept past children started stopping me d.shard → Kept past children started stopping me e.shard
+  bid_kept past p reason d e children started stopping (inl (r, h)) k = told_kept me p reason past children started stopping d.shard e.shard r h k
+  bid_kept past p reason d e children started stopping (inr same) k = kept_is past children started stopping me d.shard e.shard (ap (λ (x : DeskState). x.shard) same) k
 
   settles_goes : (stopping : Option Reason) (old : SupervisorScene S B) (next : Next) (new : SupervisorScene S B) → SupervisorSettles starts me stopping old next new → Goes me old.desk.shard new.desk.shard
   settles_goes (Some r) old next new h = goes_is me old.desk.shard new.desk.shard (ap (λ (x : SupervisorScene S B). x.desk.shard) h.1)
   settles_goes None old next new h = all_goes starts me (length old.standing.children) (nursery old) (nursery new) h.0 h.1
 
-  settles_kept : (stopping : Option Reason) (old : SupervisorScene S B) (next : Next) (new : SupervisorScene S B) → old.standing.stopping ≡ stopping → SupervisorSettles starts me stopping old next new → KeptAt me old → KeptAt me new
-  settles_kept (Some r) old next new is h k = subst (KeptAt me) (sym h.1) k
-  settles_kept None old next new is h k =
-      subst (λ (o : Option Reason). Kept new.standing.children new.standing.started o me new.desk.shard) (sym (ap (λ (s : Standing). s.stopping) h.3 ∙ is))
-      (all_kept starts me (length old.standing.children) (nursery old) (nursery new) h.0 h.1
-      (subst (λ (o : Option Reason). Kept old.standing.children old.standing.started o me old.desk.shard) is k))
+  settles_kept : (past : Past) (stopping : Option Reason) (old : SupervisorScene S B) (next : Next) (new : SupervisorScene S B) → old.standing.stopping ≡ stopping → SupervisorSettles starts me stopping old next new → KeptAt past me old → KeptAt past me new
+  settles_kept past (Some r) old next new is h k = subst (KeptAt past me) (sym h.1) k
+  settles_kept past None old next new is h k =
+      subst (λ (o : Option Reason). Kept past new.standing.children new.standing.started o me new.desk.shard) (sym (ap (λ (s : Standing). s.stopping) h.3 ∙ is))
+      (all_kept starts me past (length old.standing.children) (nursery old) (nursery new) h.0 h.1
+      (subst (λ (o : Option Reason). Kept past old.standing.children old.standing.started o me old.desk.shard) is k))
 
   bids_goes : (p : Pid) (reason : Reason) (until : Option ℕ) (s : Standing) (d : DeskState) (next : Next) (t : Standing) (e : DeskState) → Bids me p reason until s d next t e → Goes me d.shard e.shard
   bids_goes p reason until s d next t e h = bid_goes p reason d e (called_or_same (knows d.shard p) (BidsOn p reason d e) d h.result e h.signal)
 
-  asked_kept : (p : Pid) (until : Option ℕ) (result : Result (Unit {0}) CallFault) (s : Standing) (e : ShardState) → Kept s.children s.started s.stopping me e
-      → (let t = asked_until p result until s in Kept t.children t.started t.stopping me e)
-  asked_kept p until (Err f) s e k = k
-  asked_kept p None (Ok done) s e k = k
-  asked_kept p (Some at) (Ok done) s e k = k
+  asked_kept : (past : Past) (p : Pid) (until : Option ℕ) (result : Result (Unit {0}) CallFault) (s : Standing) (e : ShardState) → Kept past s.children s.started s.stopping me e
+      → (let t = asked_until p result until s in Kept past t.children t.started t.stopping me e)
+  asked_kept past p until (Err f) s e k = k
+  asked_kept past p None (Ok done) s e k = k
+  asked_kept past p (Some at) (Ok done) s e k = k
 
-  bids_kept : (p : Pid) (reason : Reason) (until : Option ℕ) (s : Standing) (d : DeskState) (next : Next) (t : Standing) (e : DeskState) → Bids me p reason until s d next t e
-      → Kept s.children s.started s.stopping me d.shard → Kept t.children t.started t.stopping me e.shard
-  bids_kept p reason until s d next t e h k =
-      subst (λ (x : Standing). Kept x.children x.started x.stopping me e.shard) (sym h.new_is)
-      (asked_kept p until h.result s e.shard (bid_kept p reason d e s.children s.started s.stopping (called_or_same (knows d.shard p) (BidsOn p reason d e) d h.result e h.signal) k))
+  bids_kept : (past : Past) (p : Pid) (reason : Reason) (until : Option ℕ) (s : Standing) (d : DeskState) (next : Next) (t : Standing) (e : DeskState) → Bids me p reason until s d next t e
+      → Kept past s.children s.started s.stopping me d.shard → Kept past t.children t.started t.stopping me e.shard
+  bids_kept past p reason until s d next t e h k =
+      subst (λ (x : Standing). Kept past x.children x.started x.stopping me e.shard) (sym h.new_is)
+      (asked_kept past p until h.result s e.shard (bid_kept past p reason d e s.children s.started s.stopping (called_or_same (knows d.shard p) (BidsOn p reason d e) d h.result e h.signal) k))
 
   over_goes : (early : Bool) (p : Pid) (at : ℕ) (s : Standing) (d : DeskState) (next : Next) (t : Standing) (e : DeskState)
       → MatchBool early ((next ≡ WaitUntil (Pick.ExitOf p) at) × (t ≡ s) × (e ≡ d)) (Bids me p Reason.Kill None s d next t e) → Goes me d.shard e.shard
   over_goes true p at s d next t e h = goes_is me d.shard e.shard (ap (λ (x : DeskState). x.shard) h.2)
   over_goes false p at s d next t e h = bids_goes p Reason.Kill None s d next t e h
 
-  over_kept : (early : Bool) (p : Pid) (at : ℕ) (s : Standing) (d : DeskState) (next : Next) (t : Standing) (e : DeskState)
+  over_kept : (past : Past) (early : Bool) (p : Pid) (at : ℕ) (s : Standing) (d : DeskState) (next : Next) (t : Standing) (e : DeskState)
       → MatchBool early ((next ≡ WaitUntil (Pick.ExitOf p) at) × (t ≡ s) × (e ≡ d)) (Bids me p Reason.Kill None s d next t e)
-      → Kept s.children s.started s.stopping me d.shard → Kept t.children t.started t.stopping me e.shard
-  over_kept true p at s d next t e h k =
-      subst (λ (x : Standing). Kept x.children x.started x.stopping me e.shard) (sym h.1)
-      (kept_is s.children s.started s.stopping me d.shard e.shard (ap (λ (x : DeskState). x.shard) h.2) k)
-  over_kept false p at s d next t e h k = bids_kept p Reason.Kill None s d next t e h k
+      → Kept past s.children s.started s.stopping me d.shard → Kept past t.children t.started t.stopping me e.shard
+  over_kept past true p at s d next t e h k =
+      subst (λ (x : Standing). Kept past x.children x.started x.stopping me e.shard) (sym h.1)
+      (kept_is past s.children s.started s.stopping me d.shard e.shard (ap (λ (x : DeskState). x.shard) h.2) k)
+  over_kept past false p at s d next t e h k = bids_kept past p Reason.Kill None s d next t e h k
 
   ends_goes : (now : ℕ) (p : Pid) (shutdown : Shutdown) (by : Option ℕ) (s : Standing) (d : DeskState) (next : Next) (t : Standing) (e : DeskState) → EndsChild me now p shutdown by s d next t e → Goes me d.shard e.shard
   ends_goes now p shutdown None s d next t e h = bids_goes p (bids shutdown) (until now shutdown) s d next t e h
   ends_goes now p shutdown (Some at) s d next t e h = over_goes (nat_lt now at) p at s d next t e h
 
-  ends_kept : (now : ℕ) (p : Pid) (shutdown : Shutdown) (by : Option ℕ) (s : Standing) (d : DeskState) (next : Next) (t : Standing) (e : DeskState) → EndsChild me now p shutdown by s d next t e
-      → Kept s.children s.started s.stopping me d.shard → Kept t.children t.started t.stopping me e.shard
-  ends_kept now p shutdown None s d next t e h k = bids_kept p (bids shutdown) (until now shutdown) s d next t e h k
-  ends_kept now p shutdown (Some at) s d next t e h k = over_kept (nat_lt now at) p at s d next t e h k
+  ends_kept : (past : Past) (now : ℕ) (p : Pid) (shutdown : Shutdown) (by : Option ℕ) (s : Standing) (d : DeskState) (next : Next) (t : Standing) (e : DeskState) → EndsChild me now p shutdown by s d next t e
+      → Kept past s.children s.started s.stopping me d.shard → Kept past t.children t.started t.stopping me e.shard
+  ends_kept past now p shutdown None s d next t e h k = bids_kept past p (bids shutdown) (until now shutdown) s d next t e h k
+  ends_kept past now p shutdown (Some at) s d next t e h k = over_kept past (nat_lt now at) p at s d next t e h k
 
   advances_goes : (now : ℕ) (last : Option (Pid × Shutdown)) (old : SupervisorScene S B) (next : Next) (new : SupervisorScene S B) → AdvancesAs starts me now last old next new → Goes me old.desk.shard new.desk.shard
   advances_goes now (Some (p, shutdown)) old next new h = ends_goes now p shutdown (deadline p old.standing.asked) old.standing old.desk next new.standing new.desk h.0
   advances_goes now None old next new h = settles_goes old.standing.stopping old next new h
 
-  advances_kept : (now : ℕ) (last : Option (Pid × Shutdown)) (old : SupervisorScene S B) (next : Next) (new : SupervisorScene S B) → AdvancesAs starts me now last old next new → KeptAt me old → KeptAt me new
-  advances_kept now (Some (p, shutdown)) old next new h k = ends_kept now p shutdown (deadline p old.standing.asked) old.standing old.desk next new.standing new.desk h.0 k
-  advances_kept now None old next new h k = settles_kept old.standing.stopping old next new refl h k
+  advances_kept : (past : Past) (now : ℕ) (last : Option (Pid × Shutdown)) (old : SupervisorScene S B) (next : Next) (new : SupervisorScene S B) → AdvancesAs starts me now last old next new → KeptAt past me old → KeptAt past me new
+  advances_kept past now (Some (p, shutdown)) old next new h k = ends_kept past now p shutdown (deadline p old.standing.asked) old.standing old.desk next new.standing new.desk h.0 k
+  advances_kept past now None old next new h k = settles_kept past old.standing.stopping old next new refl h k
 
 -- what it makes of an item -----------------------------------------------------------------------------
 
@@ -218,10 +219,10 @@ waits_traps : (traps : Bool) (before : Next) (pick : Pick) (children : List Chil
 waits_traps traps before pick children (inl h) waits = h
 waits_traps traps before pick children (inr h) waits = absurd (let bad : None ≡ Some pick = sym (ap pick_of h.0) ∙ waits in cc)
 
-taken_kept : (me : Pid) (item : Item) (s m : Standing) (before : Next) (was d : ShardState) → Less item s m → ItemIsTaken me before (Some item) was d → Holds s before me was → Kept m.children m.started m.stopping me d
-taken_kept me item s m before was d less taken h = record {
-  remembers = remembers_less item s m me was d later (ap (λ (f : ShardState). children_by me f.journal) taken.4)
-      (λ q is new. waits_told me q was.start was.journal new (found_any (is_exit_of q) (fits taken.0) (state_in was me).waiting item taken.3 is)) less h.remembers;
+taken_kept : (past : Past) (me : Pid) (item : Item) (s m : Standing) (before : Next) (was d : ShardState) → Less item s m → ItemIsTaken me before (Some item) was d → Holds past s before me was → Kept past m.children m.started m.stopping me d
+taken_kept past me item s m before was d less taken h = record {
+  remembers = remembers_less past item s m me was d later (ap (λ (f : ShardState). children_by me f.journal) taken.4)
+      (λ q is were. waits_told me q past was.start were (events was.journal) (found_any (is_exit_of q) (fits taken.0) (state_in was me).waiting item taken.3 is)) less h.remembers;
   state = t;
   living_is = now;
   traps = subst (λ (f : Phase). (state_of f).traps ≡ true) st.1 (waits_traps (state_in was me).traps before taken.0 s.children h.traps taken.1);
@@ -247,10 +248,10 @@ taken_kept me item s m before was d less taken h = record {
     found : find (fits taken.0) st.0.waiting ≡ Some item
     found = subst (λ (f : Phase). find (fits taken.0) (state_of f).waiting ≡ Some item) st.1 taken.3
 
-    go : (q : Pid) → is_exit_of q item ≡ false → IsHeld me q was → IsHeld me q d
+    go : (q : Pid) → is_exit_of q item ≡ false → IsHeld past me q was → IsHeld past me q d
     go q out (inl tied) = inl (subst (λ (f : Phase). IsTied (state_of f) q) (sym now)
         (tied_by st.0 t q (λ k. k) (stays_in (is_exit_of q) (fits taken.0) st.0.waiting item found out) (subst (λ (f : Phase). IsTied (state_of f) q) st.1 tied)))
-    go q out (inr cut) = inr (cut_later me q was d later cut)
+    go q out (inr cut) = inr (cut_later past me q was d later cut)
 
 flag_goes : (me : Pid) (on : Bool) (d e : ShardState) (result : Result Bool Fault) → Calls me (Some (Flag me true)) on d result e → Goes me d e
 flag_goes me on d e (Ok x) c = goes_event me d e (Flag me true) (λ q other. same_pid_sym me q other) (λ q. refl) c.3
@@ -262,65 +263,65 @@ flag_goes me on d e (Err Myself) c = absurd c
 flag_goes me on d e (Err NoProc) c = absurd c
 
 -- what is so once it has heard: its children are held; or, where its trap was refused, all is as it was
-abbrev Attended : Bool → Standing → Pid → ShardState → Type 0
-Attended answer m me e = MatchBool answer (Kept m.children m.started m.stopping me e) (Holds m Proceed me e)
+abbrev Attended : Past → Bool → Standing → Pid → ShardState → Type 0
+Attended past answer m me e = MatchBool answer (Kept past m.children m.started m.stopping me e) (Holds past m Proceed me e)
 
 -- where it goes on without an item, it does so again
 goes_again : (traps : Bool) (before : Next) (children : List Child) → (traps ≡ true) ⊎ ((before ≡ Proceed) × NoneLives children) → (traps ≡ true) ⊎ ((Proceed ≡ Proceed) × NoneLives children)
 goes_again traps before children (inl h) = inl h
 goes_again traps before children (inr h) = inr (refl, h.1)
 
-refused_holds : (s m : Standing) (me : Pid) (before : Next) (was d e : ShardState) → m ≡ s → d ≡ was → e ≡ d → Holds s before me was → Holds m Proceed me e
-refused_holds s m me before was d e same is as_is h =
-    subst (λ (x : Standing). Holds x Proceed me e) (sym same) (subst (Holds s Proceed me) (sym (as_is ∙ is)) (record {
+refused_holds : (past : Past) (s m : Standing) (me : Pid) (before : Next) (was d e : ShardState) → m ≡ s → d ≡ was → e ≡ d → Holds past s before me was → Holds past m Proceed me e
+refused_holds past s m me before was d e same is as_is h =
+    subst (λ (x : Standing). Holds past x Proceed me e) (sym same) (subst (Holds past s Proceed me) (sym (as_is ∙ is)) (record {
       waits = tt;
       remembers = h.remembers;
       traps = goes_again (state_in was me).traps before s.children h.traps;
       family = h.family;
     }))
 
-flag_attends : (me : Pid) (s m : Standing) (before : Next) (was d e : ShardState) (on answer : Bool) (result : Result Bool Fault) → Calls me (Some (Flag me true)) on d result e → answer ≡ is_ok result → m ≡ s
-    → ItemIsTaken me before None was d → Holds s before me was → Attended answer m me e
-flag_attends me s m before was d e on answer (Ok x) c ok same taken h =
-    subst (λ (a : Bool). Attended a m me e) (sym ok) (record {
+flag_attends : (past : Past) (me : Pid) (s m : Standing) (before : Next) (was d e : ShardState) (on answer : Bool) (result : Result Bool Fault) → Calls me (Some (Flag me true)) on d result e → answer ≡ is_ok result → m ≡ s
+    → ItemIsTaken me before None was d → Holds past s before me was → Attended past answer m me e
+flag_attends past me s m before was d e on answer (Ok x) c ok same taken h =
+    subst (λ (a : Bool). Attended past a m me e) (sym ok) (record {
       state = record (st.0) { traps = true };
       living_is = phase_is (shard_after (Flag me true) d) e c.3 me ∙ own_phase me (Flag me true) d st.0 (same_pid_refl me) st.1;
       traps = refl;
-      family = family_step m.children m.stopping me d e (flag_goes me on d e (Ok x) c).later (λ q tied.
+      family = family_step past m.children m.stopping me d e (flag_goes me on d e (Ok x) c).later (λ q tied.
           inl (subst (λ (f : Phase). IsTied (state_of f) q) (sym (phase_is (shard_after (Flag me true) d) e c.3 me ∙ own_phase me (Flag me true) d st.0 (same_pid_refl me) st.1))
           (tied_by st.0 (record (st.0) { traps = true }) q (λ k. k) (λ k. k) (subst (λ (f : Phase). IsTied (state_of f) q) st.1 tied))))
-          (subst (λ (x : Standing). Family x.children x.stopping me d) (sym same) (subst (Family s.children s.stopping me) (sym taken.2) h.family));
-      remembers = remembers_step m.children m.started me d e (flag_goes me on d e (Ok x) c).later (ap (λ (f : ShardState). children_by me f.journal) c.3)
-          (subst (λ (x : Standing). Remembers x.children x.started me d) (sym same) (subst (Remembers s.children s.started me) (sym taken.2) h.remembers));
+          (subst (λ (x : Standing). Family past x.children x.stopping me d) (sym same) (subst (Family past s.children s.stopping me) (sym taken.2) h.family));
+      remembers = remembers_step past m.children m.started me d e (flag_goes me on d e (Ok x) c).later (ap (λ (f : ShardState). children_by me f.journal) c.3)
+          (subst (λ (x : Standing). Remembers past x.children x.started me d) (sym same) (subst (Remembers past s.children s.started me) (sym taken.2) h.remembers));
     })
   where
     st : (s : ProcessState) × (phase_of d me ≡ living s)
     st = living_of (phase_of d me) c.0
-flag_attends me s m before was d e on answer (Err Gone) c ok same taken h = subst (λ (a : Bool). Attended a m me e) (sym ok) (refused_holds s m me before was d e same taken.2 c.1 h)
-flag_attends me s m before was d e on answer (Err Worn) c ok same taken h = subst (λ (a : Bool). Attended a m me e) (sym ok) (refused_holds s m me before was d e same taken.2 c.3 h)
-flag_attends me s m before was d e on answer (Err Memory) c ok same taken h = subst (λ (a : Bool). Attended a m me e) (sym ok) (refused_holds s m me before was d e same taken.2 c.3 h)
-flag_attends me s m before was d e on answer (Err Full) c ok same taken h = absurd c
-flag_attends me s m before was d e on answer (Err Myself) c ok same taken h = absurd c
-flag_attends me s m before was d e on answer (Err NoProc) c ok same taken h = absurd c
+flag_attends past me s m before was d e on answer (Err Gone) c ok same taken h = subst (λ (a : Bool). Attended past a m me e) (sym ok) (refused_holds past s m me before was d e same taken.2 c.1 h)
+flag_attends past me s m before was d e on answer (Err Worn) c ok same taken h = subst (λ (a : Bool). Attended past a m me e) (sym ok) (refused_holds past s m me before was d e same taken.2 c.3 h)
+flag_attends past me s m before was d e on answer (Err Memory) c ok same taken h = subst (λ (a : Bool). Attended past a m me e) (sym ok) (refused_holds past s m me before was d e same taken.2 c.3 h)
+flag_attends past me s m before was d e on answer (Err Full) c ok same taken h = absurd c
+flag_attends past me s m before was d e on answer (Err Myself) c ok same taken h = absurd c
+flag_attends past me s m before was d e on answer (Err NoProc) c ok same taken h = absurd c
 
 less_same : (item : Item) (s : Standing) → ((q : Pid) → is_exit_of q item ≡ false) → Less item s s
 less_same item s none = record { sub = λ j q is. is; stop = λ h. h; out = λ h j q is. none q; kept = λ j q is. inl is; count = refl }
 
-heard_attends : (me : Pid) (item : Item) (s m n : Standing) (before : Next) (was : ShardState) (d e : DeskState) (answer : Bool) → answer ≡ true → m ≡ n → e ≡ d → Less item s n
-    → ItemIsTaken me before (Some item) was d.shard → Holds s before me was → Attended answer m me e.shard
-heard_attends me item s m n before was d e answer on is same less taken h =
-    subst (λ (a : Bool). Attended a m me e.shard) (sym on)
-    (subst (λ (x : Standing). Kept x.children x.started x.stopping me e.shard) (sym is)
-    (kept_is n.children n.started n.stopping me d.shard e.shard (ap (λ (x : DeskState). x.shard) same) (taken_kept me item s n before was d.shard less taken h)))
+heard_attends : (past : Past) (me : Pid) (item : Item) (s m n : Standing) (before : Next) (was : ShardState) (d e : DeskState) (answer : Bool) → answer ≡ true → m ≡ n → e ≡ d → Less item s n
+    → ItemIsTaken me before (Some item) was d.shard → Holds past s before me was → Attended past answer m me e.shard
+heard_attends past me item s m n before was d e answer on is same less taken h =
+    subst (λ (a : Bool). Attended past a m me e.shard) (sym on)
+    (subst (λ (x : Standing). Kept past x.children x.started x.stopping me e.shard) (sym is)
+    (kept_is past n.children n.started n.stopping me d.shard e.shard (ap (λ (x : DeskState). x.shard) same) (taken_kept past me item s n before was d.shard less taken h)))
 
-attends_to : (me : Pid) (time : ℕ) (item : Option Item) (s m : Standing) (before : Next) (was : ShardState) (d e : DeskState) (answer : Bool) → SupervisorAttends me time item s d answer m e
-    → ItemIsTaken me before item was d.shard → Holds s before me was → Attended answer m me e.shard
-attends_to me time (Some (Exit from r)) s m before was d e answer a taken h =
-    heard_attends me (Exit from r) s m (heard (moment s.timed d.shard.clock time) from r s) before was d e answer a.0 a.1 a.2 (less_heard (moment s.timed d.shard.clock time) from r s h.family.apart) taken h
-attends_to me time (Some (User from b)) s m before was d e answer a taken h = heard_attends me (User from b) s m s before was d e answer a.0 a.1 a.2 (less_same (User from b) s (λ q. refl)) taken h
-attends_to me time (Some (Down x from r)) s m before was d e answer a taken h = heard_attends me (Down x from r) s m s before was d e answer a.0 a.1 a.2 (less_same (Down x from r) s (λ q. refl)) taken h
-attends_to me time (Some (Alive x from y)) s m before was d e answer a taken h = heard_attends me (Alive x from y) s m s before was d e answer a.0 a.1 a.2 (less_same (Alive x from y) s (λ q. refl)) taken h
-attends_to me time None s m before was d e answer a taken h = flag_attends me s m before was d.shard e.shard (state_in d.shard me).traps answer a.0 a.1 a.2 a.3 taken h
+attends_to : (past : Past) (me : Pid) (time : ℕ) (item : Option Item) (s m : Standing) (before : Next) (was : ShardState) (d e : DeskState) (answer : Bool) → SupervisorAttends me time item s d answer m e
+    → ItemIsTaken me before item was d.shard → Holds past s before me was → Attended past answer m me e.shard
+attends_to past me time (Some (Exit from r)) s m before was d e answer a taken h =
+    heard_attends past me (Exit from r) s m (heard (moment s.timed d.shard.clock time) from r s) before was d e answer a.0 a.1 a.2 (less_heard (moment s.timed d.shard.clock time) from r s h.family.apart) taken h
+attends_to past me time (Some (User from b)) s m before was d e answer a taken h = heard_attends past me (User from b) s m s before was d e answer a.0 a.1 a.2 (less_same (User from b) s (λ q. refl)) taken h
+attends_to past me time (Some (Down x from r)) s m before was d e answer a taken h = heard_attends past me (Down x from r) s m s before was d e answer a.0 a.1 a.2 (less_same (Down x from r) s (λ q. refl)) taken h
+attends_to past me time (Some (Alive x from y)) s m before was d e answer a taken h = heard_attends past me (Alive x from y) s m s before was d e answer a.0 a.1 a.2 (less_same (Alive x from y) s (λ q. refl)) taken h
+attends_to past me time None s m before was d e answer a taken h = flag_attends past me s m before was d.shard e.shard (state_in d.shard me).traps answer a.0 a.1 a.2 a.3 taken h
 
 attends_goes : (me : Pid) (time : ℕ) (item : Option Item) (s m : Standing) (d e : DeskState) (answer : Bool) → SupervisorAttends me time item s d answer m e → Goes me d.shard e.shard
 attends_goes me time (Some (Exit from r)) s m d e answer a = goes_is me d.shard e.shard (ap (λ (x : DeskState). x.shard) a.2)
@@ -336,22 +337,22 @@ module _ {S B : Type 0} (starts : StartsOf S B) (me : Pid) where
   then_goes now true mid next new h = advances_goes starts me now (last_alive mid.standing.children mid.standing.ending (length mid.standing.children)) mid next new h
   then_goes now false mid next new h = goes_is me mid.desk.shard new.desk.shard (ap (λ (x : SupervisorScene S B). x.desk.shard) h.1)
 
-  kept_holds : (s : Standing) (next : Next) (e : ShardState) → Supervises next s → Kept s.children s.started s.stopping me e → Holds s next me e
-  kept_holds s next e waits k = record { waits = waits; remembers = k.remembers; traps = inl (subst (λ (f : Phase). (state_of f).traps ≡ true) (sym k.living_is) k.traps); family = k.family }
+  kept_holds : (past : Past) (s : Standing) (next : Next) (e : ShardState) → Supervises next s → Kept past s.children s.started s.stopping me e → Holds past s next me e
+  kept_holds past s next e waits k = record { waits = waits; remembers = k.remembers; traps = inl (subst (λ (f : Phase). (state_of f).traps ≡ true) (sym k.living_is) k.traps); family = k.family }
 
-  then_holds : (now : ℕ) (answer : Bool) (mid : SupervisorScene S B) (next : Next) (new : SupervisorScene S B) → after_attending starts me now answer mid next new → Supervises next new.standing → Attended answer mid.standing me mid.desk.shard
-      → Holds new.standing next me new.desk.shard
-  then_holds now true mid next new h waits k =
-      kept_holds new.standing next new.desk.shard waits (advances_kept starts me now (last_alive mid.standing.children mid.standing.ending (length mid.standing.children)) mid next new h k)
-  then_holds now false mid next new h waits k =
-      subst (λ (x : SupervisorScene S B). Holds x.standing next me x.desk.shard) (sym h.1) (subst (λ (n : Next). Holds mid.standing n me mid.desk.shard) (sym h.0) k)
+  then_holds : (past : Past) (now : ℕ) (answer : Bool) (mid : SupervisorScene S B) (next : Next) (new : SupervisorScene S B) → after_attending starts me now answer mid next new → Supervises next new.standing → Attended past answer mid.standing me mid.desk.shard
+      → Holds past new.standing next me new.desk.shard
+  then_holds past now true mid next new h waits k =
+      kept_holds past new.standing next new.desk.shard waits (advances_kept starts me past now (last_alive mid.standing.children mid.standing.ending (length mid.standing.children)) mid next new h k)
+  then_holds past now false mid next new h waits k =
+      subst (λ (x : SupervisorScene S B). Holds past x.standing next me x.desk.shard) (sym h.1) (subst (λ (n : Next). Holds past mid.standing n me mid.desk.shard) (sym h.0) k)
 
   pub handles_tend : (time : ℕ) (item : Option Item) (old : SupervisorScene S B) (next : Next) (new : SupervisorScene S B) → SupervisorHandles starts me time item old next new → Supervises next new.standing
       → Tends me item old.standing old.desk.shard next new.standing new.desk.shard
   handles_tend time item old next new h waits = record {
     acts = (goes_then me old.desk.shard h.mid.desk.shard new.desk.shard (attends_goes me time item old.standing h.mid.standing old.desk h.mid.desk h.answer h.attends) (then_goes time h.answer h.mid next new h.goes)).acts;
-    keeps = λ before was taken born holds.
-        then_holds time h.answer h.mid next new h.goes waits (attends_to me time item old.standing h.mid.standing before was old.desk h.mid.desk h.answer h.attends taken holds);
+    keeps = λ past before was taken born holds.
+        then_holds past time h.answer h.mid next new h.goes waits (attends_to past me time item old.standing h.mid.standing before was old.desk h.mid.desk h.answer h.attends taken holds);
   }
 
 -- what comes to it ---------------------------------------------------------------------------------------------
@@ -369,10 +370,10 @@ still : (ending : Option Reason) (s : ProcessState) → is_living (live_or_end e
 still None s h = refl
 still (Some r) s h = absurd (cc)
 
-came_remembers : (s : Standing) (me : Pid) (d : ShardState) (l : Letter) → Remembers s.children s.started me d → Remembers s.children s.started me (handled l d)
-came_remembers s me d l r = remembers_step s.children s.started me d (handled l d) (later_handled l d) refl r
+came_remembers : (past : Past) (s : Standing) (me : Pid) (d : ShardState) (l : Letter) → Remembers past s.children s.started me d → Remembers past s.children s.started me (handled l d)
+came_remembers past s me d l r = remembers_step past s.children s.started me d (handled l d) (later_handled l d) refl r
 
-module _ (s : Standing) (next : Next) (me : Pid) (d : ShardState) (l : Letter) (here : same_pid me l.to ≡ true) (holds : Holds s next me d) (alive : lives (handled l d) me ≡ true) where
+module _ (past : Past) (s : Standing) (next : Next) (me : Pid) (d : ShardState) (l : Letter) (here : same_pid me l.to ≡ true) (holds : Holds past s next me d) (alive : lives (handled l d) me ≡ true) where
   got : phase_of (handled l d) me ≡ gets me l.from l.signal (phase_of d me)
   got i = cond (here i) (gets me l.from l.signal (phase_of d me)) (phase_of d me)
 
@@ -387,17 +388,17 @@ module _ (s : Standing) (next : Next) (me : Pid) (d : ShardState) (l : Letter) (
       let as_is : phase_of (handled l d) me ≡ gets me l.from l.signal (living st.0) = got ∙ ap (gets me l.from l.signal) st.1 in
       as_is ∙ still (handle me st.0 l.from l.signal).ending (handle me st.0 l.from l.signal).state (sym (ap is_living as_is) ∙ alive)
 
-  came_family : ((state_in d me).traps ≡ true) ⊎ ((next ≡ Proceed) × NoneLives s.children) → Family s.children s.stopping me (handled l d)
+  came_family : ((state_in d me).traps ≡ true) ⊎ ((next ≡ Proceed) × NoneLives s.children) → Family past s.children s.stopping me (handled l d)
   came_family (inr none) = record {
     born = λ place q is. absurd (none_at s.children place q none.1 is);
     apart = λ i j q a b. absurd (none_at s.children i q none.1 a);
     held = λ z place q is. absurd (none_at s.children place q none.1 is);
   }
-  came_family (inl traps) = family_step s.children s.stopping me d (handled l d) (later_handled l d) (λ q tied.
+  came_family (inl traps) = family_step past s.children s.stopping me d (handled l d) (later_handled l d) (λ q tied.
       go q (handled_tied me st.0 l.from l.signal q (subst (λ (f : Phase). (state_of f).traps ≡ true) st.1 traps) (subst (λ (f : Phase). IsTied (state_of f) q) st.1 tied))) holds.family
     where
-      go : (q : Pid) → ((is_unlink l.signal ≡ true) × (same_pid q l.from ≡ true)) ⊎ IsTied (handle me st.0 l.from l.signal).state q → IsHeld me q (handled l d)
-      go q (inl cut) = inr (or_left (is_cut me q (Came l.from l.to l.signal)) (has_cut me q d.journal) (cut_is me q l.from l.to l.signal cut.0 cut.1 here))
+      go : (q : Pid) → ((is_unlink l.signal ≡ true) × (same_pid q l.from ≡ true)) ⊎ IsTied (handle me st.0 l.from l.signal).state q → IsHeld past me q (handled l d)
+      go q (inl cut) = inr (or_left (is_cut me q (Came l.from l.to l.signal)) (has_cut me q (all_events past d)) (cut_is me q l.from l.to l.signal cut.0 cut.1 here))
       go q (inr tied) = inl (subst (λ (f : Phase). IsTied (state_of f) q) (sym now) tied)
 
   same_traps : (state_in (handled l d) me).traps ≡ (state_in d me).traps
@@ -407,31 +408,36 @@ module _ (s : Standing) (next : Next) (me : Pid) (d : ShardState) (l : Letter) (
   traps_still (inl h) = inl (same_traps ∙ h)
   traps_still (inr h) = inr h
 
-  came_holds : Holds s next me (handled l d)
-  came_holds = record { waits = holds.waits; remembers = came_remembers s me d l holds.remembers; traps = traps_still holds.traps; family = came_family holds.traps }
+  came_holds : Holds past s next me (handled l d)
+  came_holds = record { waits = holds.waits; remembers = came_remembers past s me d l holds.remembers; traps = traps_still holds.traps; family = came_family holds.traps }
 
 -- the relation is upheld ------------------------------------------------------------------------------------------
 
-same_holds : (o : Option Standing) (next : Next) (me : Pid) (d e : ShardState) → HoldsAs o next me d → IsLater d e → IsLeftAlone me d e → HoldsAs o next me e
-same_holds None next me d e h later same = tt
-same_holds (Some s) next me d e h later same = (λ alive. holds (h.0 (sym (ap is_living same.0) ∙ alive)), h.1, remembers)
-  where
-    remembers : Remembers s.children s.started me e
-    remembers = remembers_step s.children s.started me d e later same.1 h.2
+-- one that is not born yet was not born before
+not_before : {X : Type 0} (me : Pid) (d e : ShardState) → IsLater d e → (is_unborn (phase_of d me) ≡ true → X) → is_unborn (phase_of e me) ≡ true → X
+not_before me d e later begins unborn_is = by_cases (is_unborn (phase_of d me)) begins
+    (λ born. let bad : false ≡ true = sym (born_then d e later me born) ∙ unborn_is in absurd (cc))
 
-    holds : Holds s next me d → Holds s next me e
+same_holds : (past : Past) (o : Option Standing) (next : Next) (me : Pid) (d e : ShardState) → HoldsAs past o next me d → IsLater d e → IsLeftAlone me d e → HoldsAs past o next me e
+same_holds past None next me d e h later same = tt
+same_holds past (Some s) next me d e h later same = (λ alive. holds (h.0 (sym (ap is_living same.0) ∙ alive)), h.1, remembers, not_before me d e later h.3)
+  where
+    remembers : Remembers past s.children s.started me e
+    remembers = remembers_step past s.children s.started me d e later same.1 h.2
+
+    holds : Holds past s next me d → Holds past s next me e
     holds k = record {
       waits = k.waits;
       remembers = remembers;
       traps = subst (λ (f : Phase). ((state_of f).traps ≡ true) ⊎ ((next ≡ Proceed) × NoneLives s.children)) (sym same.0) k.traps;
-      family = family_step s.children s.stopping me d e later (λ q tied. inl (subst (λ (f : Phase). IsTied (state_of f) q) (sym same.0) tied)) k.family;
+      family = family_step past s.children s.stopping me d e later (λ q tied. inl (subst (λ (f : Phase). IsTied (state_of f) q) (sym same.0) tied)) k.family;
     }
 
-received : (o : Option Standing) (next : Next) (me : Pid) (d : ShardState) (l : Letter) → HoldsAs o next me d → HoldsAs o next me (handled l d)
-received None next me d l h = tt
-received (Some s) next me d l h = by_cases (same_pid me l.to)
-    (λ here. (λ alive. came_holds s next me d l here (h.0 (lived me l.from l.signal (phase_of d me) (sym (λ i. is_living (cond (here i) (gets me l.from l.signal (phase_of d me)) (phase_of d me))) ∙ alive))) alive, h.1, came_remembers s me d l h.2))
-    (λ other. same_holds (Some s) next me d (handled l d) h (later_handled l d) (λ i. cond (other i) (gets me l.from l.signal (phase_of d me)) (phase_of d me), refl))
+received : (past : Past) (o : Option Standing) (next : Next) (me : Pid) (d : ShardState) (l : Letter) → HoldsAs past o next me d → HoldsAs past o next me (handled l d)
+received past None next me d l h = tt
+received past (Some s) next me d l h = by_cases (same_pid me l.to)
+    (λ here. (λ alive. came_holds past s next me d l here (h.0 (lived me l.from l.signal (phase_of d me) (sym (λ i. is_living (cond (here i) (gets me l.from l.signal (phase_of d me)) (phase_of d me))) ∙ alive))) alive, h.1, came_remembers past s me d l h.2, not_before me d (handled l d) (later_handled l d) h.3))
+    (λ other. same_holds past (Some s) next me d (handled l d) h (later_handled l d) (λ i. cond (other i) (gets me l.from l.signal (phase_of d me)) (phase_of d me), refl))
 
 -- what has ended does not live
 not_left : {X : Type 0} (r : Reason) (f : Phase) → is_living (leaves r f) ≡ true → X
@@ -439,17 +445,18 @@ not_left r unborn h = absurd (cc)
 not_left r (living s) h = absurd (cc)
 not_left r (ended w s) h = absurd (cc)
 
-ended_holds : (o : Option Standing) (r : Reason) (me : Pid) (d : ShardState) → HoldsAs o (Stop r) me d → HoldsAs o (Stop r) me (shard_after (Left me r) d)
-ended_holds None r me d h = tt
-ended_holds (Some s) r me d h = (
+ended_holds : (past : Past) (o : Option Standing) (r : Reason) (me : Pid) (d : ShardState) → HoldsAs past o (Stop r) me d → HoldsAs past o (Stop r) me (shard_after (Left me r) d)
+ended_holds past None r me d h = tt
+ended_holds past (Some s) r me d h = (
   λ alive. not_left r (phase_of d me) (sym (λ i. is_living (cond (same_pid_refl me i) (leaves r (phase_of d me)) (phase_of d me))) ∙ alive),
   h.1,
-  remembers_step s.children s.started me d (shard_after (Left me r) d) (later_after (Left me r) d) refl h.2,
+  remembers_step past s.children s.started me d (shard_after (Left me r) d) (later_after (Left me r) d) refl h.2,
+  not_before me d (shard_after (Left me r) d) (later_after (Left me r) d) h.3,
 )
 
-pub begins : (o : Option Standing) (next : Next) (me : Pid) (d : ShardState) → SupervisorBegins o next → HoldsAs o next me d
-begins None next me d h = tt
-begins (Some s) next me d h = (
+pub begins : (past : Past) (o : Option Standing) (next : Next) (me : Pid) (d : ShardState) → SupervisorBegins o next → HoldsAs past o next me d
+begins past None next me d h = tt
+begins past (Some s) next me d h = (
   λ alive. record {
     waits = waits;
     remembers = remembers;
@@ -462,13 +469,14 @@ begins (Some s) next me d h = (
   },
   waits,
   remembers,
+  λ unborn_is. h,
 )
   where
     waits : Supervises next s
     waits = subst (λ (n : Next). Supervises n s) (sym h.0) tt
 
-    remembers : Remembers s.children s.started me d
-    remembers new q was = nobody (children_by me d.journal) (ap (λ (n : ℕ). was_started n me q d.journal) (sym h.2) ∙ was)
+    remembers : Remembers past s.children s.started me d
+    remembers were q was = nobody (all_children past me d) (ap (λ (n : ℕ). was_started past n me q d) (sym h.2) ∙ was)
       where
         nobody : {X : Type 0} (qs : List Pid) → list_any (same_pid q) (take 0 qs) ≡ true → X
         nobody [] any = absurd (cc)
@@ -478,28 +486,38 @@ taken_lives : (me : Pid) (before : Next) (item : Option Item) (was d : ShardStat
 taken_lives me before None was d h = h.1
 taken_lives me before (Some item) was d h = h.2
 
-module _ {B : Type 0} (part : PartOf B) where
-  all_begin : (births : List (Role B)) → AllBegin part births → AllFirst (Keeps part) births
+taken_born : (me : Pid) (before : Next) (item : Option Item) (was d : ShardState) → ItemIsTaken me before item was d → is_unborn (phase_of was me) ≡ false → is_unborn (phase_of d me) ≡ false
+taken_born me before None was d h born = subst (λ (f : ShardState). is_unborn (phase_of f me) ≡ false) (sym h.2) born
+taken_born me before (Some item) was d h born = subst (λ (f : ShardState). is_unborn (phase_of f me) ≡ false) (sym h.4)
+    (born_then was (shard_after (Took me h.0 item) was) (later_after (Took me h.0 item) was) me born)
+
+module _ {B : Type 0} (past : Past) (part : PartOf B) where
+  all_begin : (births : List (Role B)) → AllBegin part births → AllFirst (Keeps past part) births
   all_begin [] h = tt
-  all_begin (r ∷ rs) h = (λ d. begins (part r.behaviour) r.next r.pid d h.0, all_begin rs h.1)
+  all_begin (r ∷ rs) h = (λ d. begins past (part r.behaviour) r.next r.pid d h.0, all_begin rs h.1)
 
   acts_as : (o : Option Standing) (me : Pid) (item : Option Item) (d : ShardState) (next : Next) (later : Option Standing) (e : ShardState) → ActsAs o me item d next later e → ActsFor me d e
   acts_as None me item d next later e h = h.1
   acts_as (Some s) me item d next later e h = h.2.acts
 
-  hands_as : (o : Option Standing) (before : Next) (me : Pid) (item : Option Item) (was d : ShardState) (next : Next) (later : Option Standing) (e : ShardState) → HoldsAs o before me was
-      → is_unborn (phase_of was me) ≡ false → ItemIsTaken me before item was d → ActsAs o me item d next later e → HoldsAs later next me e
-  hands_as None before me item was d next later e h born taken acts = subst (λ (x : Option Standing). HoldsAs x next me e) (sym acts.0) tt
-  hands_as (Some s) before me item was d next later e h born taken acts =
-      subst (λ (x : Option Standing). HoldsAs x next me e) (sym acts.1)
-      (let k = acts.2.keeps before was taken born (h.0 (taken_lives me before item was d taken)) in (λ alive. k, k.waits, k.remembers))
+  hands_as : (o : Option Standing) (before : Next) (me : Pid) (item : Option Item) (was d : ShardState) (next : Next) (now : Option Standing) (e : ShardState) → HoldsAs past o before me was
+      → is_unborn (phase_of was me) ≡ false → ItemIsTaken me before item was d → IsLater d e → ActsAs o me item d next now e → HoldsAs past now next me e
+  hands_as None before me item was d next now e h born taken later acts = subst (λ (x : Option Standing). HoldsAs past x next me e) (sym acts.0) tt
+  hands_as (Some s) before me item was d next now e h born taken later acts =
+      subst (λ (x : Option Standing). HoldsAs past x next me e) (sym acts.1)
+      (let k = acts.2.keeps past before was taken born (h.0 (taken_lives me before item was d taken)) in (
+        λ alive. k,
+        k.waits,
+        k.remembers,
+        not_before me d e later (λ unborn_is. let bad : false ≡ true = sym (taken_born me before item was d taken born) ∙ unborn_is in absurd (cc)),
+      ))
 
-  pub upheld : (answers : Answers B) → SuperviseAs answers part → IsUpheld answers (Keeps part)
+  pub upheld : (answers : Answers B) → SuperviseAs answers part → IsUpheld answers (Keeps past part)
   upheld answers law = record {
     acts = λ b d p item next now e births a. acts_as (part b) p item d next (part now) e (law b d p item next now e births a).0;
-    hands = λ b before p item was d next now e births h born taken a later. hands_as (part b) before p item was d next (part now) e h born taken (law b d p item next now e births a).0;
+    hands = λ b before p item was d next now e births h born taken a later. hands_as (part b) before p item was d next (part now) e h born taken later (law b d p item next now e births a).0;
     bears = λ b d p item next now e births a. all_begin births (law b d p item next now e births a).1;
-    others = λ b next p d e h born later same. same_holds (part b) next p d e h later same;
-    ends = λ b r p d h born. ended_holds (part b) r p d h;
-    receives = λ b next p d l h born. received (part b) next p d l h;
+    others = λ b next p d e h born later same. same_holds past (part b) next p d e h later same;
+    ends = λ b r p d h born. ended_holds past (part b) r p d h;
+    receives = λ b next p d l h born. received past (part b) next p d l h;
   }

@@ -1,6 +1,9 @@
 -- How a supervisor's children are on its desk, and in a node that is still.
+--
+-- Everywhere here `past` is what happened on a desk, or on its node, before the desk's journal: [] where nothing is known
+-- of it.
 use Rattle.std.specs.Prelude.{◌≡◌, ⊤, ℕ, ◌&&◌, Bool, true, false, is_some, List, [], ◌∷◌, ◌++◌, Option, Some, None, Ok}
-use Rattle.std.specs.List.{list_any}
+use Rattle.std.specs.List.{flat_map, list_any}
 use Rattle.std.specs.Prelude.{◌⊎◌, ◌<◌, length, take, slice_get, slice_index_or}
 use Rattle.pt_signal.specs.declared.pid.Pid.{Pid}
 use Rattle.pt_signal.specs.declared.item.Item.{Item}
@@ -13,7 +16,7 @@ use Rattle.pt_signal.specs.Process.{ProcessState, held}
 use Rattle.pt_events.specs.declared.event.Event.{Event}
 use Rattle.pt_events.specs.declared.event.Event.TheVariants.{Came}
 use Rattle.pt_events.specs.declared.event.Stamped.{Stamped}
-use Rattle.pt_events.specs.History.{at_start, is_unborn, alive}
+use Rattle.pt_events.specs.History.{Past, Start, at_start, is_unborn, state_of, alive}
 use Rattle.pt_events.specs.Journal.{IsMerge, events}
 use Rattle.pt_shard.specs.ShardState.{ShardState, phase_of, state_in, lives}
 use Rattle.pt_gathered.specs.Gathered.{GatheredState, IsGathered, begins, journals}
@@ -23,7 +26,7 @@ use Rattle.pt_crew.specs.declared.behaviour.Next.TheVariants.{Wait, Proceed}
 use Rattle.pt_crew.specs.declared.births.Role.{Role}
 use Rattle.pt_crew.specs.declared.crew.Crew.{Crew}
 use Rattle.pt_crew.specs.Visiting.{Answers}
-use Rattle.pt_crew.specs.Upholding.{Relation, ActsFor, ItemIsTaken, Upholds, children_by}
+use Rattle.pt_crew.specs.Upholding.{Relation, ActsFor, ItemIsTaken, Upholds, child_by, children_by}
 use Rattle.pt_crew.specs.Waking.{has_work}
 use Rattle.pt_crew.specs.Crews.{roles}
 use Rattle.pt_supervisor.specs.declared.children.Child.{Child}
@@ -50,23 +53,27 @@ is_cut me q (Came a b (Unlink ids)) = same_pid q a && same_pid me b
 is_cut me q _ = false
 
 -- an unlink of q came to me
-abbrev pub has_cut : Pid → Pid → List Stamped → Bool
-has_cut me q journal = list_any (λ (s : Stamped). is_cut me q s.event) journal
+abbrev pub has_cut : Pid → Pid → Past → Bool
+has_cut me q past = list_any (is_cut me q) past
+
+-- all that happened on a desk: before its journal, which is past, and since then
+abbrev pub all_events : Past → ShardState → Past
+all_events past d = events d.journal ++ past
 
 -- a link with q is held, or the end of q waits to be heard
 abbrev pub IsTied : ProcessState → Pid → Type 0
 IsTied s q = (is_some (held s.links q) ≡ true) ⊎ (list_any (is_exit_of q) s.waiting ≡ true)
 
 -- so it is with a child of me, unless the child took the link away itself
-abbrev pub IsHeld : Pid → Pid → ShardState → Type 0
-IsHeld me q d = IsTied (state_in d me) q ⊎ (has_cut me q d.journal ≡ true)
+abbrev pub IsHeld : Past → Pid → Pid → ShardState → Type 0
+IsHeld past me q d = IsTied (state_in d me) q ⊎ (has_cut me q (all_events past d) ≡ true)
 
 -- Children that live, by all that their supervisor me has heard: each was born, stands in one place alone, and is held
 -- unless me is to stop.
-pub record Family (children : List Child) (stopping : Option Reason) (me : Pid) (d : ShardState) : Type 0 where
+pub record Family (past : Past) (children : List Child) (stopping : Option Reason) (me : Pid) (d : ShardState) : Type 0 where
   pub born : (place : ℕ) (q : Pid) → child_at children place ≡ Some q → is_unborn (phase_of d q) ≡ false
   pub apart : (i j : ℕ) (q : Pid) → child_at children i ≡ Some q → child_at children j ≡ Some q → i ≡ j
-  pub held : stopping ≡ None → (place : ℕ) (q : Pid) → child_at children place ≡ Some q → IsHeld me q d
+  pub held : stopping ≡ None → (place : ℕ) (q : Pid) → child_at children place ≡ Some q → IsHeld past me q d
 
 -- news of the end of q came to me: by a link that the two had, or by an exit signal that q sent itself
 abbrev pub tells_end : Pid → Pid → Event → Bool
@@ -74,36 +81,45 @@ tells_end me q (Came a b (LinkExit ids r)) = same_pid q a && same_pid me b
 tells_end me q (Came a b (Signal.Exit r)) = same_pid q a && same_pid me b
 tells_end me q _ = false
 
-abbrev pub has_told : Pid → Pid → List Stamped → Bool
-has_told me q journal = list_any (λ (s : Stamped). tells_end me q s.event) journal
+abbrev pub has_told : Pid → Pid → Past → Bool
+has_told me q past = list_any (tells_end me q) past
+
+-- each exit that waited for me as the journal began had come before
+abbrev pub WereTold : Past → Pid → Start → Type 0
+WereTold past me start =
+    (q : Pid) → list_any (is_exit_of q) (state_of (at_start start me)).waiting ≡ true → has_told me q past ≡ true
+
+-- the children that p bore on a desk, the last one first
+abbrev pub all_children : Past → Pid → ShardState → List Pid
+all_children past p d = children_by p d.journal ++ flat_map (child_by p) past
 
 -- q is one of those whom me started: of the children that it bore one of the last so many
-abbrev pub was_started : ℕ → Pid → Pid → List Stamped → Bool
-was_started count me q journal = list_any (same_pid q) (take count (children_by me journal))
+abbrev pub was_started : Past → ℕ → Pid → Pid → ShardState → Bool
+was_started past count me q d = list_any (same_pid q) (take count (all_children past me d))
 
 abbrev pub IsPlaced : List Child → Pid → Type 0
 IsPlaced children q = (place : ℕ) × (child_at children place ≡ Some q)
 
--- Nobody is forgotten: each one that a supervisor started, which was not there as the journal began, stands in a place,
--- or news of its end came.
-abbrev pub Remembers : List Child → ℕ → Pid → ShardState → Type 0
-Remembers children started me d =
-    is_unborn (at_start d.start me) ≡ true → (q : Pid) → was_started started me q d.journal ≡ true
-    → IsPlaced children q ⊎ (has_told me q d.journal ≡ true)
+-- Nobody is forgotten: each one that a supervisor started stands in a place, or news of its end came. So it is where
+-- all exits that waited for it as the journal began had come before.
+abbrev pub Remembers : Past → List Child → ℕ → Pid → ShardState → Type 0
+Remembers past children started me d =
+    WereTold past me d.start → (q : Pid) → was_started past started me q d ≡ true
+    → IsPlaced children q ⊎ (has_told me q (all_events past d) ≡ true)
 
 -- what a supervisor upholds while it lives: it traps exits, unless it has not begun
-pub record Holds (s : Standing) (next : Next) (me : Pid) (d : ShardState) : Type 0 where
+pub record Holds (past : Past) (s : Standing) (next : Next) (me : Pid) (d : ShardState) : Type 0 where
   pub waits : Supervises next s
-  pub remembers : Remembers s.children s.started me d
+  pub remembers : Remembers past s.children s.started me d
   pub traps : ((state_in d me).traps ≡ true) ⊎ ((next ≡ Proceed) × NoneLives s.children)
-  pub family : Family s.children s.stopping me d
+  pub family : Family past s.children s.stopping me d
 
--- a supervisor sees to an item, or to none: it acts for itself alone, and upholds that
+-- a supervisor sees to an item, or to none: it acts for itself alone, and upholds that, whatever was before
 pub record Tends (me : Pid) (item : Option Item) (s : Standing) (d : ShardState) (next : Next) (new : Standing)
     (e : ShardState) : Type 0 where
   pub acts : ActsFor me d e
-  pub keeps : (before : Next) (was : ShardState) → ItemIsTaken me before item was d → is_unborn (phase_of was me) ≡ false
-      → Holds s before me was → Holds new next me e
+  pub keeps : (past : Past) (before : Next) (was : ShardState) → ItemIsTaken me before item was d
+      → is_unborn (phase_of was me) ≡ false → Holds past s before me was → Holds past new next me e
 
 -- the behaviours of those who are born are what the program's `Start` gave
 abbrev pub AllStarted : {S B : Type 0} → StartsOf S B → Pid → List (Role B) → Type 0
@@ -121,19 +137,21 @@ BearsFrom {S} {B} starts me old new =
 abbrev pub PartOf : Type 0 → Type 0
 PartOf B = B → Option Standing
 
--- One that is no supervisor stands anyhow; a supervisor that lives so; and also one that has ended, it forgets nobody.
-abbrev pub HoldsAs : Option Standing → Next → Pid → ShardState → Type 0
-HoldsAs None next me d = ⊤
-HoldsAs (Some s) next me d =
-    (lives d me ≡ true → Holds s next me d) × Supervises next s × Remembers s.children s.started me d
-
-abbrev pub Keeps : {B : Type 0} → PartOf B → Relation B
-Keeps part b next me d = HoldsAs (part b) next me d
-
 -- a supervisor begins by proceeding, with no child, and has started none
 abbrev pub SupervisorBegins : Option Standing → Next → Type 0
 SupervisorBegins None next = ⊤
 SupervisorBegins (Some s) next = (next ≡ Proceed) × NoneLives s.children × (s.started ≡ 0)
+
+-- One that is no supervisor stands anyhow. A supervisor that lives stands so, and also one that has ended forgets nobody;
+-- one that is not born yet is to begin.
+abbrev pub HoldsAs : Past → Option Standing → Next → Pid → ShardState → Type 0
+HoldsAs past None next me d = ⊤
+HoldsAs past (Some s) next me d =
+    (lives d me ≡ true → Holds past s next me d) × Supervises next s × Remembers past s.children s.started me d
+    × (is_unborn (phase_of d me) ≡ true → SupervisorBegins (Some s) next)
+
+abbrev pub Keeps : {B : Type 0} → Past → PartOf B → Relation B
+Keeps past part b next me d = HoldsAs past (part b) next me d
 
 abbrev pub AllBegin : {B : Type 0} → PartOf B → List (Role B) → Type 0
 AllBegin part [] = ⊤
@@ -160,17 +178,18 @@ IsIdle {B} c d = (p : Pid) (role : B × Next) → roles c p ≡ Some role → ha
 
 -- The desk of the crew is one of the node. In each merge of the node's journals a supervisor of the crew that lives and
 -- waits for any item has, for each child that is to live, a process that lives, or took its link with it away itself.
-abbrev pub ChildrenLive : {B : Type 0} → PartOf B → Crew B → ShardState → GatheredState → Type 0
-ChildrenLive {B} part c d g =
+abbrev pub ChildrenLive : {B : Type 0} → Past → PartOf B → Crew B → ShardState → GatheredState → Type 0
+ChildrenLive {B} past part c d g =
     (merged : List Stamped) → IsMerge (journals g) merged → (p : Pid) (b : B) (s : Standing)
     → roles c p ≡ Some (b, Wait Pick.Any) → part b ≡ Some s → lives d p ≡ true → p.shard ≡ d.number
     → (place : ℕ) (child : Child) → slice_get s.children place ≡ Some child → child.wanted ≡ true
     → (q : Pid) × (child.pid ≡ Some q)
-    × ((alive (begins g) (events merged) q ≡ true) ⊎ (has_cut p q d.journal ≡ true))
+    × ((alive (begins g) (events merged) q ≡ true) ⊎ (has_cut p q (all_events past d) ≡ true))
 
 -- So it is in a node that is still: where the desk of a crew, whose supervisors uphold that their children are held, is
 -- one of a gathered node in which links stand at both ends or at neither, and nobody of the crew has anything to do.
 abbrev pub QuietChildrenLive : {B : Type 0} → PartOf B → Type 0
 QuietChildrenLive {B} part =
-    (c : Crew B) (d : ShardState) (g : GatheredState) → IsGathered g → LinksStand g → d.number < length g.shards
-    → d ≡ slice_index_or g.shards d.number d → Upholds (Keeps part) c d → IsIdle c d → ChildrenLive part c d g
+    (past : Past) (c : Crew B) (d : ShardState) (g : GatheredState) → IsGathered g → LinksStand g
+    → d.number < length g.shards → d ≡ slice_index_or g.shards d.number d → Upholds (Keeps past part) c d
+    → IsIdle c d → ChildrenLive past part c d g

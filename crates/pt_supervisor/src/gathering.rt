@@ -1,5 +1,6 @@
 //! Supervisors in a node that runs, gets still and is gathered, as the contract of a function that does nothing.
 
+ghost use Rattle.pt_events.specs.History.{Past};
 ghost use Rattle.pt_workers.specs.Running.{begins_by};
 ghost use Rattle.pt_workers.specs.declared.work.Standing.TheVariants.{Going};
 ghost use Rattle.pt_crew.specs.Running.{RestUpholds, RoundsUphold, RunUpholds};
@@ -13,13 +14,16 @@ use pt_node::Gate;
 /// On each desk of a gathered node, each child that its supervisor wants alive is alive, or unlinked itself from the
 /// supervisor. The function does nothing: its contract is the promise.
 ///
-/// It needs something of the crews, each over the desk at its place. A run of them at this gate keeps it, on threads
+/// It needs something of the crews, each over the desk at its place, after what happened on their node before (`past`):
+/// [] if nothing is known of it. A run of them at this gate keeps it, on threads
 /// (`run`) or in rounds (`rounds`), and so does turning the node until it is still (`rests`). The promise then needs
 /// that no crew has anything to do ([`pt_crew::are_idle`]), and that the node is gathered and settled (`live`).
 pub fn gathered_children_live<B: Supervised + Drop, G: Gate>(gate: &G)
-    ensures run { RunUpholds B.answers (Keeps B.supervisor) (begins_by (λ _. Going) (G.lets gate.now)) }
-    ensures rounds { RoundsUphold B.answers (Keeps B.supervisor) (begins_by (λ _. Going) (G.lets gate.now)) }
-    ensures rests { RestUpholds (Keeps B.supervisor) }
+    ensures run { (past : Past)
+        → RunUpholds B.answers (Keeps past B.supervisor) (begins_by (λ _. Going) (G.lets gate.now)) }
+    ensures rounds { (past : Past)
+        → RoundsUphold B.answers (Keeps past B.supervisor) (begins_by (λ _. Going) (G.lets gate.now)) }
+    ensures rests { (past : Past) → RestUpholds (Keeps past B.supervisor) }
     ensures live { GatheredChildrenLive B.supervisor }
 {
     laws::journals_tell_their_pids();

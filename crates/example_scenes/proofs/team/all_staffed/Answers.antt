@@ -20,15 +20,15 @@ loop-place-preserved c =
     let crew : Crew Member = c.new-work.result in
     let on = c.staffed.ensures.goes_on in
     let within : place < length desks = omega (arith, c.loop-place-test.true, inv.same, c.len-place-end.ensures) in
-    let upholds = subst (λ (w : Crew Member). UpholdsOn (Keeps boss_of) w desk.shard) (sym c.new-work.ensures) c.in_ok-crew.ensures.upholds in
+    let upholds = subst (λ (w : Crew Member). UpholdsOn (Keeps [] boss_of) w desk.shard) (sym c.new-work.ensures) c.in_ok-crew.ensures.upholds in
     let more = c.in_ok-push.ensures.items in
-    let grown : FirstUphold (Keeps boss_of) (crews ++ crew ∷ []) (set desks (length crews) desk) =
-    one_more (Keeps boss_of) crews desks crew desk (omega (arith, within, inv.count)) inv.first upholds in
+    let grown : FirstUphold (Keeps [] boss_of) (crews ++ crew ∷ []) (set desks (length crews) desk) =
+    one_more (Keeps [] boss_of) crews desks crew desk (omega (arith, within, inv.count)) inv.first upholds in
     record {
       count = let l = ap length more in let a = length-append crews (crew ∷ []) in omega (arith, l, a, inv.count);
       same = length-set desks place desk ∙ inv.same;
-      first = subst (λ (cs : List (Crew Member)). FirstUphold (Keeps boss_of) cs (set desks place desk)) (sym more)
-          (subst (λ n. FirstUphold (Keeps boss_of) (crews ++ crew ∷ []) (set desks n desk)) inv.count grown);
+      first = subst (λ (cs : List (Crew Member)). FirstUphold (Keeps [] boss_of) cs (set desks place desk)) (sym more)
+          (subst (λ n. FirstUphold (Keeps [] boss_of) (crews ++ crew ∷ []) (set desks n desk)) inv.count grown);
       node = λ n. still_desks desks place c.index_mut.result.now desk (inv.node n) within c.index_mut.ensures.value (on.place, on.shard.config, on.sight.directory, on.shard.start);
     }
 

@@ -1,5 +1,5 @@
 -- `all_staffed`: what holds in its loop over `place`.
-use Rattle.std.proofs.Common.{◌≡◌, length}
+use Rattle.std.proofs.Common.{◌≡◌, [], length}
 use Rattle.pt_workers.specs.Desks.{AreDesks}
 use Rattle.pt_crew.proofs.Runs.{FirstUphold}
 use Rattle.pt_supervisor.specs.Keeping.{Keeps}
@@ -10,6 +10,6 @@ abbrev pub invariant-loop-place : goal.invariant-loop-place
 invariant-loop-place l = record {
   count : length l.crews.items ≡ l.place;
   same : length l.desks.items ≡ length l.fn.desks.items;
-  first : FirstUphold (Keeps boss_of) l.crews.items l.desks.items;
+  first : FirstUphold (Keeps [] boss_of) l.crews.items l.desks.items;
   node : AreDesks l.fn.desks.items → AreDesks l.desks.items;
 }

@@ -1,5 +1,5 @@
 -- `come_to_rest`: its clauses `upholds` and `still`.
-use Rattle.std.proofs.Common.{◌≡◌, false, List, Option, Some, None, is_some, sym, ◌∙◌, refl, subst}
+use Rattle.std.proofs.Common.{◌≡◌, false, List, [], Option, Some, None, is_some, sym, ◌∙◌, refl, subst}
 use Rattle.pt_desk.specs.DeskState.{DeskState}
 use Rattle.pt_crew.specs.declared.crew.Crew.{Crew}
 use Rattle.pt_crew.specs.Running.{AreIdle}
@@ -12,8 +12,8 @@ none_of (Some x) h = absurd (cc)
 
 pub returns-clause-upholds : goal.returns-clause-upholds
 returns-clause-upholds c =
-    λ a. c.gathered_children_live.ensures.rests 256 c.run_single.new.self c.turn_until_still.new.self c.run_single.new.works.items c.turn_until_still.result c.turn_until_still.ensures.rounds
-    (c.gathered_children_live.ensures.rounds 8 256 c.args.node.now c.run_single.new.self c.args.crews.now.items c.run_single.new.works.items c.run_single.result c.run_single.ensures a)
+    λ a. c.gathered_children_live.ensures.rests [] 256 c.run_single.new.self c.turn_until_still.new.self c.run_single.new.works.items c.turn_until_still.result c.turn_until_still.ensures.rounds
+    (c.gathered_children_live.ensures.rounds [] 8 256 c.args.node.now c.run_single.new.self c.args.crews.now.items c.run_single.new.works.items c.run_single.result c.run_single.ensures a)
 
 pub returns-clause-still : goal.returns-clause-still
 returns-clause-still c =

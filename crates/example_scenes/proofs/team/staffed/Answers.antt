@@ -1,4 +1,5 @@
 -- `staffed`: its clause `upholds`.
+use Rattle.std.proofs.Common.{[]}
 use Rattle.example_scenes.proofs.team.staffed.Goals as goal
 
 pub returns-clause-upholds : goal.returns-clause-upholds
@@ -11,6 +12,6 @@ returns-clause-upholds c =
         room = c.enter.ensures.room (c.new-crew.ensures.attends d).room;
         timers = c.enter.ensures.timers (c.new-crew.ensures.attends d).knows (c.new-crew.ensures.attends d).timers;
       };
-      upholds = c.quiet_children_live.ensures.enter c.in_ok-boss.boss _ crew c.enter.new.self d c.enter.new.desk.shard c.enter.result c.enter.ensures.does c.in_ok-boss.ensures
-          (c.quiet_children_live.ensures.nobody crew d c.new-crew.ensures.nobody c.new-crew.ensures.born);
+      upholds = c.quiet_children_live.ensures.enter [] c.in_ok-boss.boss _ crew c.enter.new.self d c.enter.new.desk.shard c.enter.result c.enter.ensures.does c.in_ok-boss.ensures
+          (c.quiet_children_live.ensures.nobody [] crew d c.new-crew.ensures.nobody c.new-crew.ensures.born);
     }

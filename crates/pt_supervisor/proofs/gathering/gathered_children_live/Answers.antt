@@ -9,17 +9,20 @@ use Rattle.pt_supervisor.proofs.gathering.gathered_children_live.Goals as goal
 
 pub returns-clause-run : goal.returns-clause-run
 returns-clause-run g c =
-    run_upholds g.B.Behaviour.answers (Keeps g.B.Supervised.supervisor) (upheld g.B.Supervised.supervisor g.B.Behaviour.answers g.met.B.Supervised.supervises)
+    λ past.
+    run_upholds g.B.Behaviour.answers (Keeps past g.B.Supervised.supervisor) (upheld past g.B.Supervised.supervisor g.B.Behaviour.answers g.met.B.Supervised.supervises)
     (begins_by (λ _. Going) (g.G.Gate.lets c.args.gate.now))
 
 pub returns-clause-rounds : goal.returns-clause-rounds
 returns-clause-rounds g c =
-    rounds_uphold g.B.Behaviour.answers (Keeps g.B.Supervised.supervisor) (upheld g.B.Supervised.supervisor g.B.Behaviour.answers g.met.B.Supervised.supervises)
+    λ past.
+    rounds_uphold g.B.Behaviour.answers (Keeps past g.B.Supervised.supervisor) (upheld past g.B.Supervised.supervisor g.B.Behaviour.answers g.met.B.Supervised.supervises)
     (begins_by (λ _. Going) (g.G.Gate.lets c.args.gate.now))
 
 pub returns-clause-rests : goal.returns-clause-rests
 returns-clause-rests g c =
-    rest_upholds g.B.Behaviour.answers (Keeps g.B.Supervised.supervisor) (upheld g.B.Supervised.supervisor g.B.Behaviour.answers g.met.B.Supervised.supervises)
+    λ past.
+    rest_upholds g.B.Behaviour.answers (Keeps past g.B.Supervised.supervisor) (upheld past g.B.Supervised.supervisor g.B.Behaviour.answers g.met.B.Supervised.supervises)
 
 pub returns-clause-live : goal.returns-clause-live
 returns-clause-live g c = all_children_live g.B.Supervised.supervisor c.journals_tell_their_pids.ensures.journals c.journals_have_one_merge.ensures.there

@@ -6,21 +6,21 @@ use Rattle.pt_supervisor.proofs.Still.{nobody_upholds, awake_idle, children_live
 use Rattle.pt_supervisor.proofs.supervised.quiet_children_live.Goals as goal
 
 pub returns-clause-nobody : goal.returns-clause-nobody
-returns-clause-nobody g c = nobody_upholds (Keeps g.B.Supervised.supervisor)
+returns-clause-nobody g c = λ past. nobody_upholds (Keeps past g.B.Supervised.supervisor)
 
 pub returns-clause-step : goal.returns-clause-step
-returns-clause-step g c = step_upholds g.B.Behaviour.answers (Keeps g.B.Supervised.supervisor) (upheld g.B.Supervised.supervisor g.B.Behaviour.answers g.met.B.Supervised.supervises)
+returns-clause-step g c = λ past. step_upholds g.B.Behaviour.answers (Keeps past g.B.Supervised.supervisor) (upheld past g.B.Supervised.supervisor g.B.Behaviour.answers g.met.B.Supervised.supervises)
 
 pub returns-clause-work : goal.returns-clause-work
-returns-clause-work g c = work_upholds g.B.Behaviour.answers (Keeps g.B.Supervised.supervisor) (upheld g.B.Supervised.supervisor g.B.Behaviour.answers g.met.B.Supervised.supervises)
+returns-clause-work g c = λ past. work_upholds g.B.Behaviour.answers (Keeps past g.B.Supervised.supervisor) (upheld past g.B.Supervised.supervisor g.B.Behaviour.answers g.met.B.Supervised.supervises)
 
 pub returns-clause-receipt : goal.returns-clause-receipt
-returns-clause-receipt g c = receipt_upholds g.B.Behaviour.answers (Keeps g.B.Supervised.supervisor) (upheld g.B.Supervised.supervisor g.B.Behaviour.answers g.met.B.Supervised.supervises)
+returns-clause-receipt g c = λ past. receipt_upholds g.B.Behaviour.answers (Keeps past g.B.Supervised.supervisor) (upheld past g.B.Supervised.supervisor g.B.Behaviour.answers g.met.B.Supervised.supervises)
 
 pub returns-clause-enter : goal.returns-clause-enter
-returns-clause-enter g c = λ b first old new d e result enters starts.
-    enter_upholds g.B.Behaviour.answers (Keeps g.B.Supervised.supervisor) (upheld g.B.Supervised.supervisor g.B.Behaviour.answers g.met.B.Supervised.supervises) b first old new d e result enters
-    (λ p x. begins (g.B.Supervised.supervisor b) first p x starts)
+returns-clause-enter g c = λ past b first old new d e result enters starts.
+    enter_upholds g.B.Behaviour.answers (Keeps past g.B.Supervised.supervisor) (upheld past g.B.Supervised.supervisor g.B.Behaviour.answers g.met.B.Supervised.supervises) b first old new d e result enters
+    (λ p x. begins past (g.B.Supervised.supervisor b) first p x starts)
 
 pub returns-clause-idle : goal.returns-clause-idle
 returns-clause-idle g c = awake_idle
