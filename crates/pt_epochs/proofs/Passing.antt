@@ -26,7 +26,7 @@ use Rattle.pt_epochs.proofs.Attending.{leg_attends, legs_attend, resumed_attends
 use Rattle.pt_epochs.proofs.Whole.{ends_past, legs_past, nothing_yet, one_after}
 
 module _ {B : Type 0} (Runs : ℕ → List (DeskState × Crew B) → List (DeskState × Crew B) → Type 0) (plan : Plan) where
-  runs_past : (old : Worked (Crew B)) (pause : Pause) (new : Worked (Crew B)) → RunsToPause Runs plan old (Ok pause) new → (past : Past) → GoOnFrom past old.desks → GoOnFrom past new.desks
+  pub runs_past : (old : Worked (Crew B)) (pause : Pause) (new : Worked (Crew B)) → RunsToPause Runs plan old (Ok pause) new → (past : Past) → GoOnFrom past old.desks → GoOnFrom past new.desks
   runs_past old Spent new r = legs_past Runs plan.budget (GoesFurther plan.events) r.0 old new r.1
   runs_past old Idle new r = ends_past Runs plan.budget (GoesFurther plan.events) (max plan.turns 1) old (EndsPaused plan.events Idle) new r
   runs_past old (Stopped s) new r = ends_past Runs plan.budget (GoesFurther plan.events) (max plan.turns 1) old (EndsPaused plan.events (Stopped s)) new r

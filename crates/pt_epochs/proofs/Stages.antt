@@ -1,7 +1,7 @@
 -- The end of an epoch, stage by stage.
 use Rattle.std.proofs.Common.{◌≡◌, List, Result, Ok, Err, sym, subst}
 use Rattle.pt_events.specs.declared.event.Stamped.{Stamped}
-use Rattle.pt_gathered.specs.Gathered.{GatheredState}
+use Rattle.pt_gathered.specs.Gathered.{GatheredState, IsGathered}
 use Rattle.pt_gathered.specs.Quiet.{QuietState}
 use Rattle.pt_gathered.specs.Settling.{Settles, NothingLeft}
 use Rattle.pt_desk.specs.DeskState.{DeskState}
@@ -26,29 +26,29 @@ module _ {B : Type 0} where
   resumed_as q node crews (Err (Beginning a)) later on h = (node, on, h)
 
   module _ {S : Type 0} (Takes Refuses : S → List Stamped → S → Type 0) where
-    pub handed_as : (q : QuietState) (crews : List (Crew B)) (sink : S) (result : Result (List DeskState) Halted) (later : List (Crew B)) (after : S) (history : List Stamped) → IsSettledHistory q.gathered history → Takes sink history after
+    pub handed_as : (q : QuietState) (crews : List (Crew B)) (sink : S) (result : Result (List DeskState) Halted) (later : List (Crew B)) (after : S) (history : List Stamped) → IsGathered q.gathered → IsSettledHistory q.gathered history → Takes sink history after
         → ResumesAllAs q crews result later → HandsAs Takes Refuses q crews sink result later after
-    handed_as q crews sink (Ok desks) later after history is takes h = (history, record { is = is; takes = takes; resumed = h })
-    handed_as q crews sink (Err (Running a b)) later after history is takes h = absurd h.2
-    handed_as q crews sink (Err (Turning a b)) later after history is takes h = absurd h.2
-    handed_as q crews sink (Err (Gathering a)) later after history is takes h = absurd h.2
-    handed_as q crews sink (Err (Settling a)) later after history is takes h = absurd h.2
-    handed_as q crews sink (Err (Reading a)) later after history is takes h = absurd h.2
-    handed_as q crews sink (Err (Taking a)) later after history is takes h = absurd h.2
-    handed_as q crews sink (Err (Resuming a)) later after history is takes h = (history, is, takes, h)
-    handed_as q crews sink (Err (Beginning a)) later after history is takes h = (history, is, takes, h)
+    handed_as q crews sink (Ok desks) later after history node is takes h = (history, record { node = node; is = is; takes = takes; resumed = h })
+    handed_as q crews sink (Err (Running a b)) later after history node is takes h = absurd h.2
+    handed_as q crews sink (Err (Turning a b)) later after history node is takes h = absurd h.2
+    handed_as q crews sink (Err (Gathering a)) later after history node is takes h = absurd h.2
+    handed_as q crews sink (Err (Settling a)) later after history node is takes h = absurd h.2
+    handed_as q crews sink (Err (Reading a)) later after history node is takes h = absurd h.2
+    handed_as q crews sink (Err (Taking a)) later after history node is takes h = absurd h.2
+    handed_as q crews sink (Err (Resuming a)) later after history node is takes h = (history, is, takes, h)
+    handed_as q crews sink (Err (Beginning a)) later after history node is takes h = (history, is, takes, h)
 
-    pub settled_as : (g : GatheredState) (q : QuietState) (crews : List (Crew B)) (sink : S) (result : Result (List DeskState) Halted) (later : List (Crew B)) (after : S) → Settles g q.gathered → NothingLeft q.gathered → (NothingLeft g → q.gathered ≡ g)
+    pub settled_as : (g : GatheredState) (node : IsGathered g) (q : QuietState) (crews : List (Crew B)) (sink : S) (result : Result (List DeskState) Halted) (later : List (Crew B)) (after : S) → Settles g q.gathered → NothingLeft q.gathered → (NothingLeft g → q.gathered ≡ g)
         → HandsAs Takes Refuses q crews sink result later after → SettlesAs Takes Refuses g crews sink result later after
-    settled_as g q crews sink (Ok desks) later after settles none same h = (h.0, record { settled = q.gathered; settles = settles; nothing_left = none; same = same; over = h.1 })
-    settled_as g q crews sink (Err (Running a b)) later after settles none same h = (q, settles, none, h)
-    settled_as g q crews sink (Err (Turning a b)) later after settles none same h = (q, settles, none, h)
-    settled_as g q crews sink (Err (Gathering a)) later after settles none same h = (q, settles, none, h)
-    settled_as g q crews sink (Err (Settling a)) later after settles none same h = absurd h.3.2
-    settled_as g q crews sink (Err (Reading a)) later after settles none same h = (q, settles, none, h)
-    settled_as g q crews sink (Err (Taking a)) later after settles none same h = (q, settles, none, h)
-    settled_as g q crews sink (Err (Resuming a)) later after settles none same h = (q, settles, none, h)
-    settled_as g q crews sink (Err (Beginning a)) later after settles none same h = (q, settles, none, h)
+    settled_as g node q crews sink (Ok desks) later after settles none same h = (h.0, record { node = node; settled = q.gathered; settles = settles; nothing_left = none; same = same; over = h.1 })
+    settled_as g node q crews sink (Err (Running a b)) later after settles none same h = (q, settles, none, h)
+    settled_as g node q crews sink (Err (Turning a b)) later after settles none same h = (q, settles, none, h)
+    settled_as g node q crews sink (Err (Gathering a)) later after settles none same h = (q, settles, none, h)
+    settled_as g node q crews sink (Err (Settling a)) later after settles none same h = absurd h.3.2
+    settled_as g node q crews sink (Err (Reading a)) later after settles none same h = (q, settles, none, h)
+    settled_as g node q crews sink (Err (Taking a)) later after settles none same h = (q, settles, none, h)
+    settled_as g node q crews sink (Err (Resuming a)) later after settles none same h = (q, settles, none, h)
+    settled_as g node q crews sink (Err (Beginning a)) later after settles none same h = (q, settles, none, h)
 
     pub ended_as : (old : List DeskState) (g : GatheredState) (crews : List (Crew B)) (sink : S) (result : Result (List DeskState) Halted) (later : List (Crew B)) (after : S) → Gathers old g
         → SettlesAs Takes Refuses g crews sink result later after → EndsAs Takes Refuses old crews sink result later after

@@ -71,7 +71,7 @@ go_on_alone old new on = record {
 }
 
 -- turns change nothing of what the desks go on from
-desks_past : (old new : List DeskState) → AllDesksGoOn old new → (past : Past) → GoOnFrom past old → GoOnFrom past new
+pub desks_past : (old new : List DeskState) → AllDesksGoOn old new → (past : Past) → GoOnFrom past old → GoOnFrom past new
 desks_past old new on past from =
     subst (GoOnFrom past) (firsts new) (go_on_past (alone old) (alone new) (go_on_alone old new on) past (subst (GoOnFrom past) (sym (firsts old)) from))
 

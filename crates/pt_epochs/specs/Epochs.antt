@@ -7,7 +7,7 @@ use Rattle.pt_events.specs.History.{Past, IsLegal}
 use Rattle.pt_events.specs.Journal.{IsMerge, events}
 use Rattle.pt_laws.specs.Load.{IsQuiet}
 use Rattle.pt_shard.specs.ShardState.{ShardState}
-use Rattle.pt_gathered.specs.Gathered.{GatheredState, begins, journals}
+use Rattle.pt_gathered.specs.Gathered.{GatheredState, IsGathered, begins, journals}
 use Rattle.pt_gathered.specs.Quiet.{QuietState}
 use Rattle.pt_gathered.specs.Settling.{Settles, NothingLeft}
 use Rattle.pt_desk.specs.DeskState.{DeskState}
@@ -115,6 +115,7 @@ module _ {B S : Type 0} (Takes Refuses : S → List Stamped → S → Type 0) wh
   -- its history goes to the sink, and then it is resumed
   pub record HandsOver (history : List Stamped) (g : GatheredState) (crews : List (Crew B)) (sink : S)
       (desks : List DeskState) (later : List (Crew B)) (after : S) : Type 0 where
+    pub node : IsGathered g
     pub is : IsSettledHistory g history
     pub takes : Takes sink history after
     pub resumed : ResumesCrews g crews desks later
@@ -122,6 +123,7 @@ module _ {B S : Type 0} (Takes Refuses : S → List Stamped → S → Type 0) wh
   -- a gathered node is settled, and then that is done
   pub record SettlesOver (history : List Stamped) (g : GatheredState) (crews : List (Crew B)) (sink : S)
       (desks : List DeskState) (later : List (Crew B)) (after : S) : Type 0 where
+    pub node : IsGathered g
     pub settled : GatheredState
     pub settles : Settles g settled
     pub nothing_left : NothingLeft settled

@@ -45,6 +45,8 @@ pub(crate) fn settle_over<B: Behaviour + Drop, S: Sink>(
 ) -> Result<Node, Halted>
     ensures { SettlesAs S.takes S.refuses gathered crews.old.items sink.old result crews.new.items sink.new }
 {
+    // read for the proof alone: it says what holds of every gathered node
+    let _desks = gathered.desks();
     match gathered.settle_unlisted() {
         Ok(settled) => hand_over(alloc, settled, crews, sink),
         Err(unsettled) => Err(Halted::Settling(unsettled)),
@@ -60,6 +62,8 @@ pub(crate) fn hand_over<B: Behaviour + Drop, S: Sink>(
 ) -> Result<Node, Halted>
     ensures { HandsAs S.takes S.refuses settled crews.old.items sink.old result crews.new.items sink.new }
 {
+    // read for the proof alone, as above
+    let _desks = settled.desks();
     match hand(&settled, sink) {
         Ok(()) => resume_over(alloc, settled, crews),
         Err(Unhanded::Unread) => Err(Halted::Reading(settled)),
