@@ -25,7 +25,7 @@ BOUNDS = {"words": 0, "functions": 0, "prose": 0, "sentences": 0, "crates": 37}
 # and the node that goes on by itself
 NEW = {
     "pt_lines", "pt_answers", "pt_session", "pt_shell", "pt_timers", "pt_names", "pt_schedules", "pt_explore", "pt_explorer",
-    "pt_workers", "pt_table", "test_recipes", "pt_registry", "pt_hands", "example_exchange", "pt_epochs",
+    "pt_workers", "pt_table", "test_recipes", "pt_registry", "pt_hands", "example_exchange", "pt_epochs", "pt_pauses",
 }
 MOST_LINES = 30
 MOST_LETTERS = 300

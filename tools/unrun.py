@@ -5,7 +5,8 @@
 
 A compiled program has the functions that its `main` can reach, and no others. So a public function runs nowhere if it is
 in no program of bin/ (./test builds them) and no test, and no program that ./test does not build, calls its name. A body
-of it that always refuses would pass then. A law, which is a function with an empty body, needs no caller.
+of it that always refuses would pass then. A law, which is a function with an empty body or one that calls laws alone,
+needs no caller.
 
 Each line of tools/unrun.txt is a function, or a crate, module or type with `::*` behind it, and why nothing here runs
 it. A line that is not needed is told too.
@@ -15,6 +16,7 @@ from __future__ import annotations
 import re
 import subprocess
 import sys
+from itertools import takewhile
 from pathlib import Path
 
 ROOT = Path(__file__).resolve().parent.parent
@@ -22,6 +24,7 @@ EXCEPTIONS = ROOT / "tools" / "unrun.txt"
 
 IMPL = re.compile(r"^impl(?:<.*?>)? (\w+)(?:<[^{]*>)?(?: \{|$)")
 CALL = re.compile(r"^( *)pub (?:unsafe )?fn (\w+)")
+LAW = re.compile(r" *(?:laws|links)::\w+\(\);")
 NAMED = re.compile(r"(?<!fn )\b(\w+)(?:::<[^()]*>)?\(")
 # The tests, what they alone reach, and what `.ci/run` builds: two programs and the C library.
 CRATES = "test_calls test_recipes test_stress example_uses pt_resting pt_crew pt_supervisor example_hello example_scenes example_exchange pt_table pt_c"
@@ -61,11 +64,13 @@ def module_of(path: Path) -> str:
     return "::".join([crate, *(name for name in names if name not in ("lib", "main", "mod"))])
 
 
-def is_empty(lines: list[str], start: int, indent: str) -> bool:
-    """Whether the function that begins in this line has an empty body."""
-    for line in lines[start:]:
+def is_law(lines: list[str], start: int, indent: str) -> bool:
+    """Whether the function that begins in this line is a law: its body is empty, or calls laws alone."""
+    for at, line in enumerate(lines[start:], start):
         if line in (f"{indent}{{}}", f"{indent}}}"):
             return line.endswith("{}")
+        if line == f"{indent}{{":
+            return all(LAW.fullmatch(it) for it in takewhile(lambda it: it != f"{indent}}}", lines[at + 1 :]))
         if line.rstrip().endswith("{") and not line.strip().startswith(("ensures", "requires")):
             return False
     return False
@@ -82,7 +87,7 @@ def public_calls() -> dict[str, str]:
                 head = IMPL.match(line)
                 inside = head[1] if head and " for " not in line else ""
             call = CALL.match(line)
-            if call and not is_empty(lines, number, call[1]):
+            if call and not is_law(lines, number, call[1]):
                 names = [module_of(path), *([inside] if call[1] and inside else []), call[2]]
                 found["::".join(names)] = f"{path.relative_to(ROOT)}:{number + 1}"
     return found
