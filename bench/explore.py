@@ -1,15 +1,19 @@
 #!/usr/bin/env python3
 """Measures how many schedules a second `pt_explore` runs.
 
-    bench/explore.py PROGRAM [TIMES]        prints the tables of RESULTS.md; PROGRAM is a built pt_explore
+    bench/explore.py PROGRAM [TIMES] [--before PROGRAM] [--write]
 
-Each script is explored TIMES times (5), on one thread. A row has the best of the processor's seconds, the start of the
-program and the reading of the script among them. The second table has the processor's seconds of each thread: that of
-the longest is what the clock would show where as many processors are free.
+It prints the tables of RESULTS.md, or writes that section of it. PROGRAM is a built pt_explore (`bench/build_unproved.py`), and
+`--before` names one to compare it with; both have to print the same. Each script is explored TIMES times (5), on one
+thread, the programs in turn. A row has the best of the processor's seconds, the start of the program and the reading of
+the script among them. The second table has the processor's seconds of each thread: that of the longest is what the clock
+would show where as many processors are free.
 """
 from __future__ import annotations
 
+import argparse
 import json
+import os
 import re
 import resource
 import subprocess
@@ -19,6 +23,9 @@ import time
 from pathlib import Path
 
 HEAD = re.compile(r"schedules (\d+) outcomes (\d+)\noutcome \d+ schedules \d+ shortest ([\d,]*) first ([\d,]*)")
+ROOT = Path(__file__).resolve().parent.parent
+HEADING = "## Every schedule of a script"
+SPEED = ("Seconds", "Schedules a second")
 JOBS = (1, 2, 4, 8)
 PASSES, SLOTS = 9, (8, 1024)
 
@@ -57,15 +64,19 @@ def explored(program: str, script: Path) -> tuple[str, float]:
     return ran.stdout, after.ru_utime + after.ru_stime - before.ru_utime - before.ru_stime
 
 
-def row(program: str, script: Path, name: str, times: int) -> str:
-    runs = [explored(program, script) for _ in range(times)]
-    head = HEAD.match(runs[0][0])
+def row(programs: list[str], script: Path, name: str, times: int) -> str:
+    """What the programs took of a script, each with the schedules a second."""
+    runs = [[explored(program, script) for program in programs] for _ in range(times)]
+    if len({text for run in runs for text, _ in run}) != 1:
+        raise SystemExit(f"{script}: not each run prints the same")
+    head = HEAD.match(runs[0][0][0])
     if head is None:
-        raise SystemExit(f"{script}: {runs[0][0]}")
-    seconds = min(run[1] for run in runs)
+        raise SystemExit(f"{script}: {runs[0][0][0]}")
     turns = [len(found.split(",")) for found in head.groups()[2:]]
     count = int(head[1])
-    return f"| {name} | {turns[0]} to {turns[1]} | {count:,} | {seconds:.3f} | {count / seconds:,.0f} |"
+    best = [min(run[at][1] for run in runs) for at in range(len(programs))]
+    cells = [cell for seconds in best for cell in (f"{seconds:.3f}", f"{count / seconds:,.0f}")]
+    return f"| {name} | {turns[0]} to {turns[1]} | {count:,} | {' | '.join(cells)} |"
 
 
 def seconds_of_threads(program: str, script: Path, jobs: int) -> list[float]:
@@ -82,24 +93,64 @@ def seconds_of_threads(program: str, script: Path, jobs: int) -> list[float]:
     return sorted(seconds.values(), reverse=True)
 
 
+def speeds(programs: list[str], folder: Path, times: int) -> list[str]:
+    """The table of schedules a second: of the program before, if there is one, and of the one now."""
+    of = ["", ""] if len(programs) == 1 else [" before", " now"]
+    heads = ["Script", "Turns", "Schedules", *(f"{what}{it}" for it in of[: len(programs)] for what in SPEED)]
+    lines = [f"| {' | '.join(heads)} |", "|---" * len(heads) + "|"]
+    for what, make in (("two desks that never meet", passes), ("messages between two desks", messages)):
+        for slots in SLOTS:
+            script = folder / f"{make.__name__}-{slots}.json"
+            script.write_text(json.dumps(make(slots)))
+            lines.append(row(programs, script, f"{what}, {slots:,} slots", times))
+    for name in ("explained", "threads"):
+        lines.append(row(programs, ROOT / "checks/examples" / f"{name}.json", f"`{name}.json`", times))
+    return lines
+
+
+def threads(program: str, folder: Path) -> list[str]:
+    """The table of threads, of the first script."""
+    lines, alone = ["| Threads | Seconds of all | Of the longest | Faster by |", "|---|---|---|---|"], 0.0
+    for jobs in JOBS:
+        found = seconds_of_threads(program, folder / f"passes-{SLOTS[0]}.json", jobs)
+        alone = alone or found[0]
+        lines.append(f"| {jobs} | {sum(found):.2f} | {found[0]:.2f} | {alone / found[0]:.2f} |")
+    return lines
+
+
+def section(programs: list[str], times: int) -> str:
+    """The section of RESULTS.md."""
+    with tempfile.TemporaryDirectory() as room:
+        folder, load = Path(room), os.getloadavg()[0]
+        first, second = speeds(programs, folder, times), threads(programs[-1], folder)
+    today = time.strftime("%-d %B %Y")
+    return "\n".join([
+        HEADING, f"{today}, beside other work (load {load:.0f}), pinned to {len(os.sched_getaffinity(0))} processors. "
+        f"`bench/explore.py` wrote this section: the best of {times} runs each, in seconds of the processor, the start of the "
+        "program among them. The programs were compiled without proofs, by `bench/build_unproved.py`.", "", *first, "",
+        "50,000 schedules of 20 turns a second were wanted on one processor.", "",
+        "The first script again, by threads: the processor's seconds of all, and of the thread that had most to do, which is "
+        "what the clock shows where as many processors are free.", "", *second, "", "",
+    ])
+
+
 def main(words: list[str]) -> None:
-    program, times = words[0], int(words[1]) if len(words) > 1 else 5
-    root = Path(__file__).resolve().parent.parent
-    with tempfile.TemporaryDirectory() as folder:
-        print("| Script | Turns | Schedules | Seconds | Schedules a second |\n|---|---|---|---|---|")
-        for what, make in (("two desks that never meet", passes), ("messages between two desks", messages)):
-            for slots in SLOTS:
-                script = Path(folder) / f"{make.__name__}-{slots}.json"
-                script.write_text(json.dumps(make(slots)))
-                print(row(program, script, f"{what}, {slots:,} slots", times))
-        for name in ("explained", "threads"):
-            print(row(program, root / "checks/examples" / f"{name}.json", f"`{name}.json`", times))
-        print("\n| Threads | Seconds of all | Of the longest | Faster by |\n|---|---|---|---|")
-        script, alone = Path(folder) / f"passes-{SLOTS[0]}.json", 0.0
-        for jobs in JOBS:
-            found = seconds_of_threads(program, script, jobs)
-            alone = alone or found[0]
-            print(f"| {jobs} | {sum(found):.2f} | {found[0]:.2f} | {alone / found[0]:.2f} |")
+    asked = argparse.ArgumentParser(description=(__doc__ or "").splitlines()[0])
+    asked.add_argument("program")
+    asked.add_argument("times", type=int, nargs="?", default=5)
+    asked.add_argument("--before", metavar="PROGRAM")
+    asked.add_argument("--write", action="store_true")
+    found = asked.parse_args(words)
+    written = section([*([found.before] if found.before else []), found.program], found.times)
+    if not found.write:
+        print(written, end="")
+        return
+    page = ROOT / "bench" / "RESULTS.md"
+    before, heading, rest = page.read_text().partition(HEADING)
+    behind = rest.find("\n## ")
+    if not heading or behind < 0:
+        raise SystemExit(f"{page} has no section '{HEADING}' with another behind it")
+    page.write_text(before + written + rest[behind + 1 :])
 
 
 if __name__ == "__main__":

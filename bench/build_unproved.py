@@ -1,0 +1,65 @@
+#!/usr/bin/env python3
+"""Builds a program without proofs, with optimisation.
+
+    bench/build_unproved.py PROGRAM TO [--in FOLDER]      PROGRAM of crates.txt, in this checkout or in that of FOLDER
+
+It takes the module that `rt try` compiles, with its checks of numbers and of accesses, and compiles that by clang at -O3
+with the allocator of the C library. So it takes two minutes where nothing below the program is proved. What it builds is
+somewhat slower than a proved program, which needs no checks. RT names another 'rt'.
+"""
+from __future__ import annotations
+
+import argparse
+import subprocess
+import sys
+import tempfile
+from pathlib import Path
+
+sys.dont_write_bytecode = True
+REPOSITORY = Path(__file__).resolve().parent.parent
+sys.path.insert(0, str(REPOSITORY / ".ci"))
+from unproved import Fault, command, kit  # noqa: E402
+from unproved_archive import clang, toolchain_with_a_copy  # noqa: E402
+
+
+def module(root: Path, name: str, folder: Path) -> Path:
+    """The program's module, as the toolchain writes it for `rt try`."""
+    tools = kit()
+    kept = toolchain_with_a_copy(tools, folder / "toolchain")
+    words = [str(kept) if it == f"{tools}/toolchain" else it for it in command(root, name, ["--seconds", "60"])]
+    ran = subprocess.run(words, cwd=root / "crates" / name, stdin=subprocess.DEVNULL, capture_output=True, text=True,
+                         check=False)
+    if not (kept / "module.bc").exists():
+        raise Fault(f"{name} was not compiled:\n{ran.stdout}{ran.stderr}")
+    return kept / "module.bc"
+
+
+def build(root: Path, name: str, to: Path) -> None:
+    """Builds a program of a checkout, and puts it at this path."""
+    tools = kit()
+    with tempfile.TemporaryDirectory(prefix="unproved-") as room:
+        folder = Path(room)
+        text, objects = folder / "program.ll", folder / "program.o"
+        clang(tools, ["-x", "ir", str(module(root, name, folder)), "-S", "-emit-llvm", "-o", str(text)])
+        text.write_text(text.read_text().replace(" sanitize_address", ""))
+        clang(tools, ["-x", "ir", str(text), "-O3", "-c", "-o", str(objects)])
+        libraries = [f"{tools}/c/libos_c.a", f"{tools}/c/liblibc_c.a", "-lpthread", "-lm"]
+        ran = subprocess.run(["cc", "-o", str(to), str(objects), *libraries], capture_output=True, text=True, check=False)
+        if ran.returncode:
+            raise Fault(f"cc failed: {ran.stderr}")
+
+
+def main(words: list[str]) -> None:
+    asked = argparse.ArgumentParser(description=(__doc__ or "").splitlines()[0])
+    asked.add_argument("program")
+    asked.add_argument("to", type=Path)
+    asked.add_argument("--in", dest="root", type=Path, default=REPOSITORY, metavar="FOLDER")
+    found = asked.parse_args(words)
+    build(found.root.resolve(), found.program, found.to.resolve())
+
+
+if __name__ == "__main__":
+    try:
+        main(sys.argv[1:])
+    except Fault as fault:
+        sys.exit(f"build_unproved.py: {fault}")
