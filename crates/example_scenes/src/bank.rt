@@ -228,6 +228,17 @@ impl Display for Bank {
 }
 
 impl Bank {
+    /// The result of the scene that these desks played.
+    fn of(works: &[Stage<Clerk<'_>>]) -> Bank {
+        let mut bank = Bank { orders: 0, sum: 0 };
+        for desk in 0..DESKS {
+            if let Some(stage) = works.get(desk as usize) {
+                bank.add(desk, stage);
+            }
+        }
+        bank
+    }
+
     /// Adds the account of that desk.
     fn add(&mut self, desk: u8, stage: &Stage<Clerk<'_>>) {
         if let Some(Clerk::Account(account)) = stage.crew().behaviour(first_of(desk)) {
@@ -257,11 +268,5 @@ pub fn play<R: Threads + Wait + Sync>(rt: &R, alloc: Global) -> Result<Bank> {
         desk_of(alloc, &curtain),
     ];
     let works = stage::play(rt, alloc, 4, stages, &curtain)?;
-    let mut bank = Bank { orders: 0, sum: 0 };
-    for desk in 0..DESKS {
-        if let Some(stage) = works.get(desk as usize) {
-            bank.add(desk, stage);
-        }
-    }
-    Ok(bank)
+    Ok(Bank::of(works.as_slice()))
 }

@@ -189,6 +189,26 @@ impl Display for Chat {
     }
 }
 
+impl Chat {
+    /// The result of the scene that these desks played.
+    fn of(works: &[Stage<Talker<'_>>]) -> Chat {
+        let mut chat = Chat {
+            heard: 0,
+            crashed: 0,
+            left: 0,
+        };
+        for stage in works.iter() {
+            if let Some(Talker::Room(hall)) = stage.crew().behaviour(first_of(0)) {
+                chat.heard = hall.heard;
+                chat.crashed = hall.crashed;
+            } else {
+                chat.left = chat.left.saturating_add(stage.crew().len());
+            }
+        }
+        chat
+    }
+}
+
 fn room<'a>(alloc: Global, curtain: &'a Curtain) -> Stage<Talker<'a>> {
     let hall = Hall {
         guests: [None; 3],
@@ -213,18 +233,5 @@ pub fn play<R: Threads + Wait + Sync>(rt: &R, alloc: Global) -> Result<Chat> {
         guest(alloc),
     ];
     let works = stage::play(rt, alloc, 4, stages, &curtain)?;
-    let mut chat = Chat {
-        heard: 0,
-        crashed: 0,
-        left: 0,
-    };
-    for stage in works.iter() {
-        if let Some(Talker::Room(hall)) = stage.crew().behaviour(first_of(0)) {
-            chat.heard = hall.heard;
-            chat.crashed = hall.crashed;
-        } else {
-            chat.left = chat.left.saturating_add(stage.crew().len());
-        }
-    }
-    Ok(chat)
+    Ok(Chat::of(works.as_slice()))
 }

@@ -420,6 +420,23 @@ impl Display for Jobs {
 }
 
 impl Jobs {
+    /// The result of the scene that these desks played.
+    fn of(works: &[Stage<Actor<'_>>]) -> Jobs {
+        let mut jobs = Jobs {
+            open: 0,
+            answered: 0,
+            done: 0,
+            crashed: 0,
+            living: 0,
+        };
+        for desk in 0..DESKS {
+            if let Some(stage) = works.get(desk as usize) {
+                jobs.add(desk, stage);
+            }
+        }
+        jobs
+    }
+
     /// What is said of the crashes. Two workers that crash over every fifth job do thirty in six or seven lives, and two
     /// that go on.
     fn crashes(&self) -> &'static str {
@@ -473,17 +490,5 @@ pub fn play<R: Threads + Wait + Sync>(rt: &R, alloc: Global) -> Result<Jobs>
         made_client(alloc, &curtain),
     ];
     let works = stage::play(rt, alloc, 16, stages, &curtain)?;
-    let mut jobs = Jobs {
-        open: 0,
-        answered: 0,
-        done: 0,
-        crashed: 0,
-        living: 0,
-    };
-    for desk in 0..DESKS {
-        if let Some(stage) = works.get(desk as usize) {
-            jobs.add(desk, stage);
-        }
-    }
-    Ok(jobs)
+    Ok(Jobs::of(works.as_slice()))
 }

@@ -175,6 +175,21 @@ impl Display for Ring {
 }
 
 impl Ring {
+    /// The result of the scene that these desks played.
+    fn of(works: &[Stage<Runner<'_>>]) -> Ring {
+        let mut ring = Ring {
+            processes: 0,
+            least: u64::MAX,
+            most: 0,
+        };
+        for desk in 0..DESKS {
+            if let Some(stage) = works.get(desk as usize) {
+                ring.add_desk(desk, stage);
+            }
+        }
+        ring
+    }
+
     /// Adds a process, which got the number so often.
     fn add(&mut self, heard: u64) {
         self.processes = self.processes.saturating_add(1);
@@ -207,15 +222,5 @@ pub fn play<R: Threads + Wait + Sync>(rt: &R, alloc: Global) -> Result<Ring> {
         desk_of(alloc, 0, &curtain),
     ];
     let works = stage::play(rt, alloc, EACH, stages, &curtain)?;
-    let mut ring = Ring {
-        processes: 0,
-        least: u64::MAX,
-        most: 0,
-    };
-    for desk in 0..DESKS {
-        if let Some(stage) = works.get(desk as usize) {
-            ring.add_desk(desk, stage);
-        }
-    }
-    Ok(ring)
+    Ok(Ring::of(works.as_slice()))
 }

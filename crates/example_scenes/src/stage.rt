@@ -162,14 +162,36 @@ pub fn play<R: Threads + Wait + Sync, B: Behaviour + Drop + Send>(
         bail!("no memory for the stages");
     };
     let mut works = resting(alloc, stages, curtain)?;
+    act(rt, alloc, slots, &mut works, curtain)?;
+    Ok(rested(alloc, works)?)
+}
+
+/// Opens the node of a scene, and runs it.
+fn act<R: Threads + Wait + Sync, B: Behaviour + Drop + Send>(
+    rt: &R,
+    alloc: Global,
+    slots: u32,
+    works: &mut Vec<RestingWork<'_, Stage<B>>>,
+    curtain: &Curtain,
+) -> Result<()> {
     let config = Config::DEFAULT.with_desks(DESKS).with_slots(slots);
     let mut node = Node::open(alloc, config)?;
-    if node.run_single(&mut works, 1, BUDGET, &FreeGate).is_err() {
+    run(rt, &mut node, works, curtain)
+}
+
+/// Runs the node of a scene until the curtain falls.
+fn run<R: Threads + Wait + Sync, B: Behaviour + Drop + Send>(
+    rt: &R,
+    node: &mut Node,
+    works: &mut Vec<RestingWork<'_, Stage<B>>>,
+    curtain: &Curtain,
+) -> Result<()> {
+    if node.run_single(works, 1, BUDGET, &FreeGate).is_err() {
         bail!("the first processes do not enter");
     }
     let gate = curtain.gate(rt);
-    if node.run(rt, &mut works, u64::MAX, BUDGET, &gate).is_err() {
+    if node.run(rt, works, u64::MAX, BUDGET, &gate).is_err() {
         bail!("the scene does not run");
     }
-    Ok(rested(alloc, works)?)
+    Ok(())
 }
