@@ -1,6 +1,6 @@
 -- What going on comes to, from what its stages tell.
-use Rattle.std.proofs.Common.{◌≡◌, ◌≢◌, ℕ, zero, suc, Bool, true, false, List, Option, Some, None, length, refl, sym, ap, ◌∙◌, subst, arith}
-use Rattle.std.specs.Prelude.{◌||◌, MatchBool, is_some}
+use Rattle.std.proofs.Common.{◌≡◌, ◌≢◌, ℕ, zero, suc, Bool, true, false, List, Some, None, length, refl, ◌∙◌, subst, arith}
+use Rattle.std.specs.Prelude.{◌||◌, MatchBool}
 use Rattle.pt_signal.specs.declared.config.OpenError.TheVariants.{Bounds}
 use Rattle.pt_signal.specs.declared.config.Setting.TheVariants.{Desks}
 use Rattle.pt_desk.specs.DeskState.{DeskState}

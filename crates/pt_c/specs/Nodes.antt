@@ -18,7 +18,7 @@ use Rattle.pt_gathered.specs.Lawful.{WatchesStand, QuestionsAnswered, IsBounded}
 use Rattle.pt_gathered.specs.Settling.{Runs, Settles, NothingLeft}
 use Rattle.pt_gathered.specs.Order.{Passes, SettlingStops}
 use Rattle.pt_gathered.specs.Quiet.{QuietState}
-use Rattle.pt_workers.specs.Desks.{AreDesks, desk_kept}
+use Rattle.pt_workers.specs.Desks.{desk_kept}
 use Rattle.pt_node.specs.Opening.{AreFresh}
 use Rattle.pt_node.specs.Gathering.{Gathers, HasJournalsOf, ReadsAreTrue}
 use Rattle.pt_node.specs.Resuming.{Resumes}

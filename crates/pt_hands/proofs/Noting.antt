@@ -1,5 +1,5 @@
 -- What the hands know of their desk stays so, and the exits of its journal are noted.
-use Rattle.std.proofs.Common.{◌≡◌, ℕ, ◌+◌, ◌<◌, ◌≤◌, Bool, true, false, cond, List, [], ◌∷◌, ◌++◌, length, reverse, get_or, Option, Some, None, refl, sym, ap, subst, ◌∙◌, append_assoc, append-nil, length-append, arith, Result, Ok, Err}
+use Rattle.std.proofs.Common.{◌≡◌, ℕ, ◌+◌, ◌<◌, Bool, true, false, cond, List, [], ◌∷◌, ◌++◌, length, reverse, get_or, Option, Some, None, refl, sym, ap, subst, ◌∙◌, append_assoc, append-nil, arith, Result, Ok, Err}
 use Rattle.std.specs.Prelude.{IfOk, IfErr, MatchBool, OnErr, OnOk}
 use Rattle.std.specs.Option.{option_map}
 use Rattle.std.proofs.lemmas.List.{length-reverse, get_or_default}
@@ -8,14 +8,14 @@ use Rattle.pt_signal.specs.declared.ids.LinkId.{LinkId}
 use Rattle.pt_signal.specs.declared.reason.Reason.{Reason}
 use Rattle.pt_signal.specs.declared.item.Item.{Item}
 use Rattle.pt_signal.specs.Values.{same_pid}
-use Rattle.pt_signal.proofs.Same.{same_pid_refl, same_pid_is}
+use Rattle.pt_signal.proofs.Same.{same_pid_is}
 use Rattle.pt_events.specs.declared.event.Event.{Event}
 use Rattle.pt_events.specs.declared.event.Event.TheVariants.{Born, Said, Came, Took, Flag, Left, Refused}
 use Rattle.pt_events.specs.declared.event.Stamped.{Stamped}
-use Rattle.pt_events.specs.History.{Start, Phase, unborn, living, ended, alive, is_living, is_unborn, life}
+use Rattle.pt_events.specs.History.{Start, Phase, unborn, living, ended, is_living, is_unborn, life}
 use Rattle.pt_events.specs.Journal.{IsLocal, MayHere, events}
 use Rattle.pt_events.proofs.Phases.{was_unborn}
-use Rattle.pt_shard.specs.ShardState.{ShardState, lives, phase_of, shard_after}
+use Rattle.pt_shard.specs.ShardState.{ShardState, lives, shard_after}
 use Rattle.pt_shard.specs.Calls.{Bears}
 use Rattle.pt_shard.specs.Extends.{Extends}
 use Rattle.pt_workers.proofs.Unread.{Oldest, oldest}
@@ -30,7 +30,7 @@ use Rattle.pt_crew.proofs.Waking.{by_cases, elsewhere, knows_later, there, same_
 use Rattle.pt_hands.specs.declared.hand.Hand.{Hand}
 use Rattle.pt_hands.specs.declared.hand.Job.{Job}
 use Rattle.pt_hands.specs.declared.hands.Hands.{Hands}
-use Rattle.pt_hands.specs.Pulling.{AttendsHands, HandView, NoneNoted, Noted, NotesLost, SameViews, exit_by, exit_in, hand_view, hand_views, new_hand, what_of}
+use Rattle.pt_hands.specs.Pulling.{AttendsHands, HandView, NoneNoted, NotesLost, SameViews, exit_by, exit_in, hand_view, hand_views, new_hand, what_of}
 use Rattle.pt_hands.specs.Taking.{NotesExit, TakesHeld, TakesJob, TakesOf}
 
 -- what is seen of a hand ------------------------------------------------------------------------

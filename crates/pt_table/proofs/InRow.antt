@@ -1,5 +1,5 @@
 -- Handles in a row: what they have, before one of them changes and after.
-use Rattle.std.proofs.Common.{◌≡◌, ℕ, suc, ◌+◌, ◌≤◌, ◌<◌, ◌-◌, Bool, true, false, List, [], ◌∷◌, ◌++◌, Option, Some, None, length, map, set, get_or, refl, sym, ap, ◌∙◌, subst, arith}
+use Rattle.std.proofs.Common.{◌≡◌, ℕ, ◌+◌, ◌≤◌, ◌<◌, ◌-◌, Bool, true, false, List, [], ◌∷◌, ◌++◌, Option, Some, None, length, map, set, get_or, refl, sym, ap, ◌∙◌, arith}
 use Rattle.std.specs.Prelude.{replicate, is_some, IsSome, cond}
 use Rattle.std.specs.Option.{option_map}
 use mir.Val.{bool_byte}

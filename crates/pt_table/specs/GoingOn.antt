@@ -1,5 +1,5 @@
 -- The crews of a node that goes on, in their handles.
-use Rattle.std.specs.Prelude.{⊤, ◌≡◌, List, [], ◌∷◌, Option, Some, None}
+use Rattle.std.specs.Prelude.{⊤, ◌≡◌, List, [], ◌∷◌, Some}
 use Rattle.pt_events.specs.declared.event.Stamped.{Stamped}
 use Rattle.pt_hands.specs.declared.hands.Hands.{Hands}
 use Rattle.pt_hands.specs.Pulling.{HandsGoOn}

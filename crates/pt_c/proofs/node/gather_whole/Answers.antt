@@ -1,6 +1,5 @@
 -- `gather_whole`: its contract, and what its call of `gather_all` asks.
 use Rattle.std.proofs.Common.{map, refl, sym, ◌∙◌}
-use Rattle.std.proofs.lemmas.List.{length-map}
 use Rattle.pt_c.proofs.Joining.{joined, no_memory, was_full}
 use Rattle.pt_c.proofs.node.gather_whole.Goals as goal
 

@@ -1,5 +1,5 @@
 -- `count_crews`: what holds in its loop over `k`.
-use Rattle.std.proofs.Common.{◌≡◌, ℕ, List, ◌++◌, map, length}
+use Rattle.std.proofs.Common.{◌≡◌, List, ◌++◌, map, length}
 use Rattle.pt_hands.specs.declared.hands.Hands.{Hands}
 use Rattle.pt_table.specs.Answers.{HandlePlace, values}
 use Rattle.pt_table.proofs.rows.count_crews.Given as goal
