@@ -1,5 +1,5 @@
 /* A code that means nothing, in each field of each call that gets one: the call answers PT_BAD_CODE, before it looks at
- * the desk, and nothing has changed. */
+ * the desk, and nothing has changed. So it is with a crew that is used with another desk, or with none. */
 #include <assert.h>
 #include <stdio.h>
 #include <string.h>
@@ -160,6 +160,76 @@ static int empty_crews(void) {
     return tried;
 }
 
+/* Swaps two crews. */
+static void swap_crews(pt_crew *crews) {
+    void *first = crews[0].at;
+    crews[0].at = crews[1].at;
+    crews[1].at = first;
+}
+
+/* Each call of a crew over a desk that is another's: nothing is written, and nothing has changed. */
+static int other_desk(pt_crew *crew, pt_desk *desk, pt_pid p) {
+    const pt_next first = {.code = PT_NEXT_PROCEED};
+    struct { pt_pid pid; pt_job jobs[2]; size_t count; pt_turned turned; bool yes; } out, was;
+    memset(&out, 0xA5, sizeof out);
+    memcpy(&was, &out, sizeof out);
+    const uint32_t codes[] = {
+        pt_crew_spawn(crew, desk, 7, first, &out.pid), pt_crew_spawn_child(crew, desk, p, true, 7, first, &out.pid),
+        pt_crew_step(crew, desk, 9, out.jobs, 2, &out.count, &out.turned), pt_crew_note_loss(crew, desk, 0),
+        pt_crew_is_idle(crew, desk, &out.yes),
+    };
+    const int tried = sizeof codes / sizeof *codes;
+    for (int k = 0; k < tried; k++) assert(codes[k] == PT_WRONG_DESK);
+    /* behind PT_BAD_CODE */
+    assert(pt_crew_spawn(crew, desk, 7, (pt_next){.code = 9}, &out.pid) == PT_BAD_CODE);
+    assert(!memcmp(&was, &out, sizeof out));
+    return tried;
+}
+
+/* A crew is that of its first desk, also once its node has gone on. One that has none yet may be that of any. */
+static int wrong_desks(void) {
+    pt_desk desks[2] = {PT_NO_DESK, PT_NO_DESK};
+    pt_crew crews[2] = {PT_NO_CREW, PT_NO_CREW}, free_one = PT_NO_CREW;
+    pt_gathered gathered = PT_NO_GATHERED;
+    pt_settled settled = PT_NO_SETTLED;
+    pt_history history = PT_NO_HISTORY;
+    pt_job jobs[4];
+    pt_turned turned;
+    pt_pid pids[2], p;
+    size_t count, taken;
+    bool is_idle;
+    int tried = 0;
+    open_two(desks, crews, pids);
+    for (int round = 0; round < 2; round++) {
+        node_state before = state_of_node(desks, crews, pids);
+        tried += other_desk(&crews[1], &desks[0], pids[0]) + other_desk(&crews[0], &desks[1], pids[1]);
+        assert(is_same_node(before, state_of_node(desks, crews, pids)));
+        swap_crews(crews);
+        assert(pt_crews_go_on(crews, 2, desks, 2, &gathered, &settled, &history) == PT_WRONG_DESK), tried++;
+        assert(gathered.at == NULL && settled.at == NULL && history.at == NULL);
+        swap_crews(crews);
+        assert(is_same_node(before, state_of_node(desks, crews, pids)));
+        for (int k = 0; k < 2; k++) {
+            assert(pt_crew_step(&crews[k], &desks[k], 9, jobs, 4, &count, &turned) == PT_OK && count == 1);
+            assert(jobs[0].tag == 7 && jobs[0].code == (round == 0 ? PT_JOB_START : PT_JOB_PROCEED));
+            pt_answer answer = {pids[k], {.code = PT_NEXT_PROCEED}};
+            assert(pt_crew_answer(&crews[k], &answer, 1, &taken) == PT_OK);
+        }
+        assert(pt_crews_go_on(crews, 2, desks, 2, &gathered, &settled, &history) == PT_OK);
+        assert(pt_history_give_up(&history) == PT_OK);
+    }
+    /* what only reads or fails makes it nobody's; a step or a process does */
+    assert(pt_crew_open(&free_one) == PT_OK && pt_crew_note_loss(&free_one, &desks[1], 0) == PT_NOTHING);
+    assert(pt_crew_is_idle(&free_one, &desks[1], &is_idle) == PT_OK);
+    assert(pt_crew_spawn_child(&free_one, &desks[1], (pt_pid){1, 3, 9}, false, 7, (pt_next){.code = PT_NEXT_PROCEED}, &p)
+        == PT_GONE);
+    assert(pt_crew_step(&free_one, &desks[0], 9, jobs, 4, &count, &turned) == PT_OK && count == 0);
+    assert(pt_crew_is_idle(&free_one, &desks[1], &is_idle) == PT_WRONG_DESK);
+    assert(pt_crew_give_up(&free_one) == PT_OK);
+    for (int k = 0; k < 2; k++) assert(pt_crew_give_up(&crews[k]) == PT_OK && pt_give_up(&desks[k]) == PT_OK);
+    return tried;
+}
+
 /* A node that may not go on: it is as it was, and goes on once all is right. */
 static int going_on(void) {
     pt_desk desks[2] = {PT_NO_DESK, PT_NO_DESK}, others[2] = {PT_NO_DESK, PT_NO_DESK}, missing[2] = {PT_NO_DESK, PT_NO_DESK};
@@ -254,5 +324,6 @@ int main(void) {
     printf("c: %d bad codes in 3 calls and %d in 3 calls of a crew, each refused\n", tried, crews());
     int empty = empty_crews();
     printf("c: %d calls of a crew without a handle and %d of a node that may not go on, each refused\n", empty, going_on());
+    printf("c: %d calls of a crew over the desk of another, each refused\n", wrong_desks());
     return 0;
 }

@@ -16,7 +16,8 @@
  *  - a bool is 0 or 1. A code in a struct that is passed in may have any value: PT_BAD_CODE answers one that means
  *    nothing;
  *  - a crew is used with one desk alone: that of its first call, or, after pt_crews_go_on or pt_crew_begin_again, the
- *    desk of the same number in the node that was resumed;
+ *    desk of the same number in the node that was resumed. A desk of another number is refused by PT_WRONG_DESK, but
+ *    one of the same number in another node is not seen to be another;
  *  - pt_gather and pt_crews_go_on get desks of one pt_open or of one resumption: they see whether these are all, and in
  *    order, but not whether they are of one node;
  *  - malloc, realloc and free come from one allocator, with malloc's usual alignment; no call is made from a signal
@@ -79,7 +80,8 @@ enum pt_code {
     PT_BAD_LANE = 14,       /* 1 to 65,536 */
     PT_BAD_START = 15,      /* at most 2^62 */
     PT_BAD_CODE = 16,       /* a code in a struct that was passed in means nothing */
-    PT_NOT_RUNNING = 17     /* an answer for a process that was told nothing, or has been answered */
+    PT_NOT_RUNNING = 17,    /* an answer for a process that was told nothing, or has been answered */
+    PT_WRONG_DESK = 18      /* the crew is that of a desk with another number */
 };
 
 /* The name of a process: its desk, its slot there, and how often the slot was given out. No two have the same. */
@@ -269,7 +271,9 @@ uint32_t pt_loss_item(pt_desk *desk, size_t place, size_t item, pt_item *out);
 /* The oldest was told, and is kept no longer. PT_NOTHING: there was none. */
 uint32_t pt_next_loss(pt_desk *desk);
 
-/* ---- crews: the processes of one desk whose handlers are yours. Each may answer PT_EMPTY, which comes first
+/* ---- crews: the processes of one desk whose handlers are yours. Each may answer PT_EMPTY, which comes first. Each that
+ * gets a desk answers PT_WRONG_DESK if the crew is that of a desk with another number; PT_BAD_CODE alone comes before
+ * that, and nothing has changed.
  *
  * A loop is: pt_crew_step; for each job its handler, which makes calls of the desk as it likes, and for each job but
  * PT_JOB_EXIT an answer, then or later; pt_crew_answer. A handler takes no item from the mailbox of a process of the crew
@@ -279,7 +283,8 @@ uint32_t pt_next_loss(pt_desk *desk);
  * crew is idle (pt_crew_is_idle) and no letter waits (pt_pending), nothing is to be done before the time that
  * pt_crew_next_time tells, unless another desk sends something. */
 
-/* Begins the crew of a desk, with no process and at the time 0. PT_FILLED, PT_MEMORY. */
+/* Begins a crew, with no process and at the time 0. It is that of the desk on which it spawns its first process or makes
+ * its first step. PT_FILLED, PT_MEMORY. */
 uint32_t pt_crew_open(pt_crew *crew);
 
 /* Spawns a process on the desk as pt_spawn and pt_spawn_child do. It is of the crew then, with this tag, and does `first`
@@ -326,8 +331,9 @@ uint32_t pt_crew_begin_again(pt_crew *crew);
  * The four handles of one node are those of the desks, `gathered`, `settled` and `history`. At first the desks are full,
  * and the other three are empty. What is refused, in this order:
  *  - nothing has changed: PT_EMPTY: a crew is missing. PT_BAD_DESKS: there are not as many crews as desks. PT_FILLED:
- *    `history` is not empty, or some desk is not while `gathered` or `settled` has a node. Then as pt_gather: PT_EMPTY,
- *    PT_BAD_DESKS, and PT_MEMORY, where all desks are full still;
+ *    `history` is not empty. PT_WRONG_DESK: crews[k] is that of a desk with another number than k. PT_FILLED: some desk is
+ *    not empty while `gathered` or `settled` has a node. Then as pt_gather: PT_EMPTY, PT_BAD_DESKS, and PT_MEMORY, where
+ *    all desks are full still;
  *  - the node is in `gathered`, with what was handled so far, and the desks are empty: PT_MEMORY; PT_WORN: a clock stands
  *    at its limit;
  *  - the node is in `settled`, and all else is empty: PT_MEMORY.
@@ -426,7 +432,7 @@ uint32_t pt_history_left_at(pt_history *history, size_t place, pt_left_over *out
 typedef struct {
     uint32_t
         done, full, memory, worn, gone, myself, noproc, unknown, nothing, empty, filled, bad_desks, bad_slots,
-        bad_top_version, bad_lane, bad_start, bad_code, not_running, reason_normal, reason_kill, reason_killed,
+        bad_top_version, bad_lane, bad_start, bad_code, not_running, wrong_desk, reason_normal, reason_kill, reason_killed,
         reason_noproc, reason_shutdown, reason_other, item_user, item_exit, item_down, item_alive, pick_kind, pick_from,
         pick_exit_of, pick_down_of, pick_alive_of, pick_any, signal_message, signal_link, signal_unlink,
         signal_exit, signal_link_exit, signal_monitor, signal_demonitor, signal_down, signal_alive_ask,

@@ -106,6 +106,7 @@ class Code(IntEnum):
     BAD_START = 15
     BAD_CODE = 16
     NOT_RUNNING = 17
+    WRONG_DESK = 18
 
 
 # A named tuple of checked fields without the checks, for fields that the library wrote.

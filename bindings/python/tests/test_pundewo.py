@@ -325,6 +325,32 @@ class BadCodes(unittest.TestCase):
             self.assertEqual(self.desk._call(call, *words), Code.EMPTY)
 
 
+class OtherDesks(unittest.TestCase):
+    """A crew over the desk of another, which the module itself refuses: the library does so too, and nothing has changed."""
+
+    def test_each_call_over_a_desk_refuses_another(self) -> None:
+        own, other = p.open_node(2)
+        crew = p.Crew(own)
+        pid = crew.spawn(own, 3)
+        first, jobs = CNext(2), (CJob * 1)()
+        count, turned, idle, out = c.c_size_t(7), CTurned(posted=7), c.c_bool(True), CPid(7, 7, 7)
+        at = other._at
+        calls: list[Any] = [
+            (lib.pt_crew_spawn, at, 3, first, c.byref(out)),
+            (lib.pt_crew_spawn_child, at, CPid(*pid), True, 3, first, c.byref(out)),
+            (lib.pt_crew_step, at, 9, jobs, 1, c.byref(count), c.byref(turned)),
+            (lib.pt_crew_note_loss, at, 0), (lib.pt_crew_is_idle, at, c.byref(idle)),
+        ]
+        for call, *words in calls:
+            with self.assertRaises(Fault) as caught:
+                crew._must(call, *words)
+            self.assertEqual(caught.exception.code, Code.WRONG_DESK)
+            self.assertRegex(str(caught.exception), r"^Crew\..*: wrong_desk$")
+        self.assertEqual((count.value, turned.posted, idle.value, out.slot), (7, 7, True, 7))
+        self.assertEqual((joined(other.events()), len(crew), crew.queued(), crew.is_idle(own)), ("nothing", 1, 1, False))
+        self.assertEqual([job.pid for job in crew.step(own)[0]], [pid])
+
+
 class Handles(unittest.TestCase):
     def test_a_closed_desk_is_empty(self) -> None:
         (desk,) = p.open_node()

@@ -143,6 +143,7 @@ fn fault_of(code: u32) -> Fault {
         15 => Fault::BadStart,
         16 => Fault::BadCode,
         17 => Fault::NotRunning,
+        18 => Fault::WrongDesk,
         _ => unreachable!("the library answered {code}"),
     }
 }

@@ -74,6 +74,37 @@ fn a_bad_code_comes_before_what_the_desk_refuses_and_behind_an_empty_handle() {
     assert_eq!(unsafe { pt_give_up(&mut handle) }, 0);
 }
 
+/// The library refuses a crew with the desk of another, before this crate's own test of nodes and numbers.
+#[test]
+fn a_crew_with_another_desk_is_refused_and_changes_nothing() {
+    let foreign = Fault::WrongDesk as u32;
+    let mut handles = [Handle { at: null_mut() }, Handle { at: null_mut() }];
+    let mut crew = Handle { at: null_mut() };
+    let (mut p, mut jobs, first) = (Pid::default(), [RawJob { code: 77, ..RawJob::default() }], RawNext::default());
+    let (mut count, mut turned, mut idle) = (7, RawTurned { posted: 7, ..RawTurned::default() }, true);
+    // SAFETY: each handle is the only one of its desk or crew; the references are to separate values.
+    unsafe {
+        assert_eq!(pt_open(handles.as_mut_ptr(), 2, Config { slots: 4, ..Config::DEFAULT }), 0);
+        assert_eq!(pt_crew_open(&mut crew), 0);
+        let [own, other] = &mut handles;
+        let wait = RawNext { pick: RawPick { code: 5, ..RawPick::default() }, ..first };
+        assert_eq!(pt_crew_spawn(&mut crew, own, 3, wait, &mut p), 0);
+        let mut out = Pid { shard: 7, slot: 7, version: 7 };
+        assert_eq!(pt_crew_spawn(&mut crew, other, 3, wait, &mut out), foreign);
+        assert_eq!(pt_crew_spawn_child(&mut crew, other, p, true, 3, wait, &mut out), foreign);
+        assert_eq!(out, Pid { shard: 7, slot: 7, version: 7 });
+        assert_eq!(pt_crew_step(&mut crew, other, 9, jobs.as_mut_ptr(), 1, &mut count, &mut turned), foreign);
+        assert_eq!((jobs[0].code, count, turned.posted), (77, 7, 7));
+        assert_eq!(pt_crew_note_loss(&mut crew, other, 0), foreign);
+        assert_eq!((pt_crew_is_idle(&mut crew, other, &mut idle), idle), (foreign, true));
+        let mut events = 0;
+        assert_eq!((pt_event_count(other, &mut events), events), (0, 0));
+        assert_eq!((pt_crew_len(&mut crew, &mut count), count), (0, 1));
+        assert_eq!((pt_crew_is_idle(&mut crew, own, &mut idle), idle), (0, false));
+        assert_eq!((pt_crew_give_up(&mut crew), pt_give_up(own), pt_give_up(other)), (0, 0, 0));
+    }
+}
+
 #[test]
 fn the_fault_says_what_is_wrong() {
     assert_eq!(Fault::BadCode.to_string(), "the code of a pick or of a reason means nothing");

@@ -7,8 +7,9 @@ use Rattle.pt_desk.specs.DeskState.{DeskState}
 use Rattle.pt_gathered.specs.Gathered.{GatheredState}
 use Rattle.pt_gathered.specs.Quiet.{QuietState}
 use Rattle.pt_hands.specs.declared.hands.Hands.{Hands}
-use Rattle.pt_table.specs.Codes.{empty, filled, open_code}
+use Rattle.pt_table.specs.Codes.{empty, filled, open_code, wrong_desk}
 use Rattle.pt_table.specs.Answers.{HandlePlace, HistoryState, value_behind, values}
+use Rattle.pt_table.specs.Owning.{are_own}
 use Rattle.pt_c.specs.Nodes.{GathersAs, HandleTells, IfEmpty, IfNone, IsQuietHistoryOf, ResumesAs, SettlesAs}
 use Rattle.pt_c.specs.GoingOn.{AreAllCrews, GathersFirst, GoOnWith, IfPassed, NodeGoesOn, Places, ResumesWithCrews, SettlesFirst, Stages, has}
 
@@ -104,6 +105,7 @@ module _ (code : ℕ) (old new : Places) where
     no_crew = λ n. (is, same);
     not_as_many = λ all. absurd (not all);
     told_before = λ all. absurd (not all);
+    not_own = λ all. absurd (not all);
     stages = λ all. absurd (not all);
   }
 
@@ -112,6 +114,7 @@ module _ (code : ℕ) (old new : Places) where
     no_crew = λ n. absurd (n all);
     not_as_many = λ a n. (is, same);
     told_before = λ a e. absurd (other e);
+    not_own = λ a e. absurd (other e);
     stages = λ a e. absurd (other e);
   }
 
@@ -120,15 +123,26 @@ module _ (code : ℕ) (old new : Places) where
     no_crew = λ n. absurd (n all);
     not_as_many = λ a n. absurd (n count);
     told_before = λ a e h. (is, same);
+    not_own = λ a e none. absurd (cc (there, none));
     stages = λ a e none. absurd (cc (there, none));
   }
 
-  pub by_stages : AreAllCrews old.crews → length old.crews ≡ length old.desks → has old.history ≡ false → Stages code old new → NodeGoesOn code old new
-  by_stages all count none s = record {
+  pub foreign_crew : code ≡ wrong_desk → new ≡ old → AreAllCrews old.crews → length old.crews ≡ length old.desks → has old.history ≡ false → are_own 0 old.crews ≡ false → NodeGoesOn code old new
+  foreign_crew is same all count none foreign = record {
     no_crew = λ n. absurd (n all);
     not_as_many = λ a n. absurd (n count);
     told_before = λ a e there. absurd (cc (there, none));
-    stages = λ a e n. s;
+    not_own = λ a e n f. (is, same);
+    stages = λ a e n own. absurd (cc (foreign, own));
+  }
+
+  pub by_stages : AreAllCrews old.crews → length old.crews ≡ length old.desks → has old.history ≡ false → are_own 0 old.crews ≡ true → Stages code old new → NodeGoesOn code old new
+  by_stages all count none own s = record {
+    no_crew = λ n. absurd (n all);
+    not_as_many = λ a n. absurd (n count);
+    told_before = λ a e there. absurd (cc (there, none));
+    not_own = λ a e n foreign. absurd (cc (foreign, own));
+    stages = λ a e n o. s;
   }
 
 -- the stages, where what no stage has changed is as it was

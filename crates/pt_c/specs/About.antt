@@ -42,6 +42,7 @@ all_codes = record {
   bad_start = 15;
   bad_code = 16;
   not_running = 17;
+  wrong_desk = 18;
   reason_normal = 0;
   reason_kill = 1;
   reason_killed = 2;
@@ -108,6 +109,7 @@ with_answers c = record c {
   bad_start = 15;
   bad_code = 16;
   not_running = 17;
+  wrong_desk = 18;
 }
 
 -- of which these are of reasons, of items and of picks

@@ -1,13 +1,12 @@
 -- What opening a crew, its time and its answers leave in the handle.
-use Rattle.std.specs.Prelude.{◌≡◌, ◌⊎◌, ℕ, Bool, true, List, [], Option, None}
+use Rattle.std.specs.Prelude.{◌≡◌, ◌⊎◌, ℕ, List, [], Option, None}
 use Rattle.pt_signal.specs.declared.pid.Pid.{Pid}
 use Rattle.pt_shard.specs.ShardState.{ShardState}
-use Rattle.pt_desk.specs.DeskState.{DeskState}
 use Rattle.pt_crew.specs.Crews.{queue, roles, time_of, was_refused}
-use Rattle.pt_crew.specs.Running.{is_idle}
 use Rattle.pt_crew.specs.Visiting.{AreSame}
 use Rattle.pt_hands.specs.declared.hands.Hands.{Hands}
-use Rattle.pt_hands.specs.Pulling.{AttendsHands, NoneNoted, crew_of}
+use Rattle.pt_hands.specs.Owning.{desk_of}
+use Rattle.pt_hands.specs.Pulling.{AttendsHands, crew_of}
 use Rattle.pt_table.specs.declared.types.PtAnswer.{PtAnswer}
 use Rattle.pt_table.specs.Answers.{HandlePlace, full}
 use Rattle.pt_table.specs.Codes.{filled}
@@ -20,6 +19,7 @@ pub record IsNewCrew (h : Hands) : Type 0 where
   pub nobody : (p : Pid) → roles (crew_of h) p ≡ None
   pub queue : queue (crew_of h) ≡ []
   pub time : time_of (crew_of h) ≡ 0
+  pub desk : desk_of h ≡ None
 
 -- the handle has a new crew; or there was no memory, or it had one already, and it is as it was
 abbrev pub OpensCrew : ℕ → HandlePlace Hands → HandlePlace Hands → Type 0
@@ -34,11 +34,7 @@ pub record SetsCrewTime (now code : ℕ) (old new : Hands) : Type 0 where
   pub roles : AreSame (roles (crew_of old)) (roles (crew_of new))
   pub queue : queue (crew_of new) ≡ queue (crew_of old)
   pub refused : was_refused (crew_of new) ≡ was_refused (crew_of old)
-
--- whether nobody is in the queue, and all was read; then each exit was told
-pub record TellsIdle (h : Hands) (d : DeskState) (yes : Bool) : Type 0 where
-  pub is : yes ≡ is_idle (crew_of h) d.shard
-  pub told : yes ≡ true → AttendsHands h d.shard → NoneNoted h
+  pub desk : desk_of new ≡ desk_of old
 
 pub record AnswersInOrder (answers : List PtAnswer) (code taken : ℕ) (old new : Hands) : Type 0 where
   pub does : TakesAnswers answers code taken old new

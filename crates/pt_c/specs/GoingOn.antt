@@ -6,9 +6,10 @@ use Rattle.pt_desk.specs.DeskState.{DeskState}
 use Rattle.pt_gathered.specs.Gathered.{GatheredState}
 use Rattle.pt_gathered.specs.Quiet.{QuietState}
 use Rattle.pt_hands.specs.declared.hands.Hands.{Hands}
-use Rattle.pt_table.specs.Codes.{empty, filled, open_code}
+use Rattle.pt_table.specs.Codes.{empty, filled, open_code, wrong_desk}
 use Rattle.pt_table.specs.Answers.{HandlePlace, HistoryState, value_behind, values}
 use Rattle.pt_table.specs.GoingOn.{AllCrewsGoOn}
+use Rattle.pt_table.specs.Owning.{are_own}
 use Rattle.pt_c.specs.Nodes.{GathersAs, HandleTells, IfEmpty, IfNone, IsQuietHistoryOf, ResumesAs, SettlesAs}
 
 -- what the handles of the call have
@@ -89,5 +90,7 @@ pub record NodeGoesOn (code : ℕ) (old new : Places) : Type 0 where
       → RefusesWith (open_code (Bounds Desks)) code old new
   pub told_before : AreAllCrews old.crews → length old.crews ≡ length old.desks → has old.history ≡ true
       → RefusesWith filled code old new
+  pub not_own : AreAllCrews old.crews → length old.crews ≡ length old.desks → has old.history ≡ false
+      → are_own 0 old.crews ≡ false → RefusesWith wrong_desk code old new
   pub stages : AreAllCrews old.crews → length old.crews ≡ length old.desks → has old.history ≡ false
-      → Stages code old new
+      → are_own 0 old.crews ≡ true → Stages code old new

@@ -13,7 +13,7 @@ use pt_node::{
     Stamped,
 };
 use pt_table::codes::{
-    BAD_CODE, DONE, EMPTY, FILLED, NOT_RUNNING, NOTHING, UNKNOWN, code_of, open_code,
+    BAD_CODE, DONE, EMPTY, FILLED, NOT_RUNNING, NOTHING, UNKNOWN, WRONG_DESK, code_of, open_code,
 };
 use pt_table::crossing::{event_out, item_out, pick_out, reason_out, signal_out};
 use pt_table::crossing_jobs::{job_out, next_out};
@@ -45,6 +45,7 @@ pub struct PtCodes {
     pub bad_start: u32,
     pub bad_code: u32,
     pub not_running: u32,
+    pub wrong_desk: u32,
     pub reason_normal: u32,
     pub reason_kill: u32,
     pub reason_killed: u32,
@@ -162,6 +163,7 @@ fn with_answers(codes: PtCodes) -> PtCodes
         bad_start: open_code(OpenError::Bounds(Setting::Start)),
         bad_code: BAD_CODE,
         not_running: NOT_RUNNING,
+        wrong_desk: WRONG_DESK,
         ..codes
     }
 }

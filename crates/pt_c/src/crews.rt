@@ -1,17 +1,18 @@
 //! The calls of a crew: the processes of one desk whose handlers are outside.
 //!
 //! Each makes the call of `Hands` that has its name on the crew of the handle, and returns its code. It returns 9 if a
-//! handle has none, and nothing has changed then.
+//! handle has none, and nothing has changed then. Of those that get a desk each returns 18 if the crew is that of a desk
+//! with another number, and nothing has changed then either.
 
 ghost use Rattle.std.specs.Prelude.{◌≡◌, length};
 ghost use Rattle.pt_crew.specs.Crews.{crew_size, queue, was_refused};
 ghost use Rattle.pt_hands.specs.Pulling.{crew_of, hand_views};
 ghost use Rattle.pt_table.specs.Answers.{CallsThrough, ReadsThrough, ShowsCode, full, value_behind};
-ghost use Rattle.pt_table.specs.Losing.{loss_numbered};
-ghost use Rattle.pt_table.specs.Crewing.{CrewBeginsAgain, CrewNotes, CrewSteps, SpawnsChildInCrew, SpawnsInCrew, TakesAnswers, TellsTime};
+ghost use Rattle.pt_table.specs.Crewing.{CrewBeginsAgain, CrewSteps, CrewTells, NotesIfOwn, SpawnsChildInCrew, SpawnsInCrew, TellsTime};
 ghost use Rattle.pt_table.specs.Crossing.{pid_crossed};
 ghost use Rattle.pt_table.specs.Jobs.{next_out};
-ghost use Rattle.pt_c.specs.Crews.{AnswersInOrder, OpensCrew, SetsCrewTime, TellsIdle};
+ghost use Rattle.pt_table.specs.Owning.{IfOwn, is_own};
+ghost use Rattle.pt_c.specs.Crews.{AnswersInOrder, OpensCrew, SetsCrewTime};
 ghost use Rattle.pt_c.specs.Nodes.{GivesUp};
 
 use crate::node::end_code;
@@ -19,14 +20,15 @@ use pt_hands::Hands;
 use pt_table::codes::{DONE, EMPTY, FILLED, MEMORY};
 use pt_table::crew_handle::{CrewHandle, claim, filled, hold, is_full, spare};
 use pt_table::crewing::{
-    answer_all, begin_again, next, next_time, note_loss, spawn, spawn_child, step, tag,
+    answer_all, begin_again, is_idle, next, next_time, note_loss, spawn, spawn_child, step, tag,
 };
 use pt_table::crossing::pid_in;
 use pt_table::desk_handle::{DeskHandle, claim as claim_desk, hold as hold_desk};
 use pt_table::types::{PtAnswer, PtJob, PtNext, PtPid, PtTurned};
 use std::alloc::Global;
 
-/// Begins a crew, with no process and at the time 0. It is for the desk with which its calls are made first.
+/// Begins a crew, with no process and at the time 0. It is that of the desk on which it spawns its first process or makes
+/// its first step.
 ///
 /// The handle must be empty: it returns 10 if it is not.
 #[unsafe(no_mangle)]
@@ -170,7 +172,9 @@ pub extern "C" fn pt_crew_step(
         × (count.new ≡ count.old) × (turned.new ≡ turned.old))
         (λ old new. CallsThrough h.old.state h.new.state result ((new ≡ old) × (jobs.new ≡ jobs.old)
         × (count.new ≡ count.old) × (turned.new ≡ turned.old))
-        (λ d e. (result ≡ 0) × CrewSteps budget jobs.old old d turned.new count.new jobs.new new e)) }
+        (λ d e. IfOwn (is_own old d) result ((new ≡ old) × (e ≡ d) × (jobs.new ≡ jobs.old) × (count.new ≡ count.old)
+        × (turned.new ≡ turned.old))
+        ((result ≡ 0) × CrewSteps budget jobs.old old d turned.new count.new jobs.new new e))) }
 {
     let Some(mut held) = claim(alloc, c) else {
         return EMPTY;
@@ -194,16 +198,15 @@ fn step_on(
 ) -> u32
     ensures { CallsThrough h.old.state h.new.state result ((crew.new ≡ crew.old) × (jobs.new ≡ jobs.old)
         × (count.new ≡ count.old) × (turned.new ≡ turned.old))
-        (λ d e. (result ≡ 0) × CrewSteps budget jobs.old crew.old d turned.new count.new jobs.new crew.new e) }
+        (λ d e. IfOwn (is_own crew.old d) result ((crew.new ≡ crew.old) × (e ≡ d) × (jobs.new ≡ jobs.old)
+        × (count.new ≡ count.old) × (turned.new ≡ turned.old))
+        ((result ≡ 0) × CrewSteps budget jobs.old crew.old d turned.new count.new jobs.new crew.new e)) }
 {
     let Some(mut place) = claim_desk(alloc, h) else {
         return EMPTY;
     };
     let code = match &mut place.desk {
-        Some(desk) => {
-            *turned = step(crew, desk, budget, jobs, count);
-            DONE
-        }
+        Some(desk) => step(crew, desk, budget, jobs, count, turned),
         None => EMPTY,
     };
     *h = hold_desk(place);
@@ -265,7 +268,7 @@ pub extern "C" fn pt_crew_note_loss(
 ) -> u32
     ensures { CallsThrough c.old.state c.new.state result (h.new.state ≡ h.old.state)
         (λ old new. ReadsThrough h.old.state h.new.state result (new ≡ old)
-        (λ d. CrewNotes (loss_numbered d place) result old new)) }
+        (λ d. NotesIfOwn place result old d new)) }
 {
     let Some(mut held) = claim(alloc, c) else {
         return EMPTY;
@@ -280,7 +283,7 @@ pub extern "C" fn pt_crew_note_loss(
 
 fn note_loss_on(alloc: Global, crew: &mut Hands, h: &mut DeskHandle, place: usize) -> u32
     ensures { ReadsThrough h.old.state h.new.state result (crew.new ≡ crew.old)
-        (λ d. CrewNotes (loss_numbered d place) result crew.old crew.new) }
+        (λ d. NotesIfOwn place result crew.old d crew.new) }
 {
     let Some(held) = claim_desk(alloc, h) else {
         return EMPTY;
@@ -411,7 +414,7 @@ pub extern "C" fn pt_crew_is_idle(
 ) -> u32
     ensures { ReadsThrough c.old.state c.new.state result ((h.new.state ≡ h.old.state) × (out.new ≡ out.old))
         (λ crew. ReadsThrough h.old.state h.new.state result (out.new ≡ out.old)
-        (λ d. (result ≡ 0) × TellsIdle crew d out.new)) }
+        (λ d. CrewTells result crew d out.old out.new)) }
 {
     let Some(held) = claim(alloc, c) else {
         return EMPTY;
@@ -426,16 +429,13 @@ pub extern "C" fn pt_crew_is_idle(
 
 fn is_idle_on(alloc: Global, crew: &Hands, h: &mut DeskHandle, out: &mut bool) -> u32
     ensures { ReadsThrough h.old.state h.new.state result (out.new ≡ out.old)
-        (λ d. (result ≡ 0) × TellsIdle crew.now d out.new) }
+        (λ d. CrewTells result crew.now d out.old out.new) }
 {
     let Some(place) = claim_desk(alloc, h) else {
         return EMPTY;
     };
     let code = match &place.desk {
-        Some(desk) => {
-            *out = crew.is_idle(desk);
-            DONE
-        }
+        Some(desk) => is_idle(crew, desk, out),
         None => EMPTY,
     };
     *h = hold_desk(place);

@@ -10,12 +10,12 @@ ghost use Rattle.pt_c.specs.GoingOn.{GathersFirst, GoOnWith, NodeGoesOn, Resumes
 use crate::node::{pt_gather, pt_history_give_up};
 use crate::settled::{pt_resume_settled, pt_settle_unlisted, pt_settled_history};
 use pt_node::{OpenError, Setting};
-use pt_table::codes::{DONE, EMPTY, FILLED, open_code};
+use pt_table::codes::{DONE, EMPTY, FILLED, WRONG_DESK, open_code};
 use pt_table::crew_handle::CrewHandle;
 use pt_table::desk_handle::DeskHandle;
 use pt_table::gathered_handle::{GatheredHandle, is_full as has_gathered};
 use pt_table::history_handle::{HistoryHandle, claim, hold, is_full as has_history};
-use pt_table::rows::{count_crews, count_full, go_on_all};
+use pt_table::rows::{are_own, count_crews, count_full, go_on_all};
 use pt_table::settled_handle::{SettledHandle, is_full as has_settled};
 use std::alloc::Global;
 
@@ -24,7 +24,8 @@ use std::alloc::Global;
 /// handles again, and `history` has the history.
 ///
 /// These come first, and then nothing has changed. It returns 9 if a handle of `crews` has no crew, else 11 if there are
-/// more or fewer crews than desks, else 10 if `history` is not empty.
+/// more or fewer crews than desks, else 10 if `history` is not empty, else 18 if a crew is that of a desk with another
+/// number than its place.
 ///
 /// Then it makes the calls `pt_gather`, `pt_settle_unlisted`, `pt_settled_history` and `pt_resume_settled`, up to the
 /// first that does not return 0, and returns its code. The crews and `history` are as they were then, and the node is
@@ -66,6 +67,9 @@ pub extern "C" fn pt_crews_go_on(
     }
     if has_history(alloc, history) {
         return FILLED;
+    }
+    if !are_own(alloc, crews) {
+        return WRONG_DESK;
     }
     let first = gather_first(alloc, desks, gathered, settled);
     if first != DONE {

@@ -17,6 +17,7 @@
 //! - **Failures.** If a function fails, each handle and each struct passed in is as it was, also if there is no memory.
 //! - **Handles.** An empty handle, a full one that must be empty, and a wrong number or order of desks are codes.
 //! - **Bad codes.** So is a pick, a reason, or what a process does next, whose own code means nothing.
+//! - **Other desks.** So is a crew over a desk of another number, also in a row of crews that go on. (`IfOwn`, `NodeGoesOn`)
 //! - **Crews.** A step hands out what `Hands` hands out, in order, no process twice, and no wake-up is lost. Of a row of
 //!   answers each is taken, up to the first that is refused. (`CrewSteps`, `AnswersInOrder`)
 //! - **Nodes.** Opening, gathering, settling and resuming leave in the handles what `open`, `gather`, `settle` and

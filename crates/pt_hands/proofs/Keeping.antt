@@ -72,6 +72,7 @@ no_end None h is = is refl
 pub other_kept : (e : Event) (h : Hands) → ((q : Pid) → exit_by q e None ≡ None) → KeepsExit e h h
 other_kept e h none = record {
   hands = λ q. none_kept (roles h.crew q) ∙ ap (λ (x : Option Reason). option_map (role_kept x) (roles h.crew q)) (sym (none q));
+  desk = refl;
   queue = refl;
   rest = record { waiting = refl; left = refl; refused = refl; rounds = refl; time = refl };
   attends = λ d a. a;
@@ -85,6 +86,7 @@ none_of_these h p r none = record {
       let at : roles h.crew q ≡ None = ap (roles h.crew) (sym (same_pid_is p q same)) ∙ none in
       at ∙ ap (option_map (role_kept (cond (same_pid p q) (Some r) None))) (sym at))
       (λ other. none_kept (roles h.crew q) ∙ ap (λ b. option_map (role_kept (cond b (Some r) None)) (roles h.crew q)) (sym other));
+  desk = refl;
   queue = refl;
   rest = record { waiting = refl; left = refl; refused = refl; rounds = refl; time = refl };
   attends = λ d a. a;
@@ -94,8 +96,8 @@ none_of_these h p r none = record {
 pub exit_kept : (old new : Hands) (p : Pid) (r : Reason) (seen put : Hand) → Some seen ≡ option_map (λ (x : Hand × Next). x.0) (roles old.crew p) → put ≡ record seen { ended = None; lost = Some r } → (result : Result Hand Hand)
     → IfOk result (λ was. (n : Next) × (roles old.crew p ≡ Some (was, n)) × AreWith p (Some (put, n)) (roles old.crew) (roles new.crew))
     → IfErr result (λ back. (back ≡ put) × (roles old.crew p ≡ None) × IsSame old.crew new.crew)
-    → queue new.crew ≡ queue old.crew → KeepsRest old.crew new.crew → ((d : ShardState) → Attends old.crew d → Attends new.crew d) → KeepsExit (Left p r) old new
-exit_kept old new p r seen put looked put_is (Ok was) done back stands rest attends =
+    → new.desk ≡ old.desk → queue new.crew ≡ queue old.crew → KeepsRest old.crew new.crew → ((d : ShardState) → Attends old.crew d → Attends new.crew d) → KeepsExit (Left p r) old new
+exit_kept old new p r seen put looked put_is (Ok was) done back desk stands rest attends =
     let has = its_role (roles old.crew p) seen looked in
     let n_is : done.0 ≡ has.0 = ap (λ (x : Hand × Next). x.1) (same_some (was, done.0) (seen, has.0) (sym done.1 ∙ has.1)) in
     record {
@@ -109,17 +111,19 @@ exit_kept old new p r seen put looked put_is (Ok was) done back stands rest atte
           (λ other.
           elsewhere (roles old.crew) (roles new.crew) p (Some (put, done.0)) done.2 q other
           ∙ none_kept (roles old.crew q) ∙ ap (λ b. option_map (role_kept (cond b (Some r) None)) (roles old.crew q)) (sym other));
+      desk = desk;
       queue = stands;
       rest = rest;
       attends = attends;
     }
-exit_kept old new p r seen put looked put_is (Err x) done back stands rest attends =
+exit_kept old new p r seen put looked put_is (Err x) done back desk stands rest attends =
     let has = its_role (roles old.crew p) seen looked in some_none (roles old.crew p) (seen, has.0) back.1 has.1
 
 -- of no history
 pub begun : (h : Hands) → KeepsExits [] h h
 begun h = record {
   hands = λ q. none_kept (roles h.crew q);
+  desk = refl;
   queue = refl;
   rest = record { waiting = refl; left = refl; refused = refl; rounds = refl; time = refl };
   attends = λ d a. a;
@@ -128,6 +132,7 @@ begun h = record {
 one_more : (past : List Stamped) (s : Stamped) (old mid new : Hands) → KeepsExits past old mid → KeepsExit s.event mid new → KeepsExits (s ∷ past) old new
 one_more past s old mid new a b = record {
   hands = λ q. b.hands q ∙ ap (option_map (role_kept (exit_by q s.event None))) (a.hands q) ∙ mapped q s.event (exit_in q past) (roles old.crew q);
+  desk = b.desk ∙ a.desk;
   queue = b.queue ∙ a.queue;
   rest = rest_then old.crew mid.crew new.crew a.rest b.rest;
   attends = λ d x. b.attends d (a.attends d x);
@@ -208,11 +213,12 @@ module _ (past : List Stamped) (old mid new : Hands) (k : KeepsExits past old mi
 
   pub goes_on : {E : Type 0} (result : Result (Unit {0}) E)
       → OnOk result ((d e : ShardState) → Attends mid.crew d → AreBorn (roles mid.crew) e → Attends new.crew e) → OnOk result (new.read ≡ 0) → OnOk result (AreAllQueued new.crew)
-      → (HasRoom mid.crew → IsOk result) → QueueIsLonger (queue mid.crew) (queue new.crew) → KeepsRest mid.crew new.crew → HandsGoOn past old new
-  goes_on result crew reads all room longer rest = record {
+      → (HasRoom mid.crew → IsOk result) → QueueIsLonger (queue mid.crew) (queue new.crew) → KeepsRest mid.crew new.crew → new.desk ≡ mid.desk → HandsGoOn past old new
+  goes_on result crew reads all room longer rest desk = record {
     views = λ p. ap (option_map hand_view) (same p ∙ k.hands p) ∙ seen_kept (exit_in p past) (roles old.crew p);
     longer = (longer.0, longer.1 ∙ ap (λ q. q ++ longer.0) k.queue);
     rest = rest_then old.crew mid.crew new.crew k.rest rest;
+    desk = desk ∙ k.desk;
     all = λ d a. on_ok result _ (ok d a) all;
     attends = λ d e a has born.
         attends d e a has (on_ok result _ (ok d a) crew d e (k.attends d a.crew) (still_born e born)) rest (on_ok result _ (ok d a) reads);

@@ -225,6 +225,7 @@ none_set old new p r none is = subst (λ (h : Hands). NotesExit (Left p r) old h
       (λ other. (b, at, ap (λ c. record b { ended = cond c (Some r) b.ended }) (sym other)));
   views = λ q. refl;
   read = refl;
+  desk = refl;
   queue = refl;
   rest = record { waiting = refl; left = refl; refused = refl; rounds = refl; time = refl };
   attends = λ d a. a;
@@ -236,6 +237,7 @@ other_noted e h none = record {
   hands = λ q b n at. (b, at, ap (λ (o : Option Reason). record b { ended = o }) (sym (none q b.ended)));
   views = λ q. refl;
   read = refl;
+  desk = refl;
   queue = refl;
   rest = record { waiting = refl; left = refl; refused = refl; rounds = refl; time = refl };
   attends = λ d a. a;
@@ -277,8 +279,8 @@ noted_next old mid new d shown x is within notes same reads a = record {
 pub set_noted : (old new : Hands) (p : Pid) (r : Reason) (seen put : Hand) → Some seen ≡ option_map (λ (x : Hand × Next). x.0) (roles old.crew p) → put ≡ record seen { ended = Some r } → (result : Result Hand Hand)
     → IfOk result (λ was. (n : Next) × (roles old.crew p ≡ Some (was, n)) × AreWith p (Some (put, n)) (roles old.crew) (roles new.crew))
     → IfErr result (λ back. (back ≡ put) × (roles old.crew p ≡ None) × IsSame old.crew new.crew)
-    → new.read ≡ old.read → queue new.crew ≡ queue old.crew → KeepsRest old.crew new.crew → ((d : ShardState) → Attends old.crew d → Attends new.crew d) → NotesExit (Left p r) old new
-set_noted old new p r seen put looked put_is (Ok was) done back reads stands rest attends =
+    → new.read ≡ old.read → new.desk ≡ old.desk → queue new.crew ≡ queue old.crew → KeepsRest old.crew new.crew → ((d : ShardState) → Attends old.crew d → Attends new.crew d) → NotesExit (Left p r) old new
+set_noted old new p r seen put looked put_is (Ok was) done back reads desk stands rest attends =
     let has = its_role (roles old.crew p) seen looked in
     let same : (was, done.0) ≡ (seen, has.0) = same_some (was, done.0) (seen, has.0) (sym done.1 ∙ has.1) in
     let now : AreWith p (Some (record seen { ended = Some r }, has.0)) (roles old.crew) (roles new.crew) = λ q. done.2 q ∙ (λ j. cond (same_pid p q) (Some (put_is j, ap (λ (x : Hand × Next). x.1) same j)) (roles old.crew q)) in
@@ -286,11 +288,12 @@ set_noted old new p r seen put looked put_is (Ok was) done back reads stands res
       hands = set_hands old new p r seen has.0 has.1 now;
       views = set_views old new p r seen has.0 has.1 now;
       read = reads;
+      desk = desk;
       queue = stands;
       rest = rest;
       attends = attends;
     }
-set_noted old new p r seen put looked put_is (Err x) done back reads stands rest attends =
+set_noted old new p r seen put looked put_is (Err x) done back reads desk stands rest attends =
     let has = its_role (roles old.crew p) seen looked in some_none (roles old.crew p) (seen, has.0) back.1 has.1
 
 -- the reason that a loss told was set, where the hand was put back
@@ -351,8 +354,8 @@ pub job_taken : (old new : Hands) (p : Pid) (before : Option Next) (seen put : H
     → put ≡ record seen { begun = true; handed = None } → job ≡ record { pid = p; tag = seen.tag; what = what_of seen.begun before item } → (result : Result Hand Hand)
     → IfOk result (λ was. (n : Next) × (roles old.crew p ≡ Some (was, n)) × AreWith p (Some (put, n)) (roles old.crew) (roles new.crew))
     → IfErr result (λ back. (back ≡ put) × (roles old.crew p ≡ None) × IsSame old.crew new.crew)
-    → new.read ≡ old.read → queue new.crew ≡ queue old.crew → KeepsRest old.crew new.crew → ((d : ShardState) → Attends old.crew d → Attends new.crew d) → TakesJob p before old (Some job) new
-job_taken old new p before seen put item job looked holds put_is job_is (Ok was) done back reads stands rest attends =
+    → new.read ≡ old.read → queue new.crew ≡ queue old.crew → KeepsRest old.crew new.crew → ((d : ShardState) → Attends old.crew d → Attends new.crew d) → new.desk ≡ old.desk → TakesJob p before old (Some job) new
+job_taken old new p before seen put item job looked holds put_is job_is (Ok was) done back reads stands rest attends desk =
     let has = its_role (roles old.crew p) seen looked in
     let same : (was, done.0) ≡ (seen, has.0) = same_some (was, done.0) (seen, has.0) (sym done.1 ∙ has.1) in
     subst (λ (o : Option (Hand × Next)). TakesOf p before o old (Some job) new) (sym has.1)
@@ -363,8 +366,9 @@ job_taken old new p before seen put item job looked holds put_is job_is (Ok was)
       stands,
       rest,
       attends,
+      desk,
     ))
-job_taken old new p before seen put item job looked holds put_is job_is (Err x) done back reads stands rest attends =
+job_taken old new p before seen put item job looked holds put_is job_is (Err x) done back reads stands rest attends desk =
     let has = its_role (roles old.crew p) seen looked in some_none (roles old.crew p) (seen, has.0) back.1 has.1
 
 pub none_held : (h : Hands) (p : Pid) (before : Option Next) (seen : Hand) (job : Option Job) → Some seen ≡ option_map (λ (x : Hand × Next). x.0) (roles h.crew p) → seen.handed ≡ None → job ≡ None → TakesJob p before h job h

@@ -220,6 +220,7 @@ pub record HandsGoOn (past : List Stamped) (old new : Hands) : Type 0 where
   pub views : (p : Pid) → hand_views new p ≡ option_map (view_kept (exit_in p past)) (hand_views old p)
   pub longer : QueueIsLonger (queue old.crew) (queue new.crew)
   pub rest : KeepsRest old.crew new.crew
+  pub desk : new.desk ≡ old.desk
   -- hands of a desk have all their processes in the queue then
   pub all : (d : ShardState) → AttendsHands old d → AreAllQueued new.crew
   -- and they are those of a desk on which these were born, if the history has each exit of their own

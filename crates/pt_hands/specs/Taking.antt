@@ -29,6 +29,7 @@ pub record NotesExit (event : Event) (old new : Hands) : Type 0 where
       → (was : Hand) × (roles old.crew q ≡ Some (was, n)) × (b ≡ record was { ended = exit_by q event was.ended })
   pub views : SameViews old new
   pub read : new.read ≡ old.read
+  pub desk : new.desk ≡ old.desk
   pub queue : queue new.crew ≡ queue old.crew
   pub rest : KeepsRest old.crew new.crew
   pub attends : (d : ShardState) → Attends old.crew d → Attends new.crew d
@@ -40,7 +41,7 @@ TakesHeld p before b n (Some item) old job new =
     (job ≡ Some (record { pid = p; tag = b.tag; what = what_of b.begun before item }))
     × AreWith p (Some (record b { begun = true; handed = None }, n)) (roles old.crew) (roles new.crew)
     × (new.read ≡ old.read) × (queue new.crew ≡ queue old.crew) × KeepsRest old.crew new.crew
-    × ((d : ShardState) → Attends old.crew d → Attends new.crew d)
+    × ((d : ShardState) → Attends old.crew d → Attends new.crew d) × (new.desk ≡ old.desk)
 
 abbrev pub TakesOf : Pid → Option Next → Option (Hand × Next) → Hands → Option Job → Hands → Type 0
 TakesOf p before None old job new = (job ≡ None) × (new ≡ old)
@@ -69,6 +70,7 @@ role_kept ended r = (hand_kept ended r.0, r.1)
 -- so it is with the hand of each process, and all else stays
 pub record KeepsBy (ended : Pid → Option Reason) (old new : Hands) : Type 0 where
   pub hands : (q : Pid) → roles new.crew q ≡ option_map (role_kept (ended q)) (roles old.crew q)
+  pub desk : new.desk ≡ old.desk
   pub queue : queue new.crew ≡ queue old.crew
   pub rest : KeepsRest old.crew new.crew
   pub attends : (d : ShardState) → Attends old.crew d → Attends new.crew d

@@ -17,6 +17,8 @@ ghost use Rattle.pt_events.specs.declared.event.Event.TheVariants.{Left};
 ghost use Rattle.pt_hands.specs.Pulling.{new_hand};
 ghost use Rattle.pt_hands.specs.Taking.{IsAllNoted, KeepsExit, KeepsExits, NotesExit, PullsInto, TakesJob};
 
+ghost use Rattle.pt_hands.specs.Owning.{desk_after, desk_of};
+
 use crate::hand::{Hand, Job, job_of_exit};
 use pt_crew::{Crew, Next};
 use pt_events::Stamped;
@@ -32,20 +34,32 @@ pub struct Hands {
     crew: Crew<Hand>,
     /// The number of events of the journal whose exits were noted.
     read: usize,
+    /// The number of its desk, once a call was made with it.
+    desk: Option<u8>,
 }
 
 impl Hands {
-    /// No processes yet. It has read nothing of the journal of its desk.
+    /// No processes yet. It has read nothing of the journal of its desk, and may be that of any desk.
     pub fn new(alloc: Global) -> Hands
         ensures attends { (d : ShardState) → AttendsHands result d }
         ensures nobody { (p : Pid) → roles (crew_of result) p ≡ None }
         ensures queue { queue (crew_of result) ≡ [] }
         ensures time { time_of (crew_of result) ≡ 0 }
+        ensures desk { desk_of result ≡ None }
     {
         Hands {
             crew: Crew::new(alloc, 1),
             read: 0,
+            desk: None,
         }
+    }
+
+    /// The number of the desk of which these are, or `None` if they may be those of any desk. A process that is spawned
+    /// makes them those of its desk, and so does a step that begins.
+    pub fn desk(&self) -> Option<u8>
+        ensures { result ≡ desk_of self.now }
+    {
+        self.desk
     }
 
     /// The number of its processes.
@@ -110,6 +124,7 @@ impl Hands {
         ensures roles { AreSame (roles (crew_of self.old)) (roles (crew_of self.new)) }
         ensures queue { queue (crew_of self.new) ≡ queue (crew_of self.old) }
         ensures refused { was_refused (crew_of self.new) ≡ was_refused (crew_of self.old) }
+        ensures desk { desk_of self.new ≡ desk_of self.old }
     {
         self.crew.set_time(now);
     }
@@ -122,10 +137,13 @@ impl Hands {
         ensures does { Enters (new_hand tag) first (crew_of self.old) desk.old.shard result (crew_of self.new)
             desk.new.shard }
         ensures attends { AttendsHands self.old desk.old.shard → AttendsHands self.new desk.new.shard }
+        ensures desk { desk_of self.new ≡ desk_after result desk.old.shard.number (desk_of self.old) }
         ensures goes_on { GoesOn desk.old desk.new }
     {
+        let own = desk.number();
         let pid = self.crew.enter(desk, Hand::new(tag), first)?;
         let _lawful = desk.journal();
+        self.desk = Some(own);
         Ok(pid)
     }
 
@@ -144,12 +162,15 @@ impl Hands {
         ensures does { EntersChild parent linked (new_hand tag) first (crew_of self.old) desk.old.shard result
             (crew_of self.new) desk.new.shard }
         ensures attends { AttendsHands self.old desk.old.shard → AttendsHands self.new desk.new.shard }
+        ensures desk { desk_of self.new ≡ desk_after result desk.old.shard.number (desk_of self.old) }
         ensures goes_on { GoesOn desk.old desk.new }
     {
+        let number = desk.number();
         let pid = self
             .crew
             .enter_child(desk, parent, linked, Hand::new(tag), first)?;
         let _lawful = desk.journal();
+        self.desk = Some(number);
         Ok(pid)
     }
 
@@ -159,8 +180,10 @@ impl Hands {
         ensures begins { BeginsStep (crew_of self.old) desk.now.shard (crew_of self.new) }
         ensures attends { (d : ShardState) → Extends d desk.now.shard → AttendsHands self.old d
             → AttendsHands self.new desk.now.shard }
+        ensures desk { desk_of self.new ≡ Some desk.now.shard.number }
     {
         self.crew.begin_step(desk);
+        self.desk = Some(desk.number());
     }
 
     /// Ends a step: it reads what is new in the desk's journal, so that each process that has something to do is in the
@@ -168,6 +191,7 @@ impl Hands {
     pub fn end_step(&mut self, desk: &Desk)
         ensures ends { EndsStep (crew_of self.old) desk.now.shard (crew_of self.new) }
         ensures attends { AttendsHands self.old desk.now.shard → AttendsHands self.new desk.now.shard }
+        ensures desk { desk_of self.new ≡ desk_of self.old }
     {
         self.crew.end_step(desk);
     }
@@ -185,6 +209,7 @@ impl Hands {
         ensures roles { AreSame (roles (crew_of self.old)) (roles (crew_of self.new)) }
         ensures longer { QueueIsLonger (queue (crew_of self.old)) (queue (crew_of self.new)) }
         ensures rest { KeepsRest (crew_of self.old) (crew_of self.new) }
+        ensures desk { desk_of self.new ≡ desk_of self.old }
     {
         self.begin_over()
     }
@@ -211,6 +236,7 @@ impl Hands {
         ensures roles { AreSame (roles (crew_of self.old)) (roles (crew_of self.new)) }
         ensures longer { QueueIsLonger (queue (crew_of self.old)) (queue (crew_of self.new)) }
         ensures rest { KeepsRest (crew_of self.old) (crew_of self.new) }
+        ensures desk { desk_of self.new ≡ desk_of self.old }
     {
         self.crew.begin_again()?;
         self.read = 0;
@@ -228,6 +254,7 @@ impl Hands {
         ensures refused { OnErr result (IsSame (crew_of self.old) (crew_of self.new)) }
         ensures ok { (d : ShardState) → AttendsHands self.old d → IsOk result }
         ensures attends { (d : ShardState) → AttendsHands self.old d → AttendsHands self.new d }
+        ensures desk { desk_of self.new ≡ desk_of self.old }
     {
         self.crew.answer(p, next)
     }
@@ -241,6 +268,7 @@ impl Hands {
             → Pulls self.old desk.old.shard result self.new desk.new.shard }
         ensures attends { AttendsHands self.old desk.old.shard → AttendsHands self.new desk.new.shard }
         ensures time { time_of (crew_of self.new) ≡ time_of (crew_of self.old) }
+        ensures desk { desk_of self.new ≡ desk_of self.old }
         ensures goes_on { GoesOn desk.old desk.new }
     {
         let p = self.crew.first()?;
@@ -263,6 +291,7 @@ impl Hands {
             → Fills jobs.old self.old desk.old.shard result jobs.new self.new desk.new.shard }
         ensures attends { AttendsHands self.old desk.old.shard → AttendsHands self.new desk.new.shard }
         ensures time { time_of (crew_of self.new) ≡ time_of (crew_of self.old) }
+        ensures desk { desk_of self.new ≡ desk_of self.old }
         ensures goes_on { GoesOn desk.old desk.new }
     {
         let mut filled = 0;
@@ -282,6 +311,7 @@ impl Hands {
             → PullsInto place jobs.old self.old desk.old.shard result jobs.new self.new desk.new.shard }
         ensures attends { AttendsHands self.old desk.old.shard → AttendsHands self.new desk.new.shard }
         ensures time { time_of (crew_of self.new) ≡ time_of (crew_of self.old) }
+        ensures desk { desk_of self.new ≡ desk_of self.old }
         ensures len { length jobs.new ≡ length jobs.old }
         ensures within { result ≤ place + 1 }
         ensures goes_on { GoesOn desk.old desk.new }
@@ -304,6 +334,7 @@ impl Hands {
         ensures notes { NotesLoss loss.now self.old self.new }
         ensures attends { (d : ShardState) → AttendsHands self.old d → AttendsHands self.new d }
         ensures time { time_of (crew_of self.new) ≡ time_of (crew_of self.old) }
+        ensures desk { desk_of self.new ≡ desk_of self.old }
     {
         if let Loss::Exited(p, reason, _) = loss {
             self.set_lost(*p, *reason);
@@ -314,6 +345,7 @@ impl Hands {
     fn set_lost(&mut self, p: Pid, reason: Reason)
         ensures notes { NotesLost p reason self.old self.new }
         ensures attends { (d : ShardState) → AttendsHands self.old d → AttendsHands self.new d }
+        ensures desk { desk_of self.new ≡ desk_of self.old }
     {
         let Some(hand) = self.crew.behaviour(p) else {
             return;
@@ -326,6 +358,7 @@ impl Hands {
     fn note(&mut self, desk: &Desk)
         ensures noted { AttendsHands self.old desk.now.shard → IsAllNoted self.old desk.now.shard self.new }
         ensures time { time_of (crew_of self.new) ≡ time_of (crew_of self.old) }
+        ensures desk { desk_of self.new ≡ desk_of self.old }
     {
         let events = desk.journal().events();
         while self.read < events.len() {

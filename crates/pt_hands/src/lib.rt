@@ -24,6 +24,8 @@
 //!   nothing. (`answer`)
 //! - **Batches.** `fill` runs the processes that were in the queue as it began, in order, until the slice is full. No
 //!   process is in a batch twice. (`Fills`)
+//! - **One desk.** A process that is spawned makes the hands those of its desk, and so does a step that begins. No other
+//!   call changes whose they are. (`desk_of`)
 //! - **Refusals.** A process for which there was no memory or no stamp is in the queue still. (`StaysPut`)
 //! - **Resuming.** Over the desk of a resumed node each process is in the queue, and does next what it was to do. The
 //!   hands are those of that desk if each exit was told, as it was where they are idle. (`begin_again`, `is_idle`)

@@ -40,6 +40,10 @@ bad_code = 16
 abbrev pub not_running : ℕ
 not_running = 17
 
+-- a crew is used with a desk that is not its own
+abbrev pub wrong_desk : ℕ
+wrong_desk = 18
+
 -- a setting is out of its range
 abbrev pub open_code : OpenError → ℕ
 open_code NoMemory = 2

@@ -1,5 +1,5 @@
 -- What the calls of a crew answer C, and what they leave.
-use Rattle.std.specs.Prelude.{◌≡◌, ◌≢◌, ◌⊎◌, ℕ, ◌+◌, Bool, false, List, [], ◌∷◌, ◌++◌, length, map, take, drop, slice_set}
+use Rattle.std.specs.Prelude.{◌≡◌, ◌≢◌, ◌⊎◌, ℕ, ◌+◌, Bool, true, false, List, [], ◌∷◌, ◌++◌, length, map, take, drop, slice_set}
 use Rattle.std.specs.Prelude.{Option, Some, None}
 use Rattle.pt_signal.specs.declared.pid.Pid.{Pid}
 use Rattle.pt_shard.specs.declared.loss.Loss.{Loss}
@@ -11,9 +11,11 @@ use Rattle.pt_crew.specs.declared.behaviour.Next.{Next}
 use Rattle.pt_crew.specs.Waking.{IsAwake}
 use Rattle.pt_crew.specs.Visiting.{AreSame}
 use Rattle.pt_crew.specs.Crews.{AreBorn, Enters, IsNextTime, IsSame, KeepsRest, members, queue, roles, time_of}
+use Rattle.pt_crew.specs.Running.{is_idle}
 use Rattle.pt_crew.specs.Stepping.{BeginsStep, EndsStep, EntersChild, IsAnswered, QueueIsLonger, is_running}
 use Rattle.pt_hands.specs.declared.hand.Job.{Job}
 use Rattle.pt_hands.specs.declared.hands.Hands.{Hands}
+use Rattle.pt_hands.specs.Owning.{desk_after, desk_of}
 use Rattle.pt_hands.specs.Pulling.{AreAllQueued, AttendsHands, Fills, NoneNoted, NotesLoss, Pulls, crew_of, new_hand}
 use Rattle.pt_table.specs.declared.types.PtAnswer.{PtAnswer}
 use Rattle.pt_table.specs.declared.types.PtJob.{PtJob}
@@ -23,7 +25,9 @@ use Rattle.pt_table.specs.declared.types.PtTurned.{PtTurned}
 use Rattle.pt_table.specs.Codes.{not_running, some_code}
 use Rattle.pt_table.specs.Crossing.{pid_crossed, pid_out}
 use Rattle.pt_table.specs.Jobs.{job_out, next_in}
+use Rattle.pt_table.specs.Losing.{loss_numbered}
 use Rattle.pt_table.specs.Answers.{GivesCode, IfCrosses, ShowsCode, turned_out}
+use Rattle.pt_table.specs.Owning.{IfOwn, is_own}
 
 -- spawning -------------------------------------------------------------------------------
 
@@ -34,16 +38,20 @@ StaysWithDesk old d new e = (AttendsHands old d.shard → AttendsHands new e.sha
 abbrev pub SpawnsInCrew : ℕ → PtNext → ℕ → PtPid → PtPid → Hands → DeskState → Hands → DeskState → Type 0
 SpawnsInCrew tag first code before after old d new e =
     IfCrosses (next_in first) code ((new ≡ old) × (e ≡ d) × (after ≡ before))
-    (λ next. GivesCode code before after pid_out
-    (λ r. Enters (new_hand tag) next (crew_of old) d.shard r (crew_of new) e.shard)
-    × StaysWithDesk old d new e)
+    (λ next. IfOwn (is_own old d) code ((new ≡ old) × (e ≡ d) × (after ≡ before))
+    (GivesCode code before after pid_out
+    (λ r. Enters (new_hand tag) next (crew_of old) d.shard r (crew_of new) e.shard
+    × (desk_of new ≡ desk_after r d.shard.number (desk_of old)))
+    × StaysWithDesk old d new e))
 
 abbrev pub SpawnsChildInCrew : Pid → Bool → ℕ → PtNext → ℕ → PtPid → PtPid → Hands → DeskState → Hands → DeskState → Type 0
 SpawnsChildInCrew parent linked tag first code before after old d new e =
     IfCrosses (next_in first) code ((new ≡ old) × (e ≡ d) × (after ≡ before))
-    (λ next. GivesCode code before after pid_out
-    (λ r. EntersChild parent linked (new_hand tag) next (crew_of old) d.shard r (crew_of new) e.shard)
-    × StaysWithDesk old d new e)
+    (λ next. IfOwn (is_own old d) code ((new ≡ old) × (e ≡ d) × (after ≡ before))
+    (GivesCode code before after pid_out
+    (λ r. EntersChild parent linked (new_hand tag) next (crew_of old) d.shard r (crew_of new) e.shard
+    × (desk_of new ≡ desk_after r d.shard.number (desk_of old)))
+    × StaysWithDesk old d new e))
 
 -- a step ---------------------------------------------------------------------------------
 
@@ -82,6 +90,8 @@ pub record CrewSteps (budget : ℕ) (jobs : List PtJob) (old : Hands) (d : DeskS
   -- no wake-up is lost
   pub awake : AttendsHands old d.shard → IsAwake (members (crew_of new)) (queue (crew_of new)) e.shard
   pub time : time_of (crew_of new) ≡ time_of (crew_of old)
+  -- the crew is the desk's then
+  pub desk : desk_of new ≡ Some d.shard.number
   pub goes_on : GoesOn d e
 
 -- answers --------------------------------------------------------------------------------
@@ -92,6 +102,7 @@ pub record AnswersNext (p : Pid) (next : Next) (code : ℕ) (old new : Hands) : 
       ⊎ ((code ≡ not_running) × (is_running (roles (crew_of old) p) ≡ false) × IsSame (crew_of old) (crew_of new))
       ⊎ ((code ≡ 2) × IsSame (crew_of old) (crew_of new))
   pub memory : (d : ShardState) → AttendsHands old d → code ≢ 2
+  pub desk : desk_of new ≡ desk_of old
 
 abbrev pub AnswersOne : PtAnswer → ℕ → Hands → Hands → Type 0
 AnswersOne a code old new =
@@ -128,6 +139,11 @@ pub record CrewNotes (loss : Option Loss) (code : ℕ) (old new : Hands) : Type 
   pub told : code ≡ some_code loss
   pub notes : NotesIfAny loss old new
   pub attends : (d : ShardState) → AttendsHands old d → AttendsHands new d
+  pub desk : desk_of new ≡ desk_of old
+
+-- so, if the desk is the crew's own
+abbrev pub NotesIfOwn : ℕ → ℕ → Hands → DeskState → Hands → Type 0
+NotesIfOwn place code old d new = IfOwn (is_own old d) code (new ≡ old) (CrewNotes (loss_numbered d place) code old new)
 
 -- going on, and what is read -------------------------------------------------------------
 
@@ -143,6 +159,16 @@ pub record CrewBeginsAgain (code : ℕ) (old new : Hands) : Type 0 where
   pub roles : AreSame (roles (crew_of old)) (roles (crew_of new))
   pub longer : QueueIsLonger (queue (crew_of old)) (queue (crew_of new))
   pub rest : KeepsRest (crew_of old) (crew_of new)
+  pub desk : desk_of new ≡ desk_of old
+
+-- whether nobody is in the queue, and all was read; then each exit was told
+pub record TellsIdle (h : Hands) (d : DeskState) (yes : Bool) : Type 0 where
+  pub is : yes ≡ is_idle (crew_of h) d.shard
+  pub told : yes ≡ true → AttendsHands h d.shard → NoneNoted h
+
+-- so, if the desk is the crew's own
+abbrev pub CrewTells : ℕ → Hands → DeskState → Bool → Bool → Type 0
+CrewTells code h d before after = IfOwn (is_own h d) code (after ≡ before) ((code ≡ 0) × TellsIdle h d after)
 
 abbrev pub TellsTime : Hands → ℕ → ℕ → ℕ → Type 0
 TellsTime h code before after =

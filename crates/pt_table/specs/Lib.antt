@@ -8,4 +8,5 @@ pub mod Answers
 pub mod InOrder
 pub mod Reading
 pub mod Losing
+pub mod Owning
 pub mod Waking

@@ -29,6 +29,9 @@ pub const BAD_CODE: u32 = 16;
 /// An answer is for a process that is not running.
 pub const NOT_RUNNING: u32 = 17;
 
+/// A crew is used with a desk that is not its own.
+pub const WRONG_DESK: u32 = 18;
+
 pub fn code_of(fault: Fault) -> u32
     ensures { result ≡ code_of fault }
 {

@@ -1,27 +1,38 @@
 //! The calls of a crew, with the structs that cross in place of the table's values.
 //!
 //! A struct with a code is looked at before anything else. If a code is none of its enumeration, the call returns
-//! `BAD_CODE`, and nothing has changed.
+//! `BAD_CODE`, and nothing has changed. If the desk is not the crew's own, it returns `WRONG_DESK`, and nothing has changed
+//! either.
 
 ghost use Rattle.std.specs.Prelude.{◌≡◌, ◌<◌, ◌≤◌, ◌+◌, length};
 ghost use Rattle.std.specs.Option.{option_map};
 ghost use Rattle.pt_shard.specs.ShardState.{ShardState};
 ghost use Rattle.pt_desk.specs.DeskState.{GoesOn};
 ghost use Rattle.pt_crew.specs.Crews.{IsNextTime, time_of};
+ghost use Rattle.pt_hands.specs.Owning.{desk_of};
 ghost use Rattle.pt_hands.specs.Pulling.{AttendsHands, crew_of, hand_views};
 ghost use Rattle.pt_table.specs.Answers.{ShowsCode};
-ghost use Rattle.pt_table.specs.Crewing.{AnswersOne, CrewBeginsAgain, CrewSteps, HandsOutRow, PullsRow, SpawnsChildInCrew};
-ghost use Rattle.pt_table.specs.Crewing.{CrewNotes};
-ghost use Rattle.pt_table.specs.Losing.{loss_numbered};
-ghost use Rattle.pt_table.specs.Crewing.{SpawnsInCrew, TakesAnswers, TellsTime};
+ghost use Rattle.pt_table.specs.Crewing.{AnswersOne, CrewBeginsAgain, CrewSteps, CrewTells, HandsOutRow, NotesIfOwn};
+ghost use Rattle.pt_table.specs.Crewing.{PullsRow, SpawnsChildInCrew, SpawnsInCrew, TakesAnswers, TellsTime};
+ghost use Rattle.pt_table.specs.Owning.{IfOwn, is_own};
 ghost use Rattle.pt_table.specs.Jobs.{next_out};
 
-use crate::codes::{BAD_CODE, DONE, MEMORY, NOT_RUNNING, NOTHING, code_of, stop_code};
+use crate::codes::{BAD_CODE, DONE, MEMORY, NOT_RUNNING, NOTHING, WRONG_DESK, code_of, stop_code};
 use crate::crossing::{pid_in, pid_out};
 use crate::crossing_jobs::{job_out, next_in, next_out};
 use crate::types::{PtAnswer, PtJob, PtNext, PtPid, PtTurned};
 use pt_hands::Hands;
 use pt_node::{Desk, Pid};
+
+/// Whether the desk is the crew's own, or the crew may be that of any desk.
+fn is_own(crew: &Hands, desk: &Desk) -> bool
+    ensures { result ≡ is_own crew.now desk.now }
+{
+    match crew.desk() {
+        Some(number) => number == desk.number(),
+        None => true,
+    }
+}
 
 pub fn spawn(crew: &mut Hands, desk: &mut Desk, tag: u64, first: PtNext, out: &mut PtPid) -> u32
     ensures { SpawnsInCrew tag first result out.old out.new crew.old desk.old crew.new desk.new }
@@ -29,6 +40,9 @@ pub fn spawn(crew: &mut Hands, desk: &mut Desk, tag: u64, first: PtNext, out: &m
     let Some(first) = next_in(first) else {
         return BAD_CODE;
     };
+    if !is_own(crew, desk) {
+        return WRONG_DESK;
+    }
     match crew.spawn(desk, tag, first) {
         Ok(pid) => {
             *out = pid_out(pid);
@@ -52,6 +66,9 @@ pub fn spawn_child(
     let Some(first) = next_in(first) else {
         return BAD_CODE;
     };
+    if !is_own(crew, desk) {
+        return WRONG_DESK;
+    }
     match crew.spawn_child(desk, parent, linked, tag, first) {
         Ok(pid) => {
             *out = pid_out(pid);
@@ -62,8 +79,28 @@ pub fn spawn_child(
 }
 
 /// A turn of the desk, and then a step of the crew that hands out jobs until the slice is full. It writes the number of
-/// them to `count`, and returns what the turn did.
+/// them to `count`, and what the turn did to `turned`.
 pub fn step(
+    crew: &mut Hands,
+    desk: &mut Desk,
+    budget: u32,
+    jobs: &mut [PtJob],
+    count: &mut usize,
+    turned: &mut PtTurned,
+) -> u32
+    ensures { IfOwn (is_own crew.old desk.old) result ((crew.new ≡ crew.old) × (desk.new ≡ desk.old)
+        × (jobs.new ≡ jobs.old) × (count.new ≡ count.old) × (turned.new ≡ turned.old))
+        ((result ≡ 0) × CrewSteps budget jobs.old crew.old desk.old turned.new count.new jobs.new crew.new desk.new) }
+{
+    if !is_own(crew, desk) {
+        return WRONG_DESK;
+    }
+    *turned = step_own(crew, desk, budget, jobs, count);
+    DONE
+}
+
+/// The same over the crew's own desk. It returns what the turn did.
+fn step_own(
     crew: &mut Hands,
     desk: &mut Desk,
     budget: u32,
@@ -90,6 +127,7 @@ fn fill(crew: &mut Hands, desk: &mut Desk, jobs: &mut [PtJob]) -> usize
         → HandsOutRow jobs.old crew.old desk.old.shard result jobs.new crew.new desk.new.shard }
     ensures attends { AttendsHands crew.old desk.old.shard → AttendsHands crew.new desk.new.shard }
     ensures time { time_of (crew_of crew.new) ≡ time_of (crew_of crew.old) }
+    ensures desk { desk_of crew.new ≡ desk_of crew.old }
     ensures goes_on { GoesOn desk.old desk.new }
 {
     let mut filled = 0;
@@ -109,6 +147,7 @@ fn pull_into(crew: &mut Hands, desk: &mut Desk, jobs: &mut [PtJob], place: usize
         → PullsRow place jobs.old crew.old desk.old.shard result jobs.new crew.new desk.new.shard }
     ensures attends { AttendsHands crew.old desk.old.shard → AttendsHands crew.new desk.new.shard }
     ensures time { time_of (crew_of crew.new) ≡ time_of (crew_of crew.old) }
+    ensures desk { desk_of crew.new ≡ desk_of crew.old }
     ensures len { length jobs.new ≡ length jobs.old }
     ensures within { result ≤ place + 1 }
     ensures goes_on { GoesOn desk.old desk.new }
@@ -155,8 +194,11 @@ fn answer(crew: &mut Hands, answer: PtAnswer) -> u32
 
 /// Notes what the loss with this number of the desk tells.
 pub fn note_loss(crew: &mut Hands, desk: &Desk, place: usize) -> u32
-    ensures { CrewNotes (loss_numbered desk.now place) result crew.old crew.new }
+    ensures { NotesIfOwn place result crew.old desk.now crew.new }
 {
+    if !is_own(crew, desk) {
+        return WRONG_DESK;
+    }
     match desk.loss(place) {
         Some(loss) => {
             crew.note_loss(loss);
@@ -173,6 +215,17 @@ pub fn begin_again(crew: &mut Hands) -> u32
         Ok(()) => DONE,
         Err(_) => MEMORY,
     }
+}
+
+/// Whether nobody is in the queue, and all that happened on the desk was read.
+pub fn is_idle(crew: &Hands, desk: &Desk, out: &mut bool) -> u32
+    ensures { CrewTells result crew.now desk.now out.old out.new }
+{
+    if !is_own(crew, desk) {
+        return WRONG_DESK;
+    }
+    *out = crew.is_idle(desk);
+    DONE
 }
 
 pub fn next_time(crew: &Hands, out: &mut u64) -> u32

@@ -12,6 +12,8 @@
 //!   `Codes`)
 //! - **Bad codes.** A pick or a reason with a code that means nothing is refused, before all that the desk would refuse,
 //!   and nothing has changed. (`IfCrosses`)
+//! - **One desk.** A call of a crew over a desk with another number than that of its own is refused, and nothing has
+//!   changed. (`IfOwn`, `are_own`)
 //! - **Crews.** A step hands out what `Hands` hands out, each job as its struct, and an answer is that of `Hands`. Of a row
 //!   of answers each is taken up to the first that is refused. (`CrewSteps`, `TakesAnswers`)
 //! - **Going on.** Each crew of a row goes on with the history, as `Hands` does. (`AllCrewsGoOn`)

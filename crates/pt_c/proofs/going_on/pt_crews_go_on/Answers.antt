@@ -1,8 +1,9 @@
 -- `pt_crews_go_on`: its contract.
-use Rattle.std.proofs.Common.{◌≡◌, false, length, map, refl, sym, ap, ◌∙◌, arith}
+use Rattle.std.proofs.Common.{◌≡◌, true, false, length, map, refl, sym, ap, ◌∙◌, arith}
 use Rattle.std.proofs.lemmas.List.{length-map}
+use Rattle.pt_table.specs.Owning.{are_own}
 use Rattle.pt_c.specs.GoingOn.{AreAllCrews, Places, has}
-use Rattle.pt_c.proofs.GoingOn.{by_stages, crew_missing, first_refused, history_there, last_stage, other_count, second_refused}
+use Rattle.pt_c.proofs.GoingOn.{by_stages, crew_missing, first_refused, foreign_crew, history_there, last_stage, other_count, second_refused}
 use Rattle.pt_c.proofs.going_on.pt_crews_go_on.Goals as goal
 
 pub returns-then-count-crews : goal.returns-then-count-crews
@@ -29,6 +30,16 @@ returns-then-is_full c =
     history_there 10 old (record old { crews = map (λ h. h.state) c.count_crews-count.new.crews; history = c.is_full.new.h.state }) refl (λ i. record old { crews = same i; history = c.is_full.ensures.same i }) all many
     (sym c.is_full.ensures.full ∙ c.if-is_full.true)
 
+pub returns-then-not-are_own : goal.returns-then-not-are_own
+returns-then-not-are_own c =
+    let old : Places = record { crews = map (λ h. h.state) c.args.crews.now; desks = map (λ h. h.state) c.args.desks.now; gathered = c.args.gathered.now.state; settled = c.args.settled.now.state; history = c.args.history.now.state } in
+    let same = c.count_crews-count.ensures.same in
+    let all : AreAllCrews old.crews = omega (arith, c.count_crews-count.ensures.count, c.if-count-crews.false, ap length same, length-map c.args.crews.now (λ h. h.state), length-map c.count_crews-count.new.crews (λ h. h.state)) in
+    let many : length old.crews ≡ length old.desks = omega (arith, c.if-crews-desks.false, ap length same, length-map c.args.crews.now (λ h. h.state), length-map c.count_crews-count.new.crews (λ h. h.state), length-map c.args.desks.now (λ h. h.state)) in
+    let none : has old.history ≡ false = sym c.is_full.ensures.full ∙ c.if-is_full.false in
+    let foreign : are_own 0 old.crews ≡ false = ap (are_own 0) (sym same) ∙ sym c.are_own.ensures.own ∙ c.if-not-are_own.true in
+    foreign_crew 18 old (record old { crews = map (λ h. h.state) c.are_own.new.crews; history = c.is_full.new.h.state }) refl (λ i. record old { crews = (c.are_own.ensures.same ∙ same) i; history = c.is_full.ensures.same i }) all many none foreign
+
 pub returns-then-first-ne-DONE : goal.returns-then-first-ne-DONE
 returns-then-first-ne-DONE c =
     let old : Places = record { crews = map (λ h. h.state) c.args.crews.now; desks = map (λ h. h.state) c.args.desks.now; gathered = c.args.gathered.now.state; settled = c.args.settled.now.state; history = c.args.history.now.state } in
@@ -36,8 +47,10 @@ returns-then-first-ne-DONE c =
     let all : AreAllCrews old.crews = omega (arith, c.count_crews-count.ensures.count, c.if-count-crews.false, ap length same, length-map c.args.crews.now (λ h. h.state), length-map c.count_crews-count.new.crews (λ h. h.state)) in
     let many : length old.crews ≡ length old.desks = omega (arith, c.if-crews-desks.false, ap length same, length-map c.args.crews.now (λ h. h.state), length-map c.count_crews-count.new.crews (λ h. h.state), length-map c.args.desks.now (λ h. h.state)) in
     let none : has old.history ≡ false = sym c.is_full.ensures.full ∙ c.if-is_full.false in
-    by_stages c.gather_first-first.result old _ all many none
-    (first_refused old (map (λ h. h.state) c.count_crews-count.new.crews) c.is_full.new.h.state same c.is_full.ensures.same c.gather_first-first.result (map (λ h. h.state) c.gather_first-first.new.desks) c.gather_first-first.new.gathered.state c.gather_first-first.new.settled.state c.gather_first-first.ensures.same c.gather_first-first.ensures.gathers c.if-first-ne-DONE.true)
+    let own : are_own 0 old.crews ≡ true = ap (are_own 0) (sym same) ∙ sym c.are_own.ensures.own ∙ c.if-not-are_own.false in
+    let kept = c.are_own.ensures.same ∙ same in
+    by_stages c.gather_first-first.result old _ all many none own
+    (first_refused old (map (λ h. h.state) c.are_own.new.crews) c.is_full.new.h.state kept c.is_full.ensures.same c.gather_first-first.result (map (λ h. h.state) c.gather_first-first.new.desks) c.gather_first-first.new.gathered.state c.gather_first-first.new.settled.state c.gather_first-first.ensures.same c.gather_first-first.ensures.gathers c.if-first-ne-DONE.true)
 
 pub returns-then-second-ne-DONE : goal.returns-then-second-ne-DONE
 returns-then-second-ne-DONE c =
@@ -46,8 +59,10 @@ returns-then-second-ne-DONE c =
     let all : AreAllCrews old.crews = omega (arith, c.count_crews-count.ensures.count, c.if-count-crews.false, ap length same, length-map c.args.crews.now (λ h. h.state), length-map c.count_crews-count.new.crews (λ h. h.state)) in
     let many : length old.crews ≡ length old.desks = omega (arith, c.if-crews-desks.false, ap length same, length-map c.args.crews.now (λ h. h.state), length-map c.count_crews-count.new.crews (λ h. h.state), length-map c.args.desks.now (λ h. h.state)) in
     let none : has old.history ≡ false = sym c.is_full.ensures.full ∙ c.if-is_full.false in
-    by_stages c.settle_first-second.result old _ all many none
-    (second_refused old (map (λ h. h.state) c.count_crews-count.new.crews) c.is_full.new.h.state same c.is_full.ensures.same c.gather_first-first.result (map (λ h. h.state) c.gather_first-first.new.desks) c.gather_first-first.new.gathered.state c.gather_first-first.new.settled.state c.gather_first-first.ensures.same c.gather_first-first.ensures.gathers c.if-first-ne-DONE.false c.settle_first-second.result c.settle_first-second.new.gathered.state c.settle_first-second.new.settled.state c.settle_first-second.ensures c.if-second-ne-DONE.true)
+    let own : are_own 0 old.crews ≡ true = ap (are_own 0) (sym same) ∙ sym c.are_own.ensures.own ∙ c.if-not-are_own.false in
+    let kept = c.are_own.ensures.same ∙ same in
+    by_stages c.settle_first-second.result old _ all many none own
+    (second_refused old (map (λ h. h.state) c.are_own.new.crews) c.is_full.new.h.state kept c.is_full.ensures.same c.gather_first-first.result (map (λ h. h.state) c.gather_first-first.new.desks) c.gather_first-first.new.gathered.state c.gather_first-first.new.settled.state c.gather_first-first.ensures.same c.gather_first-first.ensures.gathers c.if-first-ne-DONE.false c.settle_first-second.result c.settle_first-second.new.gathered.state c.settle_first-second.new.settled.state c.settle_first-second.ensures c.if-second-ne-DONE.true)
 
 pub returns : goal.returns
 returns c =
@@ -56,5 +71,7 @@ returns c =
     let all : AreAllCrews old.crews = omega (arith, c.count_crews-count.ensures.count, c.if-count-crews.false, ap length same, length-map c.args.crews.now (λ h. h.state), length-map c.count_crews-count.new.crews (λ h. h.state)) in
     let many : length old.crews ≡ length old.desks = omega (arith, c.if-crews-desks.false, ap length same, length-map c.args.crews.now (λ h. h.state), length-map c.count_crews-count.new.crews (λ h. h.state), length-map c.args.desks.now (λ h. h.state)) in
     let none : has old.history ≡ false = sym c.is_full.ensures.full ∙ c.if-is_full.false in
-    by_stages c.resume_crews.result old _ all many none
-    (last_stage old (map (λ h. h.state) c.count_crews-count.new.crews) c.is_full.new.h.state same c.is_full.ensures.same c.gather_first-first.result (map (λ h. h.state) c.gather_first-first.new.desks) c.gather_first-first.new.gathered.state c.gather_first-first.new.settled.state c.gather_first-first.ensures.same c.gather_first-first.ensures.gathers c.if-first-ne-DONE.false c.settle_first-second.result c.settle_first-second.new.gathered.state c.settle_first-second.new.settled.state c.settle_first-second.ensures c.if-second-ne-DONE.false c.resume_crews.result (map (λ h. h.state) c.resume_crews.new.crews) (map (λ h. h.state) c.resume_crews.new.desks) c.resume_crews.new.settled.state c.resume_crews.new.history.state c.resume_crews.ensures)
+    let own : are_own 0 old.crews ≡ true = ap (are_own 0) (sym same) ∙ sym c.are_own.ensures.own ∙ c.if-not-are_own.false in
+    let kept = c.are_own.ensures.same ∙ same in
+    by_stages c.resume_crews.result old _ all many none own
+    (last_stage old (map (λ h. h.state) c.are_own.new.crews) c.is_full.new.h.state kept c.is_full.ensures.same c.gather_first-first.result (map (λ h. h.state) c.gather_first-first.new.desks) c.gather_first-first.new.gathered.state c.gather_first-first.new.settled.state c.gather_first-first.ensures.same c.gather_first-first.ensures.gathers c.if-first-ne-DONE.false c.settle_first-second.result c.settle_first-second.new.gathered.state c.settle_first-second.new.settled.state c.settle_first-second.ensures c.if-second-ne-DONE.false c.resume_crews.result (map (λ h. h.state) c.resume_crews.new.crews) (map (λ h. h.state) c.resume_crews.new.desks) c.resume_crews.new.settled.state c.resume_crews.new.history.state c.resume_crews.ensures)

@@ -9,4 +9,4 @@ pub returns-in-Err-clause-does : goal.returns-in-Err-clause-does
 returns-in-Err-clause-does c =
     subst (λ next. IfCrosses next 2 (c.answer.new.self ≡ c.args.crew.now) (λ n. AnswersNext (pid_crossed c.args.answer.pid) n 2 c.args.crew.now c.answer.new.self))
     (sym c.in-Some.is ∙ c.next_in.ensures)
-    (record { does = inr (inr (refl, c.in-Err.ensures.refused)); memory = λ d a is. absurd (cc (c.in-Err.ensures.ok d a)) })
+    (record { does = inr (inr (refl, c.in-Err.ensures.refused)); memory = λ d a is. absurd (cc (c.in-Err.ensures.ok d a)); desk = c.answer.ensures.desk })

@@ -13,4 +13,5 @@ returns-in-Err c =
       roles = e.roles;
       longer = e.longer;
       rest = e.rest;
+      desk = c.begin_again.ensures.desk;
     }

@@ -11,6 +11,7 @@ invariant-loop-place l = record {
   so_far : AttendsHands l.fn.crew l.fn.desk.shard → RowSo (queue l.fn.crew.crew) l._place l.fn.jobs l.fn.crew l.fn.desk.shard l.filled l.jobs l.crew l.desk.shard;
   attends : AttendsHands l.fn.crew l.fn.desk.shard → AttendsHands l.crew l.desk.shard;
   time : time_of l.crew.crew ≡ time_of l.fn.crew.crew;
+  desk : l.crew.desk ≡ l.fn.crew.desk;
   len : length l.jobs ≡ length l.fn.jobs;
   fits : l.filled ≤ length l.jobs;
   goes_on : GoesOn l.fn.desk l.desk;

@@ -2,7 +2,7 @@
 use Rattle.std.proofs.Common.{◌+◌, ◌<◌, [], length, map, get_or, refl, sym, ap, ◌∙◌, arith}
 use Rattle.std.specs.Prelude.{◌&&◌}
 use Rattle.std.proofs.lemmas.List.{get_or_default}
-use Rattle.pt_table.specs.InOrder.{are_in_order}
+use Rattle.pt_table.specs.InOrder.{are_in_order, is_desk_at}
 use Rattle.pt_table.proofs.AlongRow.{look_one}
 use Rattle.pt_table.proofs.rows.are_in_order.Goals as goal
 
@@ -15,7 +15,7 @@ loop-k-preserved c =
     let desks = c.loop-k.desks in
     let within : k < length desks = omega (arith, c.loop-k-test.true, c.loop-k.auto.desks) in
     let h = get_or desks k c.index-desks-k.result in
-    let l = look_one (λ h. h.state) desks (map (λ h. h.state) c.args.desks.now) (length c.args.desks.now) k h c.loop-k.invariant.same c.loop-k.invariant.looked within (get_or_default desks k c.index-desks-k.result h within) in
+    let l = look_one (λ h. h.state) (λ place. are_in_order place (length c.args.desks.now)) (λ place. is_desk_at place (length c.args.desks.now)) (λ n p ps. refl) desks (map (λ h. h.state) c.args.desks.now) k h c.loop-k.invariant.same c.loop-k.invariant.looked within (get_or_default desks k c.index-desks-k.result h within) in
     record {
       same = l.2 c.is_desk_at.new.h c.is_desk_at.ensures.same;
       looked = l.3 (sym c.is_desk_at.ensures.at ∙ c.if-not-is_desk_at.false);
@@ -27,7 +27,7 @@ returns-then-not-is_desk_at-clause-same c =
     let desks = c.loop-k.desks in
     let within : k < length desks = omega (arith, c.loop-k-test.true, c.loop-k.auto.desks) in
     let h = get_or desks k c.index-desks-k.result in
-    let l = look_one (λ h. h.state) desks (map (λ h. h.state) c.args.desks.now) (length c.args.desks.now) k h c.loop-k.invariant.same c.loop-k.invariant.looked within (get_or_default desks k c.index-desks-k.result h within) in
+    let l = look_one (λ h. h.state) (λ place. are_in_order place (length c.args.desks.now)) (λ place. is_desk_at place (length c.args.desks.now)) (λ n p ps. refl) desks (map (λ h. h.state) c.args.desks.now) k h c.loop-k.invariant.same c.loop-k.invariant.looked within (get_or_default desks k c.index-desks-k.result h within) in
     l.2 c.is_desk_at.new.h c.is_desk_at.ensures.same
 
 pub returns-then-not-is_desk_at-clause-order : goal.returns-then-not-is_desk_at-clause-order
@@ -36,5 +36,5 @@ returns-then-not-is_desk_at-clause-order c =
     let desks = c.loop-k.desks in
     let within : k < length desks = omega (arith, c.loop-k-test.true, c.loop-k.auto.desks) in
     let h = get_or desks k c.index-desks-k.result in
-    let l = look_one (λ h. h.state) desks (map (λ h. h.state) c.args.desks.now) (length c.args.desks.now) k h c.loop-k.invariant.same c.loop-k.invariant.looked within (get_or_default desks k c.index-desks-k.result h within) in
+    let l = look_one (λ h. h.state) (λ place. are_in_order place (length c.args.desks.now)) (λ place. is_desk_at place (length c.args.desks.now)) (λ n p ps. refl) desks (map (λ h. h.state) c.args.desks.now) k h c.loop-k.invariant.same c.loop-k.invariant.looked within (get_or_default desks k c.index-desks-k.result h within) in
     sym (l.1 ∙ ap (λ b. b && are_in_order (k + 1) (length c.args.desks.now) l.0) (sym c.is_desk_at.ensures.at ∙ c.if-not-is_desk_at.true))

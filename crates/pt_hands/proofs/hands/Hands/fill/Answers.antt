@@ -11,6 +11,7 @@ loop-place-init c = record {
   so_far = λ a. none_filled c.args.jobs.now c.args.self.now c.args.desk.now.shard;
   attends = λ a. a;
   time = refl;
+  desk = refl;
   len = refl;
   fits = omega arith;
   goes_on = stays c.args.desk.now;
@@ -29,6 +30,7 @@ loop-place-preserved c =
           c.pull_into-filled.new.self c.pull_into-filled.new.desk.shard c.pull_into-filled.result c.pull_into-filled.new.jobs (omega (arith, t, q)) (omega (arith, f, n)) (r.does (inv.attends a));
       attends = λ a. r.attends (inv.attends a);
       time = r.time ∙ inv.time;
+      desk = r.desk ∙ inv.desk;
       len = r.len ∙ inv.len;
       fits = let w = r.within in let l = r.len in omega (arith, w, l, f);
       goes_on = goes_on_then c.args.desk.now c.loop-place.desk c.pull_into-filled.new.desk inv.goes_on r.goes_on;

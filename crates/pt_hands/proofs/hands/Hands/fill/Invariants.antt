@@ -11,6 +11,7 @@ invariant-loop-place l = record {
   so_far : AttendsHands l.fn.self l.fn.desk.shard → FilledSo (queue l.fn.self.crew) l._place l.fn.jobs l.fn.self l.fn.desk.shard l.filled l.jobs l.self l.desk.shard;
   attends : AttendsHands l.fn.self l.fn.desk.shard → AttendsHands l.self l.desk.shard;
   time : time_of l.self.crew ≡ time_of l.fn.self.crew;
+  desk : l.self.desk ≡ l.fn.self.desk;
   len : length l.jobs ≡ length l.fn.jobs;
   fits : l.filled ≤ length l.jobs;
   goes_on : GoesOn l.fn.desk l.desk;

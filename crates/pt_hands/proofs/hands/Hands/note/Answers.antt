@@ -11,6 +11,7 @@ loop-self-init c = record {
   views = λ q. refl;
   queue = refl;
   rest = record { waiting = refl; left = refl; refused = refl; rounds = refl; time = refl };
+  desk = refl;
 }
 
 pub loop-self-preserved : goal.loop-self-preserved
@@ -23,6 +24,7 @@ loop-self-preserved c =
       views = λ q. n.views q ∙ inv.views q;
       queue = n.queue ∙ inv.queue;
       rest = rest_then c.args.self.now.crew c.loop-self.self.crew c.note_exit.new.self.crew inv.rest n.rest;
+      desk = n.desk ∙ inv.desk;
     }
 
 pub returns-clause-noted : goal.returns-clause-noted

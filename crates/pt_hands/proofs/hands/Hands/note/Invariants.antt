@@ -10,6 +10,7 @@ invariant-loop-self l = record {
   views : SameViews l.initial.self l.self;
   queue : queue l.self.crew ≡ queue l.initial.self.crew;
   rest : KeepsRest l.initial.self.crew l.self.crew;
+  desk : l.self.desk ≡ l.initial.self.desk;
 }
 
 abbrev pub decreases-loop-self : goal.decreases-loop-self

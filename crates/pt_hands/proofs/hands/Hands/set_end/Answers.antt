@@ -10,4 +10,4 @@ returns-in_default c = none_set c.args.self.now c.args.self.now c.args.p c.args.
 pub returns : goal.returns
 returns c =
     let r = c.replace.ensures in
-    set_noted c.args.self.now _ c.args.p c.args.reason c.in-Some.hand.now c.with_end-ended.result c.in-Some.ensures c.with_end-ended.ensures c.replace.result r.replaced r.back refl r.queue r.rest r.attends
+    set_noted c.args.self.now _ c.args.p c.args.reason c.in-Some.hand.now c.with_end-ended.result c.in-Some.ensures c.with_end-ended.ensures c.replace.result r.replaced r.back refl refl r.queue r.rest r.attends

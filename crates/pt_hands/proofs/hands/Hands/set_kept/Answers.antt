@@ -1,4 +1,5 @@
 -- `Hands::set_kept`: its contract.
+use Rattle.std.proofs.Common.{refl}
 use Rattle.pt_crew.specs.Crews.{roles}
 use Rattle.pt_hands.proofs.Noting.{no_role}
 use Rattle.pt_hands.proofs.Keeping.{exit_kept, none_of_these}
@@ -10,4 +11,4 @@ returns-in_default c = none_of_these c.args.self.now c.args.p c.args.reason (no_
 pub returns : goal.returns
 returns c =
     let r = c.replace.ensures in
-    exit_kept c.args.self.now _ c.args.p c.args.reason c.in-Some.hand.now c.with_kept-kept.result c.in-Some.ensures c.with_kept-kept.ensures c.replace.result r.replaced r.back r.queue r.rest r.attends
+    exit_kept c.args.self.now _ c.args.p c.args.reason c.in-Some.hand.now c.with_kept-kept.result c.in-Some.ensures c.with_kept-kept.ensures c.replace.result r.replaced r.back refl r.queue r.rest r.attends

@@ -1,5 +1,5 @@
 -- `Hands::spawn`: its clause `attends`.
-use Rattle.std.proofs.Common.{None, refl}
+use Rattle.std.proofs.Common.{None, Some, refl}
 use Rattle.pt_hands.proofs.Noting.{attends_same, enters_hands, no_exit_born}
 use Rattle.pt_hands.proofs.hands.Hands.spawn.Goals as goal
 
@@ -11,7 +11,7 @@ returns-clause-attends c = λ a.
     let k = a.crew in
     let p = c.in_ok-pid.pid in
     let does = c.in_ok-pid.ensures.does in
-    enters_hands c.args.self.now (record c.args.self.now { crew = c.enter.new.self }) d e p c.args.tag c.new.result c.args.first c.new.ensures a n.goes_on.shard (record { knows = n.knows k.knows; room = n.room k.room; timers = n.timers k.knows k.timers }) does.3 refl does.1
+    enters_hands c.args.self.now (record c.args.self.now { crew = c.enter.new.self; desk = Some c.number-own.result }) d e p c.args.tag c.new.result c.args.first c.new.ensures a n.goes_on.shard (record { knows = n.knows k.knows; room = n.room k.room; timers = n.timers k.knows k.timers }) does.3 refl does.1
     (no_exit_born None None p d e does.0 c.journal-lawful.ensures.local)
 
 pub returns-in_err-pid-clause-attends : goal.returns-in_err-pid-clause-attends

@@ -14,4 +14,4 @@ returns c =
     let r = c.replace.ensures in
     job_taken c.args.self.now _ c.args.p c.args.before c.in_ok-hand.hand.now c.emptied-empty.result c.in_ok-item.item (record { pid = c.args.p; tag = c.tag.result; what = c.what.result }) c.in_ok-hand.ensures (sym c.in_ok-item.ensures) c.emptied-empty.ensures
     (λ j. record { pid = c.args.p; tag = c.tag.ensures j; what = c.what.ensures j })
-    c.replace.result r.replaced r.back refl r.queue r.rest r.attends
+    c.replace.result r.replaced r.back refl r.queue r.rest r.attends refl

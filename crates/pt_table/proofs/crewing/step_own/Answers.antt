@@ -1,7 +1,7 @@
--- `step`: its contract.
-use Rattle.std.proofs.Common.{ap, ◌∙◌}
+-- `step_own`: its contract.
+use Rattle.std.proofs.Common.{Some, ap, ◌∙◌}
 use Rattle.pt_desk.proofs.Turning.{goes_on_then}
-use Rattle.pt_table.proofs.crewing.step.Goals as goal
+use Rattle.pt_table.proofs.crewing.step_own.Goals as goal
 
 pub returns : goal.returns
 returns c =
@@ -22,5 +22,6 @@ returns c =
       attends = λ a. n.attends (f.attends (b.attends c.args.desk.now.shard t.goes_on.shard a));
       awake = λ a. n.ends.awake (f.attends (b.attends c.args.desk.now.shard t.goes_on.shard a)).crew;
       time = n.ends.time ∙ f.time ∙ b.begins.time;
+      desk = n.desk ∙ f.desk ∙ b.desk ∙ ap Some t.goes_on.shard.number;
       goes_on = goes_on_then c.args.desk.now c.turn-turned.new.self c.fill.new.desk t.goes_on f.goes_on;
     }
