@@ -38,17 +38,17 @@ module _ {B : Type 0} where
     handed_as q crews sink (Err (Resuming a)) later after history node is takes h = (history, is, takes, h)
     handed_as q crews sink (Err (Beginning a)) later after history node is takes h = (history, is, takes, h)
 
-    pub settled_as : (g : GatheredState) (node : IsGathered g) (q : QuietState) (crews : List (Crew B)) (sink : S) (result : Result (List DeskState) Halted) (later : List (Crew B)) (after : S) → Settles g q.gathered → NothingLeft q.gathered → (NothingLeft g → q.gathered ≡ g)
+    pub settled_as : (g : GatheredState) (node : IsGathered g) (q : QuietState) (crews : List (Crew B)) (sink : S) (result : Result (List DeskState) Halted) (later : List (Crew B)) (after : S) → IsGathered q.gathered → Settles g q.gathered → NothingLeft q.gathered → (NothingLeft g → q.gathered ≡ g)
         → HandsAs Takes Refuses q crews sink result later after → SettlesAs Takes Refuses g crews sink result later after
-    settled_as g node q crews sink (Ok desks) later after settles none same h = (h.0, record { node = node; settled = q.gathered; settles = settles; nothing_left = none; same = same; over = h.1 })
-    settled_as g node q crews sink (Err (Running a b)) later after settles none same h = (q, settles, none, h)
-    settled_as g node q crews sink (Err (Turning a b)) later after settles none same h = (q, settles, none, h)
-    settled_as g node q crews sink (Err (Gathering a)) later after settles none same h = (q, settles, none, h)
-    settled_as g node q crews sink (Err (Settling a)) later after settles none same h = absurd h.3.2
-    settled_as g node q crews sink (Err (Reading a)) later after settles none same h = (q, settles, none, h)
-    settled_as g node q crews sink (Err (Taking a)) later after settles none same h = (q, settles, none, h)
-    settled_as g node q crews sink (Err (Resuming a)) later after settles none same h = (q, settles, none, h)
-    settled_as g node q crews sink (Err (Beginning a)) later after settles none same h = (q, settles, none, h)
+    settled_as g node q crews sink (Ok desks) later after whole settles none same h = (h.0, record { node = node; settled = q.gathered; settles = settles; nothing_left = none; same = same; over = h.1 })
+    settled_as g node q crews sink (Err (Running a b)) later after whole settles none same h = (q, node, whole, settles, none, h)
+    settled_as g node q crews sink (Err (Turning a b)) later after whole settles none same h = (q, node, whole, settles, none, h)
+    settled_as g node q crews sink (Err (Gathering a)) later after whole settles none same h = (q, node, whole, settles, none, h)
+    settled_as g node q crews sink (Err (Settling a)) later after whole settles none same h = absurd h.3.2
+    settled_as g node q crews sink (Err (Reading a)) later after whole settles none same h = (q, node, whole, settles, none, h)
+    settled_as g node q crews sink (Err (Taking a)) later after whole settles none same h = (q, node, whole, settles, none, h)
+    settled_as g node q crews sink (Err (Resuming a)) later after whole settles none same h = (q, node, whole, settles, none, h)
+    settled_as g node q crews sink (Err (Beginning a)) later after whole settles none same h = (q, node, whole, settles, none, h)
 
     pub ended_as : (old : List DeskState) (g : GatheredState) (crews : List (Crew B)) (sink : S) (result : Result (List DeskState) Halted) (later : List (Crew B)) (after : S) → Gathers old g
         → SettlesAs Takes Refuses g crews sink result later after → EndsAs Takes Refuses old crews sink result later after
@@ -63,7 +63,7 @@ module _ {B : Type 0} where
     )
     ended_as old g crews sink (Err (Running a b)) later after gathers h = (g, gathers, h)
     ended_as old g crews sink (Err (Turning a b)) later after gathers h = (g, gathers, h)
-    ended_as old g crews sink (Err (Gathering a)) later after gathers h = absurd h.3.3.2
+    ended_as old g crews sink (Err (Gathering a)) later after gathers h = absurd h.5.3.2
     ended_as old g crews sink (Err (Settling a)) later after gathers h = (g, gathers, h)
     ended_as old g crews sink (Err (Reading a)) later after gathers h = (g, gathers, h)
     ended_as old g crews sink (Err (Taking a)) later after gathers h = (g, gathers, h)

@@ -81,9 +81,10 @@ pub record ResumesCrews {B : Type 0} (g : GatheredState) (crews : List (Crew B))
   pub resumes : Resumes g desks
   pub begins : EachCrew CrewBegins crews later
 
--- where the crews begin again on a node that was resumed, and one could not
+-- where the crews begin again on a node that was resumed, and one that had no room could not
 abbrev pub HaltsBeginning : {B : Type 0} → List DeskState → List (Crew B) → Halted → List (Crew B) → Type 0
-HaltsBeginning desks crews (Beginning node) later = (node ≡ desks) × EachCrew CrewMayBegin crews later
+HaltsBeginning desks crews (Beginning node) later =
+    (node ≡ desks) × (¬ AllHaveRoom crews) × EachCrew CrewMayBegin crews later
 HaltsBeginning desks crews _ later = ⊥
 
 -- where the node was not resumed, or else there
@@ -152,9 +153,10 @@ module _ {B S : Type 0} (Takes Refuses : S → List Stamped → S → Type 0) wh
 
   abbrev pub HaltsSettling : GatheredState → List (Crew B) → S → Halted → List (Crew B) → S → Type 0
   HaltsSettling g crews sink (Settling back) later after =
-      Settles g back.gathered × (later ≡ crews) × (after ≡ sink)
+      IsGathered g × IsGathered back.gathered × Settles g back.gathered × (later ≡ crews) × (after ≡ sink)
   HaltsSettling g crews sink halted later after =
-      (q : QuietState) × Settles g q.gathered × NothingLeft q.gathered × HaltsHanding q crews sink halted later after
+      (q : QuietState) × IsGathered g × IsGathered q.gathered × Settles g q.gathered × NothingLeft q.gathered
+      × HaltsHanding q crews sink halted later after
 
   abbrev pub HaltsEpoch : List DeskState → List (Crew B) → S → Halted → List (Crew B) → S → Type 0
   HaltsEpoch old crews sink (Gathering back) later after =

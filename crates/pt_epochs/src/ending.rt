@@ -45,11 +45,17 @@ pub(crate) fn settle_over<B: Behaviour + Drop, S: Sink>(
 ) -> Result<Node, Halted>
     ensures { SettlesAs S.takes S.refuses gathered crews.old.items sink.old result crews.new.items sink.new }
 {
-    // read for the proof alone: it says what holds of every gathered node
+    // read for the proof alone, here and below: it says what holds of every gathered node
     let _desks = gathered.desks();
     match gathered.settle_unlisted() {
-        Ok(settled) => hand_over(alloc, settled, crews, sink),
-        Err(unsettled) => Err(Halted::Settling(unsettled)),
+        Ok(settled) => {
+            let _settled = settled.desks();
+            hand_over(alloc, settled, crews, sink)
+        },
+        Err(unsettled) => {
+            let _unsettled = unsettled.gathered.desks();
+            Err(Halted::Settling(unsettled))
+        },
     }
 }
 

@@ -4,3 +4,5 @@ pub mod Resuming
 pub mod Pausing
 pub mod Going
 pub mod Passing
+pub mod Settling
+pub mod Halting

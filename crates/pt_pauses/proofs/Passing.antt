@@ -76,11 +76,11 @@ module _ {B : Type 0} (answers : Answers B) (lets : LetsBegin (Crew B)) (budget 
       (run_upholds answers stands k (anyhow (CrewsDo answers) lets budget) turns budget old.desks leg.ran old.works new.works (Ok tt)
       (paired_taken (CrewsDo answers) lets budget turns old.desks old.works leg.ran new.works leg.runs) a)
 
-  legs_uphold : (Goes : Worked (Crew B) → Type 0) (legs : List ℕ) (old new : Worked (Crew B)) → Legs (InTurns answers lets budget) budget Goes legs old new → AllUphold stands old.works old.desks → AllUphold stands new.works new.desks
+  pub legs_uphold : (Goes : Worked (Crew B) → Type 0) (legs : List ℕ) (old new : Worked (Crew B)) → Legs (InTurns answers lets budget) budget Goes legs old new → AllUphold stands old.works old.desks → AllUphold stands new.works new.desks
   legs_uphold Goes [] old new h a = subst (λ (w : Worked (Crew B)). AllUphold stands w.works w.desks) (sym h) a
   legs_uphold Goes (turns ∷ legs) old new (mid, did, before, leg, on, goes) a = leg_upholds turns mid did new leg (legs_uphold Goes legs old mid before a)
 
-  ends_uphold : (Goes : Worked (Crew B) → Type 0) (most : ℕ) (Ends : Rested → Worked (Crew B) → Type 0) (old new : Worked (Crew B)) → EndsBy (InTurns answers lets budget) budget Goes most old Ends new → AllUphold stands old.works old.desks
+  pub ends_uphold : (Goes : Worked (Crew B) → Type 0) (most : ℕ) (Ends : Rested → Worked (Crew B) → Type 0) (old new : Worked (Crew B)) → EndsBy (InTurns answers lets budget) budget Goes most old Ends new → AllUphold stands old.works old.desks
       → AllUphold stands new.works new.desks
   ends_uphold Goes most Ends old new e a = leg_upholds e.turns e.last e.did new e.leg (legs_uphold Goes e.before old e.last e.legs a)
 
@@ -99,7 +99,7 @@ module _ {B : Type 0} (answers : Answers B) (part : PartOf B) (law : SuperviseAs
     runs_uphold stands k old Told new r a = ends_uphold answers lets plan.budget stands k (GoesFurther plan.events) (max plan.turns 1) (EndsPaused plan.events Told) old new r a
     runs_uphold stands k old Asked new r a = ends_uphold answers lets plan.budget stands k (GoesFurther plan.events) (max plan.turns 1) (EndsPaused plan.events Asked) old new r a
 
-    runs_hold : (past : Past) (old : Worked (Crew B)) (pause : Pause) (new : Worked (Crew B)) → RunsToPause Runs plan old (Ok pause) new → AllHold part past old.works old.desks → AllHold part past new.works new.desks
+    pub runs_hold : (past : Past) (old : Worked (Crew B)) (pause : Pause) (new : Worked (Crew B)) → RunsToPause Runs plan old (Ok pause) new → AllHold part past old.works old.desks → AllHold part past new.works new.desks
     runs_hold past old pause new r h = record {
       uphold = runs_uphold (Keeps past part) (upheld past part answers law) old pause new r h.uphold;
       from = runs_past Runs plan old pause new r past h.from;
@@ -138,7 +138,7 @@ module _ {B : Type 0} (answers : Answers B) (part : PartOf B) (law : SuperviseAs
       one_more past before history pause mid new p h =
           subst (λ (z : Past). AllHold part z new.crews new.desks) (joined before history past) (one_holds (events (reverse before) ++ past) pause history mid new p h)
 
-      each_holds : (n : ℕ) (past : Past) (all : List Stamped) (old new : Manned B S) → PassEach (Runs lets plan) plan Takes Refuses n all old new → AllHold part past old.crews old.desks → AllHold part (events (reverse all) ++ past) new.crews new.desks
+      pub each_holds : (n : ℕ) (past : Past) (all : List Stamped) (old new : Manned B S) → PassEach (Runs lets plan) plan Takes Refuses n all old new → AllHold part past old.crews old.desks → AllHold part (events (reverse all) ++ past) new.crews new.desks
       each_holds zero past all old new h a =
           subst (λ (xs : List Stamped). AllHold part (events (reverse xs) ++ past) new.crews new.desks) (sym h.0) (subst (λ (m : Manned B S). AllHold part past m.crews m.desks) (sym h.1) a)
       each_holds (suc n) past all old new (before, history, mid, pause, is, passed, one, goes) a =

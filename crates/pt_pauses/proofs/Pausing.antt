@@ -67,11 +67,11 @@ born_here d start any low top journal q own local born = ⊎_elim
     absurd (let bad : false ≡ true = sym born ∙ none in cc))
     (cases_eq q.shard d)
 
-abbrev shard_of : DeskState → ShardState
+abbrev pub shard_of : DeskState → ShardState
 shard_of d = d.shard
 
 -- the shard of a desk by its place
-shard_at : (shards : List ShardState) (desks : List DeskState) (d : ℕ) (x : DeskState) (s : ShardState) → shards ≡ all_shards desks → d < length desks → get_or shards d s ≡ (get_or desks d x).shard
+pub shard_at : (shards : List ShardState) (desks : List DeskState) (d : ℕ) (x : DeskState) (s : ShardState) → shards ≡ all_shards desks → d < length desks → get_or shards d s ≡ (get_or desks d x).shard
 shard_at shards desks d x s are within = ap (λ (ss : List ShardState). get_or ss d s) are ∙ get_or-map shard_of desks d x s within
 
 -- one desk over a pause -------------------------------------------------------------------------------

@@ -15,7 +15,7 @@ use Rattle.pt_crew.specs.Visiting.{Answers}
 use Rattle.pt_crew.specs.Upholding.{Relation, IsLater, IsUpheld}
 use Rattle.pt_crew.proofs.Upholding.{alone_same, born_then, later_handled, later_same}
 
-came_of : (e : Event) (past : Past) → AllCame (e ∷ past) → (a : Pid) × (b : Pid) × (x : Signal) × (e ≡ Came a b x) × AllCame past
+pub came_of : (e : Event) (past : Past) → AllCame (e ∷ past) → (a : Pid) × (b : Pid) × (x : Signal) × (e ≡ Came a b x) × AllCame past
 came_of (Came a b x) past h = (a, b, x, refl, h)
 came_of _ past h = absurd h
 

@@ -3,7 +3,7 @@
 //! A node pauses if it is gathered, settled and resumed, and its crews begin again: by separate calls, or at the end of
 //! an epoch ([`pt_epochs`]). Its journals then begin anew, but the supervisors and their children live on. So what
 //! happened before counts. [`paused_children_live`] and [`epochs_children_live`] say what stays true over any number of
-//! pauses. Then the promises of [`pt_supervisor`] hold of the node as it is.
+//! pauses, and [`halted_children_live`] over halts. Then the promises of [`pt_supervisor`] hold of the node as it is.
 //!
 //! Tests: `checks/tried/test_calls/paused.rt.txt`.
 //!
@@ -16,10 +16,17 @@
 //!   before. (`EpochsHold`, `RunsHold`)
 //! - **Idle epochs.** If an epoch ends since nothing is left to do, each child that a live supervisor wants alive is
 //!   alive at its end, or unlinked itself. (`IdleEpochsLive`)
+//! - **Halts.** If a run of epochs halts, the supervisors uphold it on the node as it is then, and also where it goes on.
+//!   (`HaltedRunHolds`, `GoingOnHolds`, `HaltingAgainHolds`)
+//! - **Gathered nodes.** It holds of a node that is gathered, and as it is settled. On such a node each child that is to
+//!   live does, once all is still. If a supervisor stopped by itself, none that it started lives. (`AllHoldIn`,
+//!   `HeldChildrenLive`, `HeldChildrenEnded`)
 #![tactic(auto)]
 
 mod epochs;
+mod halts;
 mod pauses;
 
 pub use epochs::epochs_children_live;
+pub use halts::halted_children_live;
 pub use pauses::paused_children_live;
