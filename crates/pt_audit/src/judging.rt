@@ -2,41 +2,57 @@
 
 use crate::asked::{Asked, Print};
 use crate::output::Output;
-use crate::refusal::{Refusal, unread, wants_memory};
+use crate::refusal::{Refusal, faulty, unread, wants_memory};
 use crate::source::{PIECE, Source};
-use crate::state::rest_of;
-use pt_auditor::{Audit, Fault, Foreign, Hearing, Rest, Verdict};
+use crate::state::let_go;
+use pt_auditor::{Audit, Fault, Foreign, Hearing, Verdict};
 use pt_chart::chart;
 use pt_events::{Event, Stamped};
 use pt_render::{JsonEvent, JsonLeftOver, MERMAID_HEAD, MermaidEvent, MermaidLeftOver};
 use pt_texts::LeftOver;
 use std::alloc::Global;
 use std::io::{Read, Write};
+use std::mem;
 
-/// Reads one history to its end, piece by piece.
-pub fn audit_pieces<R: Read + Drop>(
+/// Reads the next bytes. After a fault the audit has read nothing.
+fn feed(alloc: Global, audit: &mut Audit, bytes: &[u8]) -> Result<(), Fault> {
+    match mem::replace(audit, Audit::new(alloc)).read(alloc, bytes) {
+        Ok(next) => {
+            let_go(mem::replace(audit, next));
+            Ok(())
+        }
+        Err(fault) => Err(fault),
+    }
+}
+
+/// Reads one history to its end, piece by piece, behind so many events.
+pub fn audit_pieces<R: Read>(
     alloc: Global,
-    audit: Audit,
-    from: R,
-) -> Result<Audit, Refusal> {
-    let mut from = from;
-    let mut piece = vec![in alloc; 0u8; PIECE]?;
-    read_pieces(alloc, audit, &mut from, piece.as_mut_slice())
+    audit: &mut Audit,
+    from: &mut R,
+    before: u64,
+) -> Result<(), Refusal> {
+    match vec![in alloc; 0u8; PIECE] {
+        Ok(mut piece) => read_pieces(alloc, audit, from, piece.as_mut_slice(), before),
+        Err(_) => Err(Refusal::Memory),
+    }
 }
 
 fn read_pieces<R: Read>(
     alloc: Global,
-    audit: Audit,
+    audit: &mut Audit,
     from: &mut R,
     piece: &mut [u8],
-) -> Result<Audit, Refusal> {
-    let mut audit = audit;
+    before: u64,
+) -> Result<(), Refusal> {
     for _ in 0..u64::MAX {
         let bytes = read_piece(from, piece)?;
         if bytes.len() == 0 {
-            return Ok(audit);
+            return Ok(());
         }
-        audit = audit.read(alloc, bytes)?;
+        if let Err(fault) = feed(alloc, audit, bytes) {
+            return Err(faulty(fault, before));
+        }
     }
     Err(Refusal::Memory)
 }
@@ -52,22 +68,18 @@ fn read_piece<'a, R: Read>(from: &mut R, piece: &'a mut [u8]) -> Result<&'a [u8]
 /// Reads all files, merged by stamp and desk, and prints the output that comes before the verdict.
 pub fn audit_lines<R: Read + Drop, W: Write>(
     alloc: Global,
-    audit: Audit,
+    audit: &mut Audit,
     sources: &mut [Source<R>],
-    asked: &Asked,
+    asked: &Asked<'_, '_>,
     out: &mut Output<W>,
-) -> Result<Audit, Refusal> {
-    begin(sources, asked, out)?;
+) -> Result<(), Refusal> {
+    print_head(asked, out)?;
+    begin(sources)?;
     audit_all(alloc, audit, sources, asked, out)
 }
 
 /// Reads the first line of each file.
-fn begin<R: Read + Drop, W: Write>(
-    sources: &mut [Source<R>],
-    asked: &Asked,
-    out: &mut Output<W>,
-) -> Result<(), Refusal> {
-    print_head(asked, out)?;
+fn begin<R: Read + Drop>(sources: &mut [Source<R>]) -> Result<(), Refusal> {
     for place in 0..sources.len() {
         sources[place].advance()?;
     }
@@ -76,19 +88,18 @@ fn begin<R: Read + Drop, W: Write>(
 
 fn audit_all<R: Read + Drop, W: Write>(
     alloc: Global,
-    audit: Audit,
+    audit: &mut Audit,
     sources: &mut [Source<R>],
-    asked: &Asked,
+    asked: &Asked<'_, '_>,
     out: &mut Output<W>,
-) -> Result<Audit, Refusal> {
+) -> Result<(), Refusal> {
     let several = sources.len() > 1;
-    let mut audit = audit;
     for _ in 0..u64::MAX {
         let place = first_of(sources);
         let Some(source) = sources.get_mut(place) else {
-            return Ok(audit);
+            return Ok(());
         };
-        audit = step(alloc, audit, source, several, asked, out)?;
+        step(alloc, audit, source, several, asked, out)?;
     }
     Err(Refusal::Memory)
 }
@@ -96,20 +107,42 @@ fn audit_all<R: Read + Drop, W: Write>(
 /// Audits the line of the file, prints it if it is asked for, and reads the next line.
 fn step<R: Read + Drop, W: Write>(
     alloc: Global,
-    audit: Audit,
+    audit: &mut Audit,
     source: &mut Source<R>,
     several: bool,
-    asked: &Asked,
+    asked: &Asked<'_, '_>,
     out: &mut Output<W>,
-) -> Result<Audit, Refusal> {
+) -> Result<(), Refusal> {
     if asked.wants_line_feed() && source.is_torn() {
         return Err(Refusal::Torn(source.file(), source.number()));
     }
-    let audit = hear(alloc, audit, source, several)?;
+    if let Err(fault) = hear(alloc, audit, source.line()) {
+        return Err(fault_of(fault, source, several, out.before));
+    }
     note(audit.hearing(), source, asked, out);
-    match go_on(source, asked, out) {
-        Ok(()) => Ok(audit),
-        Err(refusal) => Err(refusal),
+    print_event(source, asked, out)?;
+    source.advance()
+}
+
+/// Reads the line.
+fn hear(alloc: Global, audit: &mut Audit, line: &[u8]) -> Result<(), Fault> {
+    feed(alloc, audit, line)?;
+    feed(alloc, audit, b"\n".as_slice())
+}
+
+/// The refusal for the fault of the file's line. With several files it names the file.
+fn fault_of<R: Read + Drop>(
+    fault: Fault,
+    source: &Source<R>,
+    names_file: bool,
+    before: u64,
+) -> Refusal {
+    if names_file && !wants_memory(fault) {
+        let line = source.number();
+        let why = fault.why;
+        Refusal::InFile(source.file(), Fault { line, why })
+    } else {
+        faulty(fault, before)
     }
 }
 
@@ -117,7 +150,7 @@ fn step<R: Read + Drop, W: Write>(
 fn note<R: Read + Drop, W: Write>(
     hearing: &Hearing,
     source: &Source<R>,
-    asked: &Asked,
+    asked: &Asked<'_, '_>,
     out: &mut Output<W>,
 ) {
     if out.foreign.is_none() && hearing.foreign().is_some() {
@@ -126,16 +159,6 @@ fn note<R: Read + Drop, W: Write>(
     if let Some(event) = source.event() {
         out.met = out.met || asked.concerns(event);
     }
-}
-
-/// Prints the line of the file, if it is asked for, and reads the next line.
-fn go_on<R: Read + Drop, W: Write>(
-    source: &mut Source<R>,
-    asked: &Asked,
-    out: &mut Output<W>,
-) -> Result<(), Refusal> {
-    print_event(source, asked, out)?;
-    source.advance()
 }
 
 /// The place of the file whose line comes first, or the number of files if none has a line.
@@ -150,35 +173,10 @@ fn first_of<R: Read + Drop>(sources: &[Source<R>]) -> usize {
     first
 }
 
-/// Audits the line of the file. With several files, a fault names its file.
-fn hear<R: Read + Drop>(
-    alloc: Global,
-    audit: Audit,
-    source: &Source<R>,
-    names_file: bool,
-) -> Result<Audit, Refusal> {
-    let heard = match audit.read(alloc, source.line()) {
-        Ok(audit) => audit.read(alloc, b"\n".as_slice()),
-        Err(fault) => Err(fault),
-    };
-    match heard {
-        Ok(audit) => Ok(audit),
-        Err(fault) => {
-            if names_file && !wants_memory(fault) {
-                let line = source.number();
-                let why = fault.why;
-                Err(Refusal::InFile(source.file(), Fault { line, why }))
-            } else {
-                Err(Refusal::from(fault))
-            }
-        }
-    }
-}
-
 /// Prints the line of the file, if it is an event that is asked for, or a letter left over that is printed.
 fn print_event<R: Read + Drop, W: Write>(
     source: &Source<R>,
-    asked: &Asked,
+    asked: &Asked<'_, '_>,
     out: &mut Output<W>,
 ) -> Result<(), Refusal> {
     let Some(event) = source.event() else {
@@ -210,7 +208,7 @@ fn print_event<R: Read + Drop, W: Write>(
 /// Prints the line of the file in a diagram or as JSON, if it is a letter left over whose sending is asked for.
 fn print_left_over<R: Read + Drop, W: Write>(
     source: &Source<R>,
-    asked: &Asked,
+    asked: &Asked<'_, '_>,
     out: &mut Output<W>,
 ) -> Result<(), Refusal> {
     let Some(left_over) = source.left_over() else {
@@ -248,7 +246,7 @@ fn print_left_over<R: Read + Drop, W: Write>(
 }
 
 /// Prints what comes before all events: the first line of a diagram.
-fn print_head<W: Write>(asked: &Asked, out: &mut Output<W>) -> Result<(), Refusal> {
+fn print_head<W: Write>(asked: &Asked<'_, '_>, out: &mut Output<W>) -> Result<(), Refusal> {
     if asked.print == Print::Mermaid {
         writeln!(out.writer, "{MERMAID_HEAD}")?;
     }
@@ -256,7 +254,7 @@ fn print_head<W: Write>(asked: &Asked, out: &mut Output<W>) -> Result<(), Refusa
 }
 
 /// The line that no node prints, with its file if there are several.
-fn no_node<W: Write>(foreign: Foreign, asked: &Asked, out: &Output<W>) -> Refusal {
+fn no_node<W: Write>(foreign: Foreign, asked: &Asked<'_, '_>, out: &Output<W>) -> Refusal {
     match out.foreign {
         Some((place, line)) if asked.files.len() > 1 => {
             let why = foreign.why;
@@ -269,7 +267,7 @@ fn no_node<W: Write>(foreign: Foreign, asked: &Asked, out: &Output<W>) -> Refusa
 /// Prints the verdict, unless no node prints this history and the judge's verdict alone is not enough.
 pub fn conclude<W: Write>(
     verdict: Verdict,
-    asked: &Asked,
+    asked: &Asked<'_, '_>,
     out: &mut Output<W>,
 ) -> Result<(), Refusal> {
     match verdict.foreign {
@@ -286,7 +284,7 @@ pub fn conclude<W: Write>(
 }
 
 /// Whether letters are in flight, or no event came, where that has a status of its own.
-fn is_incomplete(verdict: Verdict, asked: &Asked, before: u64) -> bool {
+fn is_incomplete(verdict: Verdict, asked: &Asked<'_, '_>, before: u64) -> bool {
     (asked.wants_line_feed() && verdict.letters > 0) || (asked.complete && verdict.events == before)
 }
 
@@ -319,36 +317,35 @@ fn print_verdict<W: Write>(
     Ok(())
 }
 
-/// Returns the verdict on all that was read, and what is known of it if that is asked for. If asked for, it first prints
-/// what became of each process, or the chart.
-pub fn finish<W: Write>(
+/// Prints what became of each process, or the chart, if that is asked for and the history is legal so far.
+pub fn print_end<W: Write>(
     alloc: Global,
-    audit: Audit,
-    asked: &Asked,
+    hearing: &Hearing,
+    asked: &Asked<'_, '_>,
     out: &mut Output<W>,
-) -> Result<(Verdict, Option<Rest>), Refusal> {
-    let hearing = audit.hearing();
-    if asked.print == Print::Summary && hearing.end().is_ok() {
-        print_summary(hearing, asked, out)?;
+) -> Result<(), Refusal> {
+    match asked.print {
+        Print::Summary if hearing.end().is_ok() => print_summary(hearing, asked, out),
+        Print::Chart if hearing.end().is_ok() => print_chart(alloc, out),
+        _ => Ok(()),
     }
-    if asked.print == Print::Chart && hearing.end().is_ok() {
-        print_chart(alloc, out)?;
-    }
-    if asked.save.is_some() {
-        return rest_of(alloc, audit);
-    }
-    Ok((audit.end(alloc)?, None))
 }
 
 fn print_chart<W: Write>(alloc: Global, out: &mut Output<W>) -> Result<(), Refusal> {
-    let drawing = chart(alloc, out.drawn.as_slice(), &[])?;
-    out.writer.write_all(drawing.as_str().as_bytes())?;
+    match chart(alloc, out.drawn.as_slice(), &[]) {
+        Ok(drawing) => print_drawing(drawing.as_str(), out),
+        Err(error) => Err(Refusal::from(error)),
+    }
+}
+
+fn print_drawing<W: Write>(drawing: &str, out: &mut Output<W>) -> Result<(), Refusal> {
+    out.writer.write_all(drawing.as_bytes())?;
     Ok(())
 }
 
 fn print_summary<W: Write>(
     hearing: &Hearing,
-    asked: &Asked,
+    asked: &Asked<'_, '_>,
     out: &mut Output<W>,
 ) -> Result<(), Refusal> {
     for number in 0..usize::MAX {

@@ -18,13 +18,13 @@ pub struct Output<W> {
 }
 
 impl<W: Write + Drop> Output<W> {
-    pub fn new(alloc: Global, writer: W) -> Output<W> {
+    pub fn new(alloc: Global, writer: W, before: u64) -> Output<W> {
         Output {
             writer,
             drawn: Vec::new(alloc),
             foreign: None,
             met: false,
-            before: 0,
+            before,
         }
     }
 }

@@ -1,19 +1,12 @@
 //! Why there is no verdict, or not all of the output was printed.
 
-use clap::error::ErrorKind;
 use pt_auditor::{Damage, Fault, Flaw, Foreign, Objection, Unfit, Verdict, Why};
 use pt_signal::Pid;
 use std::alloc::AllocError;
 use std::io;
 
-#[derive(Drop)]
+#[derive(Clone, Copy)]
 pub enum Refusal {
-    /// The words of the command line are wrong, or ask for help.
-    Words(clap::Error),
-    /// A word of the command line is no UTF-8, so nothing can be said of the words.
-    NoText,
-    /// The word of a process is no pid.
-    NoPid,
     /// The first line at fault.
     History(Fault),
     /// The first line at fault among several files: the place of its file, and its number there.
@@ -60,24 +53,15 @@ pub fn wants_memory(fault: Fault) -> bool {
     }
 }
 
-impl From<Fault> for Refusal {
-    fn from(fault: Fault) -> Refusal {
-        if wants_memory(fault) {
-            Refusal::Memory
-        } else {
-            Refusal::History(fault)
-        }
+/// The refusal of a history for this fault. The number of its line is that in the history that is read, behind so many
+/// events.
+pub fn faulty(fault: Fault, before: u64) -> Refusal {
+    if wants_memory(fault) {
+        return Refusal::Memory;
     }
-}
-
-impl From<clap::Error> for Refusal {
-    fn from(error: clap::Error) -> Refusal {
-        if error.kind() == ErrorKind::OutOfMemory {
-            Refusal::Memory
-        } else {
-            Refusal::Words(error)
-        }
-    }
+    let why = fault.why;
+    let line = fault.line.saturating_sub(before);
+    Refusal::History(Fault { line, why })
 }
 
 impl From<AllocError> for Refusal {

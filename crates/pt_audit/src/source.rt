@@ -30,18 +30,21 @@ pub struct Source<R> {
 
 impl<R: Read + Drop> Source<R> {
     pub fn new(alloc: Global, file: usize, reader: R) -> Result<Source<R>, AllocError> {
-        Ok(Source {
-            reader,
-            file,
-            piece: vec![in alloc; 0u8; PIECE]?,
-            filled: 0,
-            place: 0,
-            line: Vec::new(alloc),
-            number: 0,
-            is_open: true,
-            is_torn: false,
-            event: None,
-        })
+        match vec![in alloc; 0u8; PIECE] {
+            Ok(piece) => Ok(Source {
+                reader,
+                file,
+                piece,
+                filled: 0,
+                place: 0,
+                line: Vec::new(alloc),
+                number: 0,
+                is_open: true,
+                is_torn: false,
+                event: None,
+            }),
+            Err(error) => Err(error),
+        }
     }
 
     /// The place of the file among all.

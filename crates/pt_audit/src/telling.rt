@@ -1,5 +1,10 @@
 //! Lines on standard error, and the statuses that go with them.
 
+use crate::asked::Asked;
+use crate::refusal::Refusal;
+use clap::Error;
+use clap::error::ErrorKind;
+use pt_auditor::Verdict;
 use pt_signal::Pid;
 use std::fmt::Display;
 use std::process::ExitCode;
@@ -7,8 +12,8 @@ use std::rt::Runtime;
 use std::{fmt, io};
 
 /// A process that a state has twice.
-#[derive(Drop)]
-pub struct Twice(pub Pid);
+#[derive(Clone, Copy)]
+struct Twice(Pid);
 
 impl fmt::Display for Twice {
     fn fmt<W: fmt::Write>(&self, f: &mut fmt::Formatter<W>) -> fmt::Result {
@@ -18,7 +23,7 @@ impl fmt::Display for Twice {
 }
 
 /// The name, or none.
-pub fn given(name: Option<&str>) -> &str {
+fn given(name: Option<&str>) -> &str {
     match name {
         Some(name) => name,
         None => "",
@@ -32,14 +37,14 @@ pub fn tell<R: Runtime, T: Display + Drop>(rt: &R, line: T, status: u8) -> ExitC
 }
 
 /// Reports what is wrong with the state of this name.
-pub fn tell_state<R: Runtime, T: Display + Drop>(rt: &R, name: Option<&str>, why: T) -> ExitCode {
+fn tell_state<R: Runtime, T: Display + Drop>(rt: &R, name: Option<&str>, why: T) -> ExitCode {
     let name = given(name);
     let _ = eprintln!(rt; "{name}: {why}");
     ExitCode::from(3)
 }
 
 /// Reports that the last line of the file has no line feed.
-pub fn tell_torn<R: Runtime>(rt: &R, name: Option<&str>, line: u64) -> ExitCode {
+fn tell_torn<R: Runtime>(rt: &R, name: Option<&str>, line: u64) -> ExitCode {
     match name {
         Some(name) => {
             let _ = eprintln!(rt; "not complete: {name}: line {line} has no line feed");
@@ -52,10 +57,108 @@ pub fn tell_torn<R: Runtime>(rt: &R, name: Option<&str>, line: u64) -> ExitCode 
 }
 
 /// Reports a file that failed, with its name and the cause if that is asked for.
-pub fn tell_unread<R: Runtime>(rt: &R, explain: bool, name: &str, error: io::Error) -> ExitCode {
+fn tell_unread<R: Runtime>(rt: &R, explain: bool, name: &str, error: io::Error) -> ExitCode {
     let code = tell(rt, "file refused", 3);
     if explain {
         let _ = eprintln!(rt; "{name}: {error}");
     }
     code
+}
+
+/// Prints what `clap` says of the words: the version on standard output, all else on standard error.
+pub fn tell_clap<R: Runtime>(rt: &R, error: Error) -> ExitCode {
+    match error.kind() {
+        ErrorKind::OutOfMemory => tell(rt, "memory refused", 3),
+        ErrorKind::DisplayVersion => tell_version(rt, error),
+        _ => {
+            let _ = rt.eprint(error);
+            ExitCode::from(2)
+        }
+    }
+}
+
+fn tell_version<R: Runtime>(rt: &R, error: Error) -> ExitCode {
+    if rt.print(error).is_ok() {
+        ExitCode::SUCCESS
+    } else {
+        tell(rt, "file refused", 3)
+    }
+}
+
+/// The name of a file.
+fn name_of<'a>(files: &'a [&'a str], place: usize) -> &'a str {
+    if place < files.len() {
+        files[place]
+    } else {
+        "standard input"
+    }
+}
+
+fn tell_unwritten<R: Runtime>(rt: &R, asked: &Asked<'_, '_>, error: io::Error) -> ExitCode {
+    let code = tell(rt, "file refused", 3);
+    if asked.explain {
+        let _ = eprintln!(rt; "the output was not written: {error}");
+    }
+    code
+}
+
+/// Reports why a legal history is not complete.
+fn tell_incomplete<R: Runtime>(rt: &R, verdict: Verdict) -> ExitCode {
+    let letters = verdict.letters;
+    if letters == 0 {
+        return tell(rt, "not complete: no event", 4);
+    }
+    let _ = eprintln!(rt; "not complete: {letters} letters on their way");
+    ExitCode::from(4)
+}
+
+/// Reports why there is no verdict, or not all of the output was printed.
+pub fn tell_refusal<R: Runtime>(rt: &R, asked: &Asked<'_, '_>, refusal: Refusal) -> ExitCode {
+    let files = asked.files;
+    match refusal {
+        Refusal::History(fault) => tell(rt, fault, 1),
+        Refusal::InFile(place, fault) => {
+            let name = name_of(files, place);
+            let _ = eprintln!(rt; "{name}: {fault}");
+            ExitCode::from(1)
+        }
+        Refusal::NoNode(foreign) => {
+            let _ = eprintln!(rt; "legal, but of no node: {foreign}");
+            ExitCode::from(1)
+        }
+        Refusal::NoNodeInFile(place, foreign) => {
+            let name = name_of(files, place);
+            let _ = eprintln!(rt; "legal, but of no node: {name}: {foreign}");
+            ExitCode::from(1)
+        }
+        Refusal::Incomplete(verdict) => tell_incomplete(rt, verdict),
+        Refusal::Torn(place, line) if files.len() > 1 => {
+            tell_torn(rt, Some(name_of(files, place)), line)
+        }
+        Refusal::Torn(_, line) => tell_torn(rt, None, line),
+        refusal => tell_stated(rt, asked, refusal),
+    }
+}
+
+/// Reports what is wrong with a state or a file, or that there was no memory.
+fn tell_stated<R: Runtime>(rt: &R, asked: &Asked<'_, '_>, refusal: Refusal) -> ExitCode {
+    match refusal {
+        Refusal::Damaged(damage) => tell_state(rt, asked.resume, damage),
+        Refusal::Twice(pid) => tell_state(rt, asked.resume, Twice(pid)),
+        Refusal::UnreadState(error) => tell_unread(rt, asked.explain, given(asked.resume), error),
+        Refusal::Unsaved(error) => tell_unread(rt, asked.explain, given(asked.save), error),
+        Refusal::Unread(place, error) => {
+            tell_unread(rt, asked.explain, name_of(asked.files, place), error)
+        }
+        Refusal::Unwritten(error) => tell_unwritten(rt, asked, error),
+        _ => tell(rt, "memory refused", 3),
+    }
+}
+
+/// Reports that no event concerned the process that was asked for.
+pub fn tell_nobody<R: Runtime>(rt: &R, asked: &Asked<'_, '_>) -> ExitCode {
+    if let Some(pid) = asked.selection.pid {
+        let _ = eprintln!(rt; "no event concerns {pid}");
+    }
+    ExitCode::SUCCESS
 }
