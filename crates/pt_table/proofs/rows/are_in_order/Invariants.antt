@@ -1,5 +1,5 @@
 -- `are_in_order`: what holds in its loop over `k`.
-use Rattle.std.proofs.Common.{◌≡◌, length, map}
+use Rattle.std.proofs.Common.{◌≡◌, map}
 use Rattle.pt_table.proofs.AlongRow.{InOrderSoFar}
 use Rattle.pt_table.proofs.rows.are_in_order.Given as goal
 
