@@ -24,7 +24,13 @@ impl Name {
     pub fn new(text: &str) -> Option<Name>
         ensures { result ≡ (if is_name_text text.now then Some (record { letters = padded text.now }) else None) }
     {
-        let bytes = text.as_bytes();
+        Name::from_bytes(text.as_bytes())
+    }
+
+    /// The name with these bytes as its text, or `None` if they have not the form of a name.
+    pub fn from_bytes(bytes: &[u8]) -> Option<Name>
+        ensures { result ≡ (if is_name_text bytes.now then Some (record { letters = padded bytes.now }) else None) }
+    {
         if is_name(bytes) {
             Some(Name {
                 letters: padded(bytes),
@@ -32,6 +38,13 @@ impl Name {
         } else {
             None
         }
+    }
+
+    /// Its letters, and zeros after them.
+    pub fn letters(&self) -> [u8; MAX_LETTERS]
+        ensures { result ≡ self.now.letters }
+    {
+        self.letters
     }
 }
 
