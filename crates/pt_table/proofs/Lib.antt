@@ -1,6 +1,4 @@
 -- The lemmas that more than one function of the crate uses.
-pub mod Values
-pub mod Handles
 pub mod InRow
 pub mod Waking
 pub mod InCrew

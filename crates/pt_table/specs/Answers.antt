@@ -1,6 +1,8 @@
 -- What a call answers C, and what it leaves.
 use Rattle.std.specs.Prelude.{◌≡◌, ℕ, Bool, true, false, ◌∷◌, [], List, Option, Some, None}
 use Rattle.std.specs.Prelude.{Result, Ok, Err, is_some, slice_get, cond}
+pub use Rattle.pt_places.specs.Places.{HandlePlace, value_behind, full, had, values, CallsThrough, ReadsThrough}
+pub use Rattle.pt_places.specs.Places.{some_or, ShowsCode}
 use Rattle.pt_signal.specs.declared.pid.Pid.{Pid}
 use Rattle.pt_signal.specs.declared.ids.Ref.{Ref}
 use Rattle.pt_signal.specs.declared.item.Body.{Body}
@@ -24,42 +26,8 @@ use Rattle.pt_table.specs.declared.types.PtItem.{PtItem}
 use Rattle.pt_table.specs.declared.types.PtTurned.{PtTurned}
 use Rattle.pt_table.specs.declared.types.PtPick.{PtPick}
 use Rattle.pt_table.specs.declared.types.PtReason.{PtReason}
-use Rattle.pt_table.specs.Codes.{code_at, found_code, some_code, stop_code, unknown, empty, bad_code}
+use Rattle.pt_table.specs.Codes.{code_at, found_code, stop_code, unknown, bad_code}
 use Rattle.pt_table.specs.Crossing.{pid_out, ref_out, item_out, pick_in, reason_in}
-
--- handles ------------------------------------------------------------------------------
-
--- What a handle has: nothing, or a place on the heap, with a value or without.
-abbrev pub HandlePlace : Type 0 → Type 0
-HandlePlace S = Option (Option S)
-
-abbrev pub value_behind : {S : Type 0} → HandlePlace S → Option S
-value_behind (Some (Some s)) = Some s
-value_behind _ = None
-
-abbrev pub full : {S : Type 0} → S → HandlePlace S
-full s = Some (Some s)
-
-abbrev pub had : {S : Type 0} → Option S → List S → List S
-had (Some s) rest = s ∷ rest
-had None rest = rest
-
--- what the handles of a row have, in order
-abbrev pub values : {S : Type 0} → List (HandlePlace S) → List S
-values [] = []
-values (p ∷ places) = had (value_behind p) (values places)
-
--- a call of what the handle has: P ties it before and after; where the handle has nothing the code says so, and nothing
--- has changed
-abbrev pub CallsThrough : {S : Type 0} → HandlePlace S → HandlePlace S → ℕ → Type 0 → (S → S → Type 0) → Type 0
-CallsThrough (Some (Some old)) (Some (Some new)) code kept P = P old new
-CallsThrough (Some (Some old)) _ code kept P = ⊥
-CallsThrough old new code kept P = (code ≡ empty) × (new ≡ old) × kept
-
--- a call that only reads
-abbrev pub ReadsThrough : {S : Type 0} → HandlePlace S → HandlePlace S → ℕ → Type 0 → (S → Type 0) → Type 0
-ReadsThrough (Some (Some old)) new code kept P = (new ≡ Some (Some old)) × P old
-ReadsThrough old new code kept P = (code ≡ empty) × (new ≡ old) × kept
 
 -- what is passed out ---------------------------------------------------------------------
 
@@ -71,10 +39,6 @@ told_or f before (Err e) = before
 abbrev pub found_or : {A B : Type 0} → (A → B) → B → Result (Option A) Fault → B
 found_or f before (Ok (Some a)) = f a
 found_or f before _ = before
-
-abbrev pub some_or : {A B : Type 0} → (A → B) → B → Option A → B
-some_or f before (Some a) = f a
-some_or f before None = before
 
 -- an answer that P allows, as its code
 abbrev pub AnswersCode : ℕ → (Result (Unit {0}) Fault → Type 0) → Type 0
@@ -88,10 +52,6 @@ GivesCode {A} code before after f P = (r : Result A Fault) × (code ≡ code_at 
 abbrev pub FindsCode : {A B : Type 0} → ℕ → B → B → (A → B) → (Result (Option A) Fault → Type 0) → Type 0
 FindsCode {A} code before after f P =
     (r : Result (Option A) Fault) × (code ≡ found_code r) × (after ≡ found_or f before r) × P r
-
--- what is read, where there is any
-abbrev pub ShowsCode : {A B : Type 0} → ℕ → B → B → (A → B) → Option A → Type 0
-ShowsCode code before after f a = (code ≡ some_code a) × (after ≡ some_or f before a)
 
 -- the calls ------------------------------------------------------------------------------
 

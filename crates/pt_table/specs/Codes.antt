@@ -1,5 +1,6 @@
 -- The codes that calls answer. 0 is done, and each of the others has one meaning in every call.
 use Rattle.std.specs.Prelude.{ℕ, Option, Some, None, Result, Ok, Err}
+pub use Rattle.pt_places.specs.Places.{nothing_there, empty, some_code}
 use Rattle.pt_signal.specs.declared.config.OpenError.{OpenError}
 use Rattle.pt_signal.specs.declared.config.OpenError.TheVariants.{Bounds, Memory as NoMemory}
 use Rattle.pt_signal.specs.declared.config.Setting.TheVariants.{Desks, Slots, TopVersion, Lane, Start}
@@ -19,14 +20,6 @@ code_of NoProc = 6
 -- the desk cannot have had the target
 abbrev pub unknown : ℕ
 unknown = 7
-
--- there is nothing of what was asked for
-abbrev pub nothing_there : ℕ
-nothing_there = 8
-
--- a handle has nothing
-abbrev pub empty : ℕ
-empty = 9
 
 -- a handle that is to be filled has something
 abbrev pub filled : ℕ
@@ -61,10 +54,6 @@ abbrev pub found_code : {A : Type 0} → Result (Option A) Fault → ℕ
 found_code (Ok (Some a)) = 0
 found_code (Ok None) = nothing_there
 found_code (Err f) = code_of f
-
-abbrev pub some_code : {A : Type 0} → Option A → ℕ
-some_code (Some a) = 0
-some_code None = nothing_there
 
 abbrev pub stop_code : Option Stop → ℕ
 stop_code None = 0

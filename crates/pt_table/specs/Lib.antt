@@ -1,4 +1,3 @@
-pub mod Held
 pub mod Crossing
 pub mod Jobs
 pub mod Crewing

@@ -33,7 +33,6 @@ pub mod gathered_handle;
 pub mod held;
 pub mod history_handle;
 pub mod looking;
-mod loose;
 pub mod losing;
 pub mod quiet_handle;
 pub mod rows;

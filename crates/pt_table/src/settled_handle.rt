@@ -5,11 +5,11 @@ ghost use Rattle.std.specs.Coded.{coded_option};
 ghost use Rattle.std.specs.Option.{option_map};
 ghost use Rattle.pt_table.specs.contracts.held.HeldSettled.{the_row as row};
 ghost use Rattle.pt_table.specs.Answers.{value_behind, full};
-ghost use Rattle.pt_table.specs.Held.{held_on_heap};
+ghost use Rattle.pt_places.specs.Held.{held_on_heap};
 
 use crate::held::HeldSettled;
-use crate::loose::{Loose, Opaque};
 use pt_node::Settled;
+use pt_places::loose::{Loose, Opaque};
 use std::alloc::{AllocError, Global};
 use std::marker::Model;
 use std::mem;

@@ -33,8 +33,8 @@ use Rattle.std_heap.proofs.Global.TheLaws as heap
 use Rattle.std_heap.proofs.Handle.{heap_val, heap_Tells}
 use Rattle.std_heap.specs.contracts.GlobalAllocator.TheImpl.{ghosts}
 use Rattle.pt_table.specs.contracts.held.HeldCrew as value
-use Rattle.pt_table.proofs.Values.{both, Loose, loose_in, loose_good}
-use Rattle.pt_table.proofs.Handles.{slot_at, one_val, one_told, one_typed, either_held}
+use Rattle.pt_places.proofs.Values.{both, Loose, loose_in, loose_good}
+use Rattle.pt_places.proofs.Handles.{slot_at, one_val, one_told, one_typed, either_held}
 use Rattle.pt_table.specs.contracts.crew_handle.CrewHandle.into_loose.{ended, clauses}
 use Rattle.pt_table.specs.contracts.crew_handle.CrewHandle.into_loose.Key.{name as #self}
 use Rattle.pt_table.proofs.crew_handle.CrewHandle.into_loose.Statement.{statement}

@@ -12,7 +12,7 @@ use Rattle.std_alloc.proofs.SendSync.{quiet, lies}
 use Rattle.std_heap.proofs.Handle.{handle}
 use Rattle.pt_table.specs.contracts.held.HeldGathered as value
 use Rattle.pt_table.proofs.held.HeldGathered.TheSendSync.{the_send}
-use Rattle.pt_table.specs.Held.{held_on_heap}
+use Rattle.pt_places.specs.Held.{held_on_heap}
 use Rattle.pt_table.specs.contracts.gathered_handle.GatheredHandle.{the_row, the_type}
 
 keyless : (d : Option (value.the_row).Denot) (p : Ptr) → Keyless (held_on_heap value.the_row d p)

@@ -18,7 +18,7 @@ use denote.Steps.{nothing}
 use denote.Triple.Entry.{alive}
 use denote.Triple.Walked.{Stays, walk_of}
 use Rattle.std.proofs.raw_atomic.Walks.{proved_at, leaves}
-use Rattle.pt_table.proofs.Handles.{one_val, one_own, one_made, one_typed}
+use Rattle.pt_places.proofs.Handles.{one_val, one_own, one_made, one_typed}
 use Rattle.pt_table.specs.contracts.quiet_handle.QuietHandle as handle
 use Rattle.pt_table.specs.contracts.quiet_handle.QuietHandle.none.{ended, clauses}
 use Rattle.pt_table.specs.contracts.quiet_handle.QuietHandle.none.Key.{name as #self}

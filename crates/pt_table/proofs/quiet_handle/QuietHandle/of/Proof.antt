@@ -24,8 +24,8 @@ use Rattle.std_heap.specs.contracts.Global as Heap
 use Rattle.std_heap.proofs.Global.TheLaws as heap
 use Rattle.std_heap.specs.contracts.GlobalAllocator.TheImpl.{ghosts}
 use Rattle.pt_table.specs.contracts.held.HeldQuiet as value
-use Rattle.pt_table.proofs.Values.{both, loose_out, loose_good}
-use Rattle.pt_table.proofs.Handles.{slot_at, one_val, one_own, one_made, one_typed}
+use Rattle.pt_places.proofs.Values.{both, loose_out, loose_good}
+use Rattle.pt_places.proofs.Handles.{slot_at, one_val, one_own, one_made, one_typed}
 use Rattle.pt_table.specs.contracts.quiet_handle.QuietHandle as handle
 use Rattle.pt_table.specs.contracts.quiet_handle.QuietHandle.of.{ended, clauses}
 use Rattle.pt_table.specs.contracts.quiet_handle.QuietHandle.of.Key.{name as #self}

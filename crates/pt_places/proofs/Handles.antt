@@ -21,7 +21,7 @@ use denote.Struct.Struct.{Struct}
 use Rattle.core.proofs.cell.Inside.{Good}
 use Rattle.std_heap.proofs.GlobalToken.{dealloc_token-Testable}
 use Rattle.std_alloc.specs.Box.Ownership.{box_owns}
-use Rattle.pt_table.specs.Held.{held_on_heap, freeing}
+use Rattle.pt_places.specs.Held.{held_on_heap, freeing}
 
 abbrev pub plainly : List RattleType → RattleType
 plainly Rs = Struct (record { name = []; args = []; types = []; fields = Rs })

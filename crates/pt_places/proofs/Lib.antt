@@ -1,0 +1,3 @@
+-- The lemmas that more than one function uses.
+pub mod Values
+pub mod Handles

@@ -1,0 +1,13 @@
+//! What the handles of C have in common: a box as its pointer, what a handle owns, and what a call does through one.
+//!
+//! A handle is a struct of one pointer, null if it has nothing. Each type of handle is a struct of its own, since the
+//! toolchain takes no type parameter there. Its proof is made of the lemmas here.
+//!
+//! Tests: `bindings/run.sh`.
+//!
+//! # What is proved
+//!
+//! - **Boxes.** A box and its pointer are made of each other, with the same value. (`Loose`)
+#![tactic(auto)]
+
+pub mod loose;
