@@ -30,7 +30,8 @@ PROGRAM = "pt_c_unproved"
 EXPORT = re.compile(r'#\[unsafe\(no_mangle\)\]\n(?:#\[.*\]\n)*pub extern "C" fn (\w+)\(([^)]*)\)( -> u32)?')
 # How a struct that is passed by value crosses: by a pointer, or as its two fields.
 BY_POINTER = ("PtPid", "PtBody", "PtPick", "PtConfig", "PtNext")
-BY_FIELDS = {"PtRef": ("desk", "number"), "PtReason": ("code", "number")}
+BY_FIELDS = {"PtRef": ("desk", "number"), "PtReason": ("code", "number"), "PtTimer": ("at", "number")}
+FIELD_TYPES = {"PtRef": ["uint8_t", "uint64_t"], "PtReason": ["uint32_t", "uint32_t"], "PtTimer": ["uint64_t", "uint64_t"]}
 ROW = re.compile(r"(&(?:mut )?)\[(\w+)\]")
 PLAIN = {"u8": "uint8_t", "u32": "uint32_t", "u64": "uint64_t", "usize": "size_t", "bool": "bool"}
 
@@ -65,7 +66,8 @@ def argument(kind: str) -> str:
         return "rt.alloc()"
     if row := ROW.fullmatch(kind):
         module = {"DeskHandle": "desk_handle", "CrewHandle": "crew_handle"}.get(row[2], "types")
-        return f"{row[1]}any::<[pt_table::{module}::{row[2]}; 1]>(&rt)"
+        item = row[2] if row[2] in PLAIN else f"pt_table::{module}::{row[2]}"
+        return f"{row[1]}any::<[{item}; 1]>(&rt)"
     return "&mut any(&rt)" if kind.startswith("&mut ") else "any(&rt)"
 
 
@@ -150,8 +152,7 @@ def crossing(name: str, kind: str) -> tuple[list[str], list[str], list[str]]:
         return [f"{kind} {name}"], [f"{kind} *"], [f"&{name}"]
     if kind in BY_FIELDS:
         first, second = BY_FIELDS[kind]
-        types = ["uint8_t", "uint64_t"] if kind == "PtRef" else ["uint32_t", "uint32_t"]
-        return [f"{kind} {name}"], types, [f"{name}.{first}", f"{name}.{second}"]
+        return [f"{kind} {name}"], FIELD_TYPES[kind], [f"{name}.{first}", f"{name}.{second}"]
     if kind in PLAIN:
         return [f"{PLAIN[kind]} {name}"], [PLAIN[kind]], [name]
     raise Fault(f"a parameter of type {kind}: how does it cross?")
@@ -164,6 +165,7 @@ STRUCTS = """\
 typedef struct { uint8_t shard; uint32_t slot; uint32_t version; } PtPid;
 typedef struct { uint8_t desk; uint64_t number; } PtRef;
 typedef struct { uint32_t code; uint32_t number; } PtReason;
+typedef struct { uint64_t at; uint64_t number; } PtTimer;
 typedef struct { uint32_t kind; int64_t num; bool has_who; PtPid who; } PtBody;
 typedef struct { uint32_t code; uint32_t kind; PtPid pid; PtRef reference; } PtPick;
 typedef struct { uint32_t slots; uint32_t top_version; uint32_t lane; uint64_t start; } PtConfig;

@@ -115,7 +115,7 @@ by_the_page() { # SED-SCRIPT
 mkdir -p "$work/page"
 ln -s "$here" "$work/page/bindings"
 by_the_page '' >"$work/printed"
-for example in about bad_codes crew crew_load losses no_memory refused resumed ring supervisor; do
+for example in about bad_codes crew crew_load losses no_memory refused refused_tools resumed ring supervisor tools; do
     by_the_page "/^\.\//d; s/ping_pong/$example/g" >"$work/printed"
     [ -x "$work/page/$example" ] || { echo "bindings: the lines of docs/EMBEDDING.md do not build $example"; exit 1; }
 done
@@ -130,11 +130,13 @@ build crew
 build crew_load
 build rows
 build supervisor
+build tools
 build ring
 build resumed
 build no_memory
 build losses
 build refused
+build refused_tools
 "$work/about"
 "$work/bad_codes"
 "$work/crew_load"
@@ -143,19 +145,21 @@ build refused
 "$work/no_memory"
 "$work/losses"
 "$work/refused"
+"$work/refused_tools"
 "$work/supervisor" | diff "$here/c/supervisor.out" -
 "$work/resumed" | diff "$here/c/resumed.out" -
+"$work/tools" | diff "$here/c/tools.out" -
 "$work/ring" >"$work/printed"
 for standard in c++11 c++20; do
     echo '#include "pundewo_text.h"
         pt_desk desk = PT_NO_DESK; pt_gathered node = PT_NO_GATHERED; pt_quiet quiet = PT_NO_QUIET; pt_history all = PT_NO_HISTORY;
-        pt_crew crew = PT_NO_CREW;' |
+        pt_crew crew = PT_NO_CREW; pt_timers timers = PT_NO_TIMERS; pt_names names = PT_NO_NAMES;' |
         cc -x c++ -std=$standard -I "$here/c" -Wall -Wextra -Wpedantic -Werror -fsyntax-only -
 done
 if command -v valgrind >/dev/null; then
     # (fair: four threads that spin would else wait for each other for minutes)
     memory="valgrind -q --fair-sched=try --error-exitcode=9 --leak-check=full --show-leak-kinds=all --errors-for-leak-kinds=all"
-    for program in about bad_codes losses "rows $work/table" supervisor resumed "ring 20" crew "crew_load 3000"; do
+    for program in about bad_codes losses "rows $work/table" supervisor resumed tools "ring 20" crew "crew_load 3000"; do
         $memory "$work/"$program >"$work/printed" 2>&1 \
             || { cat "$work/printed"; echo "valgrind: $program is not clean"; exit 1; }
     done

@@ -58,6 +58,10 @@ static void samples(void) {
     TRUE(lost.has_exited); pid(lost.pid); reason(lost.reason); NEXT(lost.items);
     SAMPLE(pt_account, a, pt_about_account);
     TRUE(a.has_ended); reason(a.ended); NEXT(a.arrived); NEXT(a.taken); NEXT(a.waiting);
+    SAMPLE(pt_fired, f, pt_about_fired);
+    NEXT(f.timer.at); NEXT(f.timer.number); NEXT(f.body);
+    SAMPLE(pt_holder, h, pt_about_holder);
+    pid(h.pid); ref(h.monitor);
     SAMPLE(pt_config, c, pt_about_config);
     NEXT(c.slots); NEXT(c.top_version); NEXT(c.lane); NEXT(c.start);
     SAMPLE(pt_job, j, pt_about_job);
@@ -86,6 +90,10 @@ static void sizes(void) {
     is("pt_next", s.next, sizeof(pt_next));
     is("pt_job", s.job, sizeof(pt_job));
     is("pt_answer", s.answer, sizeof(pt_answer));
+    is("pt_timer", s.timer, sizeof(pt_timer));
+    is("pt_fired", s.fired, sizeof(pt_fired));
+    is("pt_name", s.name, sizeof(pt_name));
+    is("pt_holder", s.holder, sizeof(pt_holder));
     is("pt_codes", s.codes, sizeof(pt_codes));
 }
 
@@ -93,7 +101,7 @@ static void codes(void) {
     static const uint32_t all[] = {
         PT_OK, PT_FULL, PT_MEMORY, PT_WORN, PT_GONE, PT_MYSELF, PT_NOPROC, PT_UNKNOWN, PT_NOTHING, PT_EMPTY, PT_FILLED,
         PT_BAD_DESKS, PT_BAD_SLOTS, PT_BAD_TOP_VERSION, PT_BAD_LANE, PT_BAD_START, PT_BAD_CODE, PT_NOT_RUNNING,
-        PT_WRONG_DESK,
+        PT_WRONG_DESK, PT_BAD_NAME, PT_TAKEN, PT_HAS_NAME,
         PT_NORMAL, PT_KILL, PT_KILLED, PT_NO_PROCESS, PT_SHUTDOWN, PT_OTHER,
         PT_ITEM_USER, PT_ITEM_EXIT, PT_ITEM_DOWN, PT_ITEM_ALIVE,
         PT_PICK_KIND, PT_PICK_FROM, PT_PICK_EXIT_OF, PT_PICK_DOWN_OF, PT_PICK_ALIVE_OF, PT_PICK_ANY,

@@ -41,6 +41,8 @@ typedef struct { void *at; } pt_quiet;
 typedef struct { void *at; } pt_settled;
 typedef struct { void *at; } pt_history;
 typedef struct { void *at; } pt_crew;
+typedef struct { void *at; } pt_timers;
+typedef struct { void *at; } pt_names;
 
 #ifdef __cplusplus
 #define PT_NO_DESK pt_desk{nullptr}
@@ -49,6 +51,8 @@ typedef struct { void *at; } pt_crew;
 #define PT_NO_SETTLED pt_settled{nullptr}
 #define PT_NO_HISTORY pt_history{nullptr}
 #define PT_NO_CREW pt_crew{nullptr}
+#define PT_NO_TIMERS pt_timers{nullptr}
+#define PT_NO_NAMES pt_names{nullptr}
 #else
 #define PT_NO_DESK ((pt_desk){0})
 #define PT_NO_GATHERED ((pt_gathered){0})
@@ -56,6 +60,8 @@ typedef struct { void *at; } pt_crew;
 #define PT_NO_SETTLED ((pt_settled){0})
 #define PT_NO_HISTORY ((pt_history){0})
 #define PT_NO_CREW ((pt_crew){0})
+#define PT_NO_TIMERS ((pt_timers){0})
+#define PT_NO_NAMES ((pt_names){0})
 #endif
 
 /* The name and the version of the library, and whether it was proved. */
@@ -81,7 +87,10 @@ enum pt_code {
     PT_BAD_START = 15,      /* at most 2^62 */
     PT_BAD_CODE = 16,       /* a code in a struct that was passed in means nothing */
     PT_NOT_RUNNING = 17,    /* an answer for a process that was told nothing, or has been answered */
-    PT_WRONG_DESK = 18      /* the crew is that of a desk with another number */
+    PT_WRONG_DESK = 18,     /* the crew is that of a desk with another number */
+    PT_BAD_NAME = 19,       /* the bytes are no name */
+    PT_TAKEN = 20,          /* a process has the name */
+    PT_HAS_NAME = 21        /* the process has a name */
 };
 
 /* The name of a process: its desk, its slot there, and how often the slot was given out. No two have the same. */
@@ -194,6 +203,19 @@ typedef struct {
 /* What a running process does next. */
 typedef struct { pt_pid pid; pt_next next; } pt_answer;
 
+/* A timer: when it is due, and the number of timers that were started before it. No two timers of one pt_timers have the
+ * same. */
+typedef struct { uint64_t at; uint64_t number; } pt_timer;
+
+/* A timer that is due, and the number that it was started with. */
+typedef struct { pt_timer timer; uint64_t body; } pt_fired;
+
+/* The name of a process: its letters, and zeros after them. A name of 32 letters has no zero: print it by "%.32s". */
+typedef struct { char letters[32]; } pt_name;
+
+/* The process that has a name, and the monitor that it was registered with. */
+typedef struct { pt_pid pid; pt_ref monitor; } pt_holder;
+
 /* ---- nodes */
 
 /* Opens a node: the `count` handles, all empty, get its desks, in order. PT_FILLED, PT_MEMORY, PT_BAD_.. */
@@ -232,6 +254,8 @@ uint32_t pt_quiet_give_up(pt_quiet *node);
 uint32_t pt_settled_give_up(pt_settled *node);
 uint32_t pt_history_give_up(pt_history *history);
 uint32_t pt_crew_give_up(pt_crew *crew);
+uint32_t pt_timers_give_up(pt_timers *timers);
+uint32_t pt_names_give_up(pt_names *names);
 
 /* ---- calls of a process on its desk. Each may answer PT_GONE, PT_WORN, PT_MEMORY and PT_EMPTY
  *
@@ -361,6 +385,64 @@ uint32_t pt_crew_is_idle(pt_crew *crew, pt_desk *desk, bool *out);
 /* Whether a process was refused memory or a stamp in the last step. */
 uint32_t pt_crew_refused(pt_crew *crew, bool *out);
 
+/* ---- timers: numbers of your own, each due at a time, as Erlang's send_after and cancel_timer keep them. Each may answer
+ * PT_EMPTY
+ *
+ * No call reads a clock. You pass the time as a number, in a unit of your own and in any order. A timer that was started
+ * is pending, has fired or was cancelled, and the last two are for ever. */
+
+/* Begins timers, of which none is pending. PT_FILLED, PT_MEMORY. */
+uint32_t pt_timers_open(pt_timers *timers);
+
+/* Starts a timer that is due at the time `at`, with the number `body`. PT_MEMORY; PT_WORN after 2^64 - 1 timers. */
+uint32_t pt_timers_start(pt_timers *timers, uint64_t at, uint64_t body, pt_timer *out);
+
+/* Cancels a timer: it never fires then. PT_NOTHING: it was not pending. */
+uint32_t pt_timers_cancel(pt_timers *timers, pt_timer timer);
+
+/* Fires one timer that is due by `now`: the one with the earliest time, and the one started first among those.
+ * PT_NOTHING: none is due. pt_timers_peek_due tells which it would be, and leaves it pending. */
+uint32_t pt_timers_pop_due(pt_timers *timers, uint64_t now, pt_fired *out);
+uint32_t pt_timers_peek_due(pt_timers *timers, uint64_t now, pt_fired *out);
+
+/* The earliest time of a pending timer. PT_NOTHING: none is pending. */
+uint32_t pt_timers_next(pt_timers *timers, uint64_t *out);
+
+/* The number that a pending timer was started with. PT_NOTHING: it is not pending. */
+uint32_t pt_timers_get(pt_timers *timers, pt_timer timer, uint64_t *out);
+
+/* The number of pending timers. */
+uint32_t pt_timers_len(pt_timers *timers, size_t *out);
+
+/* ---- names: which process has which name, as Erlang's register and whereis keep it. Each may answer PT_EMPTY
+ *
+ * A name is `length` bytes: 1 to 32 ASCII letters, digits and '_', beginning with a letter. PT_BAD_NAME answers other
+ * bytes, and comes next after PT_EMPTY. A name is of one process, and a process has one name at most. Names know no desk:
+ * monitor each process that has one, and call pt_names_forget for its DOWN. */
+
+/* Begins names, of which no process has one. PT_FILLED, PT_MEMORY. */
+uint32_t pt_names_open(pt_names *names);
+
+/* Gives p the name, and keeps the monitor with it. PT_BAD_NAME; PT_TAKEN: a process has the name; PT_HAS_NAME: p has a
+ * name; PT_MEMORY. pt_names_check answers what it would, but for PT_MEMORY, and changes nothing. */
+uint32_t pt_names_register(pt_names *names, const char *name, size_t length, pt_pid p, pt_ref monitor);
+uint32_t pt_names_check(pt_names *names, const char *name, size_t length, pt_pid p);
+
+/* The process that has the name. PT_BAD_NAME; PT_NOTHING: no process has it. */
+uint32_t pt_names_whereis(pt_names *names, const char *name, size_t length, pt_pid *out);
+
+/* Removes a name; `out` gets who had it, with its monitor. PT_BAD_NAME; PT_NOTHING: no process has it. */
+uint32_t pt_names_unregister(pt_names *names, const char *name, size_t length, pt_holder *out);
+
+/* Removes the name of a process that has exited; `out` gets the name. PT_NOTHING: it has none. */
+uint32_t pt_names_forget(pt_names *names, pt_pid p, pt_name *out);
+
+/* The name of a process. PT_NOTHING: it has none. */
+uint32_t pt_names_name_of(pt_names *names, pt_pid p, pt_name *out);
+
+/* The number of names. */
+uint32_t pt_names_len(pt_names *names, size_t *out);
+
 /* ---- what a desk tells. Each may answer PT_EMPTY */
 
 uint32_t pt_clock(pt_desk *desk, uint64_t *out);
@@ -432,8 +514,9 @@ uint32_t pt_history_left_at(pt_history *history, size_t place, pt_left_over *out
 typedef struct {
     uint32_t
         done, full, memory, worn, gone, myself, noproc, unknown, nothing, empty, filled, bad_desks, bad_slots,
-        bad_top_version, bad_lane, bad_start, bad_code, not_running, wrong_desk, reason_normal, reason_kill, reason_killed,
-        reason_noproc, reason_shutdown, reason_other, item_user, item_exit, item_down, item_alive, pick_kind, pick_from,
+        bad_top_version, bad_lane, bad_start, bad_code, not_running, wrong_desk, bad_name, taken, has_name, reason_normal,
+        reason_kill, reason_killed, reason_noproc, reason_shutdown, reason_other, item_user, item_exit, item_down,
+        item_alive, pick_kind, pick_from,
         pick_exit_of, pick_down_of, pick_alive_of, pick_any, signal_message, signal_link, signal_unlink,
         signal_exit, signal_link_exit, signal_monitor, signal_demonitor, signal_down, signal_alive_ask,
         signal_alive_say, event_born, event_said, event_came, event_took, event_flag, event_left, event_refused,
@@ -443,7 +526,7 @@ typedef struct {
 typedef struct {
     size_t
         pid, reference, ids, reason, body, item, pick, signal, event, left_over, turned, account, config, next, job,
-        answer, loss, codes;
+        answer, loss, timer, fired, name, holder, codes;
 } pt_sizes;
 void pt_about_codes(pt_codes *out);
 void pt_about_sizes(pt_sizes *out);
@@ -454,6 +537,8 @@ void pt_about_left_over(pt_left_over *out);
 void pt_about_turned(pt_turned *out);
 void pt_about_account(pt_account *out);
 void pt_about_loss(pt_loss *out);
+void pt_about_fired(pt_fired *out);
+void pt_about_holder(pt_holder *out);
 void pt_about_config(pt_config *out);
 void pt_about_job(pt_job *out);
 void pt_about_answer(pt_answer *out);

@@ -2,44 +2,10 @@
  * again does the rest, and comes to what it comes to where nothing is refused. No memory is kept in the end. */
 #include <assert.h>
 #include <stdio.h>
-#include <stdlib.h>
 #include <string.h>
 
 #include "pundewo.h"
-
-/* ---- the C library's heap, which refuses one piece where it is told to, and counts what is not given back */
-
-void *__libc_malloc(size_t size);
-void *__libc_realloc(void *at, size_t size);
-void __libc_free(void *at);
-
-static long refuse_in = -1, taken;
-static bool was_refused;
-
-static bool refuses(void) {
-    bool now = refuse_in == 0;
-    was_refused |= now;
-    if (refuse_in >= 0) refuse_in--;
-    return now;
-}
-
-void *malloc(size_t size) {
-    void *at = refuses() ? NULL : __libc_malloc(size);
-    taken += at != NULL;
-    return at;
-}
-
-void *realloc(void *at, size_t size) {
-    if (refuses()) return NULL;
-    void *now = __libc_realloc(at, size);
-    taken += at == NULL && now != NULL;
-    return now;
-}
-
-void free(void *at) {
-    taken -= at != NULL;
-    __libc_free(at);
-}
+#include "refusing.h"
 
 /* ---- a node that has something to tell: letters on their way, a process that is killed in settling, an exit that was not
  * told, and one that runs */

@@ -91,6 +91,22 @@ class CAnswer(c.Structure):
     _fields_ = [("pid", CPid), ("next", CNext)]
 
 
+class CTimer(c.Structure):
+    _fields_ = [("at", c.c_uint64), ("number", c.c_uint64)]
+
+
+class CFired(c.Structure):
+    _fields_ = [("timer", CTimer), ("body", c.c_uint64)]
+
+
+class CName(c.Structure):
+    _fields_ = [("letters", c.c_uint8 * 32)]
+
+
+class CHolder(c.Structure):
+    _fields_ = [("pid", CPid), ("monitor", CRef)]
+
+
 class CHandle(c.Structure):
     _fields_ = [("at", c.c_void_p)]
 
@@ -179,6 +195,13 @@ def _declare() -> None:
         "crew_next_time": [p(c.c_uint64)], "crew_tag": [CPid, p(c.c_uint64)], "crew_next": [CPid, p(CNext)],
         "crews_go_on": [p(CHandle), size, p(CHandle), size, p(CHandle), p(CHandle), p(CHandle)],
         "crew_len": [p(size)], "crew_queued": [p(size)], "crew_is_idle": [p(CHandle), p(flag)], "crew_refused": [p(flag)],
+        "timers_open": [], "timers_give_up": [], "timers_start": [c.c_uint64, c.c_uint64, p(CTimer)],
+        "timers_cancel": [CTimer], "timers_pop_due": [c.c_uint64, p(CFired)], "timers_peek_due": [c.c_uint64, p(CFired)],
+        "timers_next": [p(c.c_uint64)], "timers_get": [CTimer, p(c.c_uint64)], "timers_len": [p(size)],
+        "names_open": [], "names_give_up": [], "names_register": [c.c_char_p, size, CPid, CRef],
+        "names_check": [c.c_char_p, size, CPid], "names_whereis": [c.c_char_p, size, p(CPid)],
+        "names_unregister": [c.c_char_p, size, p(CHolder)], "names_forget": [CPid, p(CName)],
+        "names_name_of": [CPid, p(CName)], "names_len": [p(size)],
         "quiet_desks": [p(c.c_uint8)], "history_left_count": [p(size)], "history_left_at": [size, p(CLeftOver)],
     }
     for name, words in calls.items():

@@ -107,6 +107,9 @@ class Code(IntEnum):
     BAD_CODE = 16
     NOT_RUNNING = 17
     WRONG_DESK = 18
+    BAD_NAME = 19
+    TAKEN = 20
+    HAS_NAME = 21
 
 
 # A named tuple of checked fields without the checks, for fields that the library wrote.

@@ -10,8 +10,8 @@ import pundewo.values as v
 from crew_rows import OnCrew
 from pundewo import Code, Config, Fault, Pick, Pid, Reason, Ref
 from pundewo._library import (
-    CAccount, CAnswer, CBody, CConfig, CEvent, CIds, CItem, CJob, CLeftOver, CLoss, CNext, CPick,
-    CPid, CReason, CRef, CSignal, CTurned, lib,
+    CAccount, CAnswer, CBody, CConfig, CEvent, CFired, CHolder, CIds, CItem, CJob, CLeftOver, CLoss, CName, CNext, CPick,
+    CPid, CReason, CRef, CSignal, CTimer, CTurned, lib,
 )
 
 
@@ -262,7 +262,7 @@ class About(unittest.TestCase):
 
     def test_fields(self) -> None:
         samples = {"event": CEvent, "left_over": CLeftOver, "turned": CTurned, "account": CAccount, "loss": CLoss,
-                   "config": CConfig, "job": CJob, "answer": CAnswer}
+                   "config": CConfig, "job": CJob, "answer": CAnswer, "fired": CFired, "holder": CHolder}
         for name, kind in samples.items():
             sample = kind()
             getattr(lib, f"pt_about_{name}")(c.byref(sample))
@@ -271,7 +271,7 @@ class About(unittest.TestCase):
 
     def test_sizes_and_codes(self) -> None:
         kinds = [CPid, CRef, CIds, CReason, CBody, CItem, CPick, CSignal, CEvent, CLeftOver,
-                 CTurned, CAccount, CConfig, CNext, CJob, CAnswer, CLoss]
+                 CTurned, CAccount, CConfig, CNext, CJob, CAnswer, CLoss, CTimer, CFired, CName, CHolder]
         sizes = (c.c_size_t * (len(kinds) + 1))()
         lib.pt_about_sizes(sizes)
         self.assertEqual(list(sizes)[:-1], [c.sizeof(kind) for kind in kinds])

@@ -70,11 +70,13 @@ pub mod raw;
 mod reading;
 #[forbid(unsafe_code)]
 pub mod runtime;
+mod tools;
 mod values;
 
 pub use crew::{Crew, Job, Next, Node, NodeBack, NotTaken, What, go_on};
 pub use iterators::{Events, Journal, LeftOvers, Links, Living, Monitors, Pids, Waiting, Watchers};
 pub use reading::NotRead;
+pub use tools::{Fired, Holder, NameFault, Names, Timer, Timers};
 pub use values::{
     Account, Body, Config, Event, Fault, Happened, Ids, Item, LeftOver, LinkId, Loss, Pick, Pid, Reason, Ref, Signal, Turned,
 };

@@ -156,6 +156,33 @@ pub struct RawAnswer {
     pub next: RawNext,
 }
 
+#[repr(C)]
+#[derive(Clone, Copy, Debug, Default)]
+pub struct RawTimer {
+    pub at: u64,
+    pub number: u64,
+}
+
+#[repr(C)]
+#[derive(Clone, Copy, Debug, Default)]
+pub struct RawFired {
+    pub timer: RawTimer,
+    pub body: u64,
+}
+
+#[repr(C)]
+#[derive(Clone, Copy, Debug, Default)]
+pub struct RawName {
+    pub letters: [u8; 32],
+}
+
+#[repr(C)]
+#[derive(Clone, Copy, Debug, Default)]
+pub struct RawHolder {
+    pub pid: Pid,
+    pub monitor: RawRef,
+}
+
 unsafe extern "C" {
     /// The first byte of a text that ends with a zero.
     pub static pundewo_build: std::ffi::c_char;
@@ -252,6 +279,24 @@ unsafe extern "C" {
     pub fn pt_crew_queued(crew: &mut Handle, out: &mut usize) -> u32;
     pub fn pt_crew_is_idle(crew: &mut Handle, h: &mut Handle, out: &mut bool) -> u32;
     pub fn pt_crew_refused(crew: &mut Handle, out: &mut bool) -> u32;
+    pub fn pt_timers_open(timers: &mut Handle) -> u32;
+    pub fn pt_timers_give_up(timers: &mut Handle) -> u32;
+    pub fn pt_timers_start(timers: &mut Handle, at: u64, body: u64, out: &mut RawTimer) -> u32;
+    pub fn pt_timers_cancel(timers: &mut Handle, timer: RawTimer) -> u32;
+    pub fn pt_timers_pop_due(timers: &mut Handle, now: u64, out: &mut RawFired) -> u32;
+    pub fn pt_timers_peek_due(timers: &mut Handle, now: u64, out: &mut RawFired) -> u32;
+    pub fn pt_timers_next(timers: &mut Handle, out: &mut u64) -> u32;
+    pub fn pt_timers_get(timers: &mut Handle, timer: RawTimer, out: &mut u64) -> u32;
+    pub fn pt_timers_len(timers: &mut Handle, out: &mut usize) -> u32;
+    pub fn pt_names_open(names: &mut Handle) -> u32;
+    pub fn pt_names_give_up(names: &mut Handle) -> u32;
+    pub fn pt_names_register(names: &mut Handle, name: *const u8, length: usize, p: Pid, monitor: RawRef) -> u32;
+    pub fn pt_names_check(names: &mut Handle, name: *const u8, length: usize, p: Pid) -> u32;
+    pub fn pt_names_whereis(names: &mut Handle, name: *const u8, length: usize, out: &mut Pid) -> u32;
+    pub fn pt_names_unregister(names: &mut Handle, name: *const u8, length: usize, out: &mut RawHolder) -> u32;
+    pub fn pt_names_forget(names: &mut Handle, p: Pid, out: &mut RawName) -> u32;
+    pub fn pt_names_name_of(names: &mut Handle, p: Pid, out: &mut RawName) -> u32;
+    pub fn pt_names_len(names: &mut Handle, out: &mut usize) -> u32;
     pub fn pt_about_codes(out: *mut u32);
     pub fn pt_about_sizes(out: *mut usize);
     pub fn pt_about_event(out: &mut RawEvent);
@@ -260,6 +305,8 @@ unsafe extern "C" {
     pub fn pt_about_account(out: &mut RawAccount);
     pub fn pt_about_config(out: &mut Config);
     pub fn pt_about_loss(out: &mut RawLoss);
+    pub fn pt_about_fired(out: &mut RawFired);
+    pub fn pt_about_holder(out: &mut RawHolder);
     pub fn pt_about_job(out: &mut RawJob);
     pub fn pt_about_answer(out: &mut RawAnswer);
 }

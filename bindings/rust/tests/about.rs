@@ -56,6 +56,9 @@ fields!(RawNext: code reason until pick);
 fields!(RawLoss: has_exited pid reason items);
 fields!(RawJob: code pid tag item reason was);
 fields!(RawAnswer: pid next);
+fields!(RawTimer: at number);
+fields!(RawFired: timer body);
+fields!(RawHolder: pid monitor);
 
 fn in_order(sample: &impl Fields) {
     let mut told = Vec::new();
@@ -73,6 +76,8 @@ fn each_field_stands_where_the_library_has_it() {
     let mut loss = RawLoss::default();
     let mut job = RawJob::default();
     let mut answer = RawAnswer::default();
+    let mut fired = RawFired::default();
+    let mut holder = RawHolder::default();
     unsafe {
         pt_about_event(&mut event);
         pt_about_left_over(&mut left_over);
@@ -82,6 +87,8 @@ fn each_field_stands_where_the_library_has_it() {
         pt_about_loss(&mut loss);
         pt_about_job(&mut job);
         pt_about_answer(&mut answer);
+        pt_about_fired(&mut fired);
+        pt_about_holder(&mut holder);
     }
     in_order(&event);
     in_order(&left_over);
@@ -91,30 +98,33 @@ fn each_field_stands_where_the_library_has_it() {
     in_order(&loss);
     in_order(&job);
     in_order(&answer);
+    in_order(&fired);
+    in_order(&holder);
 }
 
 #[test]
 fn each_size_is_the_librarys() {
-    let mut told = [0; 18];
+    let mut told = [0; 22];
     unsafe { pt_about_sizes(told.as_mut_ptr()) };
     let mine = [
         size_of::<Pid>(), size_of::<RawRef>(), size_of::<RawIds>(), size_of::<RawReason>(), size_of::<RawBody>(),
         size_of::<RawItem>(), size_of::<RawPick>(), size_of::<RawSignal>(), size_of::<RawEvent>(),
         size_of::<RawLeftOver>(), size_of::<RawTurned>(), size_of::<RawAccount>(), size_of::<Config>(),
-        size_of::<RawNext>(), size_of::<RawJob>(), size_of::<RawAnswer>(), size_of::<RawLoss>(), told[17],
+        size_of::<RawNext>(), size_of::<RawJob>(), size_of::<RawAnswer>(), size_of::<RawLoss>(),
+        size_of::<RawTimer>(), size_of::<RawFired>(), size_of::<RawName>(), size_of::<RawHolder>(), told[21],
     ];
     assert_eq!(told, mine);
 }
 
 #[test]
 fn each_code_is_the_librarys() {
-    let mut sizes = [0; 18];
+    let mut sizes = [0; 22];
     unsafe { pt_about_sizes(sizes.as_mut_ptr()) };
     // the answers, and then the codes of reasons, items, picks, signals and events, as `values.rs` reads them, and of what
     // a process of a crew does next and is told
-    let table = (0..19).chain(0..6).chain(0..4).chain(0..6).chain(0..10).chain(0..7);
+    let table = (0..22).chain(0..6).chain(0..4).chain(0..6).chain(0..10).chain(0..7);
     let wanted: Vec<u32> = table.chain(0..5).chain(0..5).collect();
-    assert_eq!(sizes[17], wanted.len() * size_of::<u32>());
+    assert_eq!(sizes[21], wanted.len() * size_of::<u32>());
     let mut told = vec![0; wanted.len()];
     unsafe { pt_about_codes(told.as_mut_ptr()) };
     assert_eq!(told, wanted);

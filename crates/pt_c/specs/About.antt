@@ -18,6 +18,9 @@ use Rattle.pt_table.specs.declared.types.PtConfig.{PtConfig}
 use Rattle.pt_table.specs.declared.types.PtNext.{PtNext}
 use Rattle.pt_table.specs.declared.types.PtJob.{PtJob}
 use Rattle.pt_table.specs.declared.types.PtAnswer.{PtAnswer}
+use Rattle.pt_tools.specs.declared.types.PtTimer.{PtTimer}
+use Rattle.pt_tools.specs.declared.types.PtFired.{PtFired}
+use Rattle.pt_c.specs.declared.naming.PtHolder.{PtHolder}
 use Rattle.pt_signal.specs.declared.pid.Pid.{Pid}
 use Rattle.pt_c.specs.declared.about.PtCodes.{PtCodes}
 use Rattle.pt_c.specs.declared.about.PtSizes.{PtSizes}
@@ -43,6 +46,9 @@ all_codes = record {
   bad_code = 16;
   not_running = 17;
   wrong_desk = 18;
+  bad_name = 19;
+  taken = 20;
+  has_name = 21;
   reason_normal = 0;
   reason_kill = 1;
   reason_killed = 2;
@@ -110,6 +116,9 @@ with_answers c = record c {
   bad_code = 16;
   not_running = 17;
   wrong_desk = 18;
+  bad_name = 19;
+  taken = 20;
+  has_name = 21;
 }
 
 -- of which these are of reasons, of items and of picks
@@ -203,7 +212,11 @@ all_sizes = record {
   job = 176;
   answer = 80;
   loss = 32;
-  codes = 244;
+  timer = 16;
+  fired = 24;
+  name = 32;
+  holder = 32;
+  codes = 256;
 }
 
 -- a value whose fields have the numbers from this one on
@@ -316,6 +329,21 @@ sample_loss = record {
   pid = sample_pid 2;
   reason = sample_reason 5;
   items = 7;
+}
+
+abbrev pub sample_fired : PtFired
+sample_fired = record {
+  timer = record {
+    at = 1;
+    number = 2;
+  };
+  body = 3;
+}
+
+abbrev pub sample_holder : PtHolder
+sample_holder = record {
+  pid = sample_pid 1;
+  monitor = sample_ref 4;
 }
 
 abbrev pub sample_config : PtConfig

@@ -2,3 +2,5 @@ pub mod Nodes
 pub mod About
 pub mod Crews
 pub mod GoingOn
+pub mod Naming
+pub mod Tools

@@ -4,8 +4,10 @@ ghost use Rattle.std.specs.Prelude.{◌≡◌, ◌<◌};
 ghost use Rattle.pt_c.specs.About.{all_codes, all_sizes, sample_event, sample_left_over, sample_turned, sample_account, sample_loss};
 ghost use Rattle.pt_c.specs.About.{sample_config, sample_pid, sample_ref, sample_reason, sample_ids, sample_body};
 ghost use Rattle.pt_c.specs.About.{sample_pick, sample_item, sample_signal, sample_next, sample_job, sample_answer};
+ghost use Rattle.pt_c.specs.About.{sample_fired, sample_holder};
 ghost use Rattle.pt_c.specs.About.{with_answers, with_values, with_signals, with_events, with_nexts, with_jobs, nobody};
 
+use crate::naming::{BAD_NAME, HAS_NAME, PtHolder, PtName, TAKEN};
 use pt_crew::Next;
 use pt_hands::{Job, What};
 use pt_node::{
@@ -21,6 +23,7 @@ use pt_table::types::{
     PtAccount, PtAnswer, PtBody, PtConfig, PtEvent, PtIds, PtItem, PtJob, PtLeftOver, PtLoss,
     PtNext, PtPick, PtPid, PtReason, PtRef, PtSignal, PtTurned,
 };
+use pt_tools::types::{PtFired, PtTimer};
 use std::mem::size_of;
 
 /// Each code of the library: those that calls return, then the codes of the structs that have one.
@@ -46,6 +49,9 @@ pub struct PtCodes {
     pub bad_code: u32,
     pub not_running: u32,
     pub wrong_desk: u32,
+    pub bad_name: u32,
+    pub taken: u32,
+    pub has_name: u32,
     pub reason_normal: u32,
     pub reason_kill: u32,
     pub reason_killed: u32,
@@ -112,6 +118,10 @@ pub struct PtSizes {
     pub job: usize,
     pub answer: usize,
     pub loss: usize,
+    pub timer: usize,
+    pub fired: usize,
+    pub name: usize,
+    pub holder: usize,
     pub codes: usize,
 }
 
@@ -164,6 +174,9 @@ fn with_answers(codes: PtCodes) -> PtCodes
         bad_code: BAD_CODE,
         not_running: NOT_RUNNING,
         wrong_desk: WRONG_DESK,
+        bad_name: BAD_NAME,
+        taken: TAKEN,
+        has_name: HAS_NAME,
         ..codes
     }
 }
@@ -302,6 +315,10 @@ pub extern "C" fn pt_about_sizes(out: &mut PtSizes)
         job: size_of::<PtJob>(),
         answer: size_of::<PtAnswer>(),
         loss: size_of::<PtLoss>(),
+        timer: size_of::<PtTimer>(),
+        fired: size_of::<PtFired>(),
+        name: size_of::<PtName>(),
+        holder: size_of::<PtHolder>(),
         codes: size_of::<PtCodes>(),
     };
 }
@@ -475,6 +492,28 @@ pub extern "C" fn pt_about_loss(out: &mut PtLoss)
         pid: sample_pid(2),
         reason: PtReason { code: 5, number: 6 },
         items: 7,
+    };
+}
+
+/// Writes a sample of a timer that is due: its fields have the numbers 1, 2, 3 in order.
+#[unsafe(no_mangle)]
+pub extern "C" fn pt_about_fired(out: &mut PtFired)
+    ensures { out.new ≡ sample_fired }
+{
+    *out = PtFired {
+        timer: PtTimer { at: 1, number: 2 },
+        body: 3,
+    };
+}
+
+/// Writes a sample of who has a name: its fields have the numbers 1, 2, 3 and so on in order.
+#[unsafe(no_mangle)]
+pub extern "C" fn pt_about_holder(out: &mut PtHolder)
+    ensures { out.new ≡ sample_holder }
+{
+    *out = PtHolder {
+        pid: sample_pid(1),
+        monitor: sample_ref(4),
     };
 }
 

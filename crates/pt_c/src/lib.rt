@@ -1,12 +1,13 @@
 //! The process table for C: a static library, whose header is `bindings/c/pundewo.h`.
 //!
 //! C keeps opaque handles of one pointer: for a desk, a gathered node, a settled one with and without the list of its
-//! pids, a history, and a crew. An export takes the value out of the handle, makes the call of Rattle that has its name,
-//! and puts the value back. By its contract, its code and what it writes are that call's answer, and if it fails, all is
-//! as it was. An empty handle is a code, too.
+//! pids, a history, a crew, timers, and names. An export takes the value out of the handle, makes the call of Rattle
+//! that has its name, and puts the value back. By its contract, its code and what it writes are that call's answer, and
+//! if it fails, all is as it was. An empty handle is a code, too.
 //!
 //! Values with an enum or an option in Rattle cross as plain structs with a code (`pt_table::types`). `about` reports
-//! codes, sizes and fields, to be compared with a header. `pt_table` has all that is not exported.
+//! codes, sizes and fields, to be compared with a header. `pt_table` has what is not exported, and `pt_tools` that of
+//! timers.
 //!
 //! Tests: `bindings/run.sh`.
 //!
@@ -20,6 +21,8 @@
 //! - **Other desks.** So is a crew over a desk of another number, also in a row of crews that go on. (`IfOwn`, `NodeGoesOn`)
 //! - **Crews.** A step hands out what `Hands` hands out, in order, no process twice, and no wake-up is lost. Of a row of
 //!   answers each is taken, up to the first that is refused. (`CrewSteps`, `AnswersInOrder`)
+//! - **Timers and names.** Each call is that of `Timers` and of `Names`, with bytes for a name. (`StartsTimer`,
+//!   `RegistersName`)
 //! - **Nodes.** Opening, gathering, settling and resuming leave in the handles what `open`, `gather`, `settle` and
 //!   `resume` promise, or `settle_unlisted` and `resume_settled`.
 //! - **Going on.** A node and its crews go through the stages of a pause in one call. Whichever is refused, its code says
@@ -32,7 +35,10 @@ mod calls;
 mod crews;
 mod going_on;
 mod losses;
+mod names;
+mod naming;
 mod node;
 mod reads;
 mod resuming;
 mod settled;
+mod timers;

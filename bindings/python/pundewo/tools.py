@@ -1,0 +1,160 @@
+"""Timers and names: what comes back at a time, and which process has which name.
+
+    timers = Timers()
+    ring = timers.start(30, 1)
+    timers.pop_due(30)          # Fired(timer=ring, body=1)
+
+    names = Names()
+    names.register("line_12", line, desk.monitor(keeper, line))
+    names.whereis("line_12")    # line
+"""
+
+from __future__ import annotations
+
+import ctypes as c
+from typing import NamedTuple, Optional
+
+from . import _fault, _Held
+from ._library import CFired, CHolder, CName, CPid, CTimer, c_pid, c_ref, lib, pid_of, ref_of
+from .values import U64, Code, Pid, Ref, number, of_type
+
+__all__ = ["Fired", "Holder", "Names", "Timer", "Timers"]
+
+
+class Timer(NamedTuple):
+    """The name of a timer: when it is due, and the number of timers that were started before it. No other timer of its
+    `Timers` has the same."""
+
+    at: int
+    number: int
+
+
+class Fired(NamedTuple):
+    """A timer that is due, and the number that it was started with."""
+
+    timer: Timer
+    body: int
+
+
+class Holder(NamedTuple):
+    """The process that has a name, and the monitor that it was registered with."""
+
+    pid: Pid
+    monitor: Ref
+
+
+def _fired_of(fired: Optional[CFired]) -> Optional[Fired]:
+    return None if fired is None else Fired(Timer(fired.timer.at, fired.timer.number), fired.body)
+
+
+def _c_timer(field: str, timer: Timer) -> CTimer:
+    at, place = of_type(field, timer, Timer)
+    return CTimer(number(f"{field}.at", at, 0, U64), number(f"{field}.number", place, 0, U64))
+
+
+class Timers(_Held):
+    """Numbers of the program's own, each due at a time: Erlang's `send_after` and `cancel_timer` without the sending.
+
+    No call reads a clock: the program passes the time, in a unit of its own and in any order. A timer that was started is
+    pending, has fired or was cancelled, and the last two are for ever.
+    """
+
+    _give_up = "pt_timers_give_up"
+
+    def __init__(self) -> None:
+        """Timers, of which none is pending. Fault: MEMORY."""
+        super().__init__()
+        self._must(lib.pt_timers_open)
+
+    def start(self, at: int, body: int) -> Timer:
+        """Starts a timer that is due at this time, which may have passed already, with this number. Fault: MEMORY; WORN
+        after 2**64 - 1 timers."""
+        out = self._give(lib.pt_timers_start, CTimer(), number("at", at, 0, U64), number("body", body, 0, U64))
+        return Timer(out.at, out.number)
+
+    def cancel(self, timer: Timer) -> bool:
+        """Cancels a timer, and returns whether it was pending. It never fires then."""
+        code = self._call(lib.pt_timers_cancel, _c_timer("timer", timer))
+        if code not in (Code.OK, Code.NOTHING):
+            raise _fault(lib.pt_timers_cancel, (), code)
+        return code == Code.OK
+
+    def pop_due(self, now: int) -> Optional[Fired]:
+        """Fires one timer that is due by `now`: the one with the earliest time, and the one started first among those.
+        None if none is due."""
+        return _fired_of(self._find(lib.pt_timers_pop_due, CFired(), number("now", now, 0, U64)))
+
+    def peek_due(self, now: int) -> Optional[Fired]:
+        """The timer that `pop_due` would fire. It stays pending."""
+        return _fired_of(self._find(lib.pt_timers_peek_due, CFired(), number("now", now, 0, U64)))
+
+    def next(self) -> Optional[int]:
+        """The earliest time of a pending timer, or None if none is pending."""
+        out = self._find(lib.pt_timers_next, c.c_uint64())
+        return None if out is None else out.value
+
+    def get(self, timer: Timer) -> Optional[int]:
+        """The number that a pending timer was started with, or None if the timer is not pending."""
+        out = self._find(lib.pt_timers_get, c.c_uint64(), _c_timer("timer", timer))
+        return None if out is None else out.value
+
+    def __len__(self) -> int:
+        return self._give(lib.pt_timers_len, c.c_size_t()).value
+
+
+def _bytes(field: str, name: str) -> bytes:
+    # (a text that is no name is refused by the library, whatever is in it)
+    return of_type(field, name, str).encode("utf-8", "surrogatepass")
+
+
+def _text_of(name: Optional[CName]) -> Optional[str]:
+    return None if name is None else bytes(name.letters).rstrip(b"\0").decode("ascii")
+
+
+class Names(_Held):
+    """Which process has which name: Erlang's `register`, `whereis` and `unregister`.
+
+    A name is 1 to 32 ASCII letters, digits and `_`, beginning with a letter. It is of one process, and a process has one
+    name at most. Names know no desk: monitor each process that has one, and call `forget` for its DOWN.
+    """
+
+    _give_up = "pt_names_give_up"
+
+    def __init__(self) -> None:
+        """Names, of which no process has one. Fault: MEMORY."""
+        super().__init__()
+        self._must(lib.pt_names_open)
+
+    def register(self, name: str, p: Pid, monitor: Ref) -> None:
+        """Gives p the name, and keeps the monitor with it. Fault: BAD_NAME; TAKEN if a process has the name; HAS_NAME if p
+        has a name; MEMORY."""
+        text = _bytes("name", name)
+        self._must(lib.pt_names_register, text, len(text), c_pid("p", p), c_ref("monitor", monitor))
+
+    def check(self, name: str, p: Pid) -> None:
+        """Fails as `register` would, but for MEMORY, and changes nothing."""
+        text = _bytes("name", name)
+        self._must(lib.pt_names_check, text, len(text), c_pid("p", p))
+
+    def whereis(self, name: str) -> Optional[Pid]:
+        """The process that has the name, or None if no process has it. Fault: BAD_NAME."""
+        text = _bytes("name", name)
+        out = self._find(lib.pt_names_whereis, CPid(), text, len(text))
+        return None if out is None else pid_of(out)
+
+    def unregister(self, name: str) -> Optional[Holder]:
+        """Removes a name, and returns who had it, or None if no process has it. Fault: BAD_NAME."""
+        text = _bytes("name", name)
+        out = self._find(lib.pt_names_unregister, CHolder(), text, len(text))
+        return None if out is None else Holder(pid_of(out.pid), ref_of(out.monitor))
+
+    def forget(self, p: Pid) -> Optional[str]:
+        """Removes the name of a process that has exited, and returns it, or None if it has none."""
+        return _text_of(self._find(lib.pt_names_forget, CName(), c_pid("p", p)))
+
+    def name_of(self, p: Pid) -> Optional[str]:
+        """The name of a process, or None if it has none."""
+        return _text_of(self._find(lib.pt_names_name_of, CName(), c_pid("p", p)))
+
+    def __len__(self) -> int:
+        return self._give(lib.pt_names_len, c.c_size_t()).value
