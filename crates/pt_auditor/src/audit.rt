@@ -28,9 +28,18 @@ fn one_more(count: u64) -> u64
     count.saturating_add(1)
 }
 
-/// The verdict, if the text ends after so many lines.
+/// The verdict, if the text ends after so many lines. The hearing is dropped.
 fn conclude(hearing: Hearing, lines: u64) -> Result<Verdict, Fault>
     ensures { (heard : Heard) → IsHeard heard hearing → ClosesText heard lines result }
+{
+    let concluded = conclusion(&hearing, lines);
+    hearing.let_go();
+    concluded
+}
+
+/// The verdict, if the text ends after so many lines.
+fn conclusion(hearing: &Hearing, lines: u64) -> Result<Verdict, Fault>
+    ensures { (heard : Heard) → IsHeard heard hearing.now → ClosesText heard lines result }
 {
     match hearing.end() {
         Ok(verdict) => Ok(verdict),
@@ -56,9 +65,10 @@ fn grow(line: &mut Vec<u8>, byte: u8) -> Result<(), Why>
 }
 
 /// The fault of the line after so many lines. The hearing is dropped.
-fn stop(_hearing: Hearing, lines: u64, why: Why) -> Fault
+fn stop(hearing: Hearing, lines: u64, why: Why) -> Fault
     ensures { result ≡ record { line = min (lines + 1) (2 ^ 64 - 1); why = why } }
 {
+    hearing.let_go();
     Fault {
         line: one_more(lines),
         why,
@@ -117,6 +127,7 @@ impl Audit {
         if open.len() == 0 {
             return hearing.rest(alloc);
         }
+        hearing.let_go();
         Err(Restless::Line)
     }
 

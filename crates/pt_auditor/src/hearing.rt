@@ -196,6 +196,9 @@ impl Hearing {
         }
     }
 
+    /// Drops it. What a drop does is so proved once, and not at each place that drops a hearing.
+    pub(crate) fn let_go(self) {}
+
     /// Reads the next event. Fails with the first of these that holds:
     ///
     /// - [`Objection::Behind`]: a letter left over was read before.
@@ -209,6 +212,7 @@ impl Hearing {
         ensures { (heard : Heard) → IsHeard heard self → Hears heard stamped result }
     {
         if let Some(objection) = objection(&self, stamped) {
+            self.let_go();
             return Err(objection);
         }
         let foreign = foreign_with(&self, stamped);
@@ -248,10 +252,15 @@ impl Hearing {
             ..
         } = left.letter;
         if left.from_desk != from.shard || left.to_desk != to.shard {
+            self.let_go();
             return Err(Objection::OtherDesks);
         }
         match self.state.cause(Event::Came(from, to, signal)) {
-            Some(_) => Err(Objection::OtherLetter(self.state.oldest(from, to))),
+            Some(_) => {
+                let refused = Err(Objection::OtherLetter(self.state.oldest(from, to)));
+                self.let_go();
+                refused
+            }
             None => Ok(self.without(left)),
         }
     }

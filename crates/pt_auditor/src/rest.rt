@@ -283,6 +283,7 @@ impl Hearing {
         ensures { (heard : Heard) → IsHeard heard self → LeavesRest heard result }
     {
         if let Some(why) = hindrance(&self) {
+            self.let_go();
             return Err(why);
         }
         let Hearing {
@@ -305,7 +306,10 @@ impl Hearing {
                     residents,
                 })
             }
-            Err(_) => Err(Restless::Memory),
+            Err(_) => {
+                node.let_go();
+                Err(Restless::Memory)
+            }
         }
     }
 
@@ -356,12 +360,16 @@ pub enum Unfit {
     Memory,
 }
 
+/// Drops both. What a drop does is so proved once.
+fn let_go(_state: State, _holding: Holding) {}
+
 /// The state with one process more, which lives.
 fn with_living(state: State, pid: Pid, holding: Holding) -> Result<State, Unfit>
     ensures { IfOk result
         (λ new. new ≡ record state { lives = state.lives ++ (pid, living (holds_so holding)) ∷ [] }) }
 {
     if state.alive(pid) || state.ended(pid).is_some() {
+        let_go(state, holding);
         return Err(Unfit::Twice(pid));
     }
     match state.with_living(pid, holding) {

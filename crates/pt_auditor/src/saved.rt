@@ -151,56 +151,71 @@ fn sum_of(bytes: &[u8]) -> u64
     sum
 }
 
-/// The list with the item behind.
-fn pushed<T: Drop>(list: Vec<T>, item: T) -> Result<Vec<T>, Flaw>
-    ensures added { IfOk result (λ new. new.items ≡ list.items ++ item ∷ []) }
+/// Puts the item behind.
+fn push<T: Drop>(list: &mut Vec<T>, item: T) -> Result<(), Flaw>
+    ensures added { OnOk result (list.new.items ≡ list.old.items ++ item ∷ []) }
     ensures memory { IfErr result (λ flaw. flaw ≡ Memory) }
 {
-    let mut list = list;
-    if list.push(item).is_err() {
-        return Err(Flaw::Memory);
+    match list.push(item) {
+        Ok(()) => Ok(()),
+        Err(_) => Err(Flaw::Memory),
     }
-    Ok(list)
+}
+
+/// Drops it, for the reason that is returned. What a drop does is so proved once.
+fn without(_holding: Holding, flaw: Flaw) -> Flaw
+    ensures { result ≡ flaw }
+{
+    flaw
 }
 
 fn hold_waiting(holding: Holding, item: Item) -> Result<Holding, Flaw>
     ensures { IsHeldSo (held_with (holds_so holding) (Waits item)) result }
 {
     if holding.links.len() > 0 || holding.watching.len() > 0 || holding.kept.len() > 0 {
-        return Err(Flaw::Misplaced);
+        return Err(without(holding, Flaw::Misplaced));
     }
-    let waiting = pushed(holding.waiting, item)?;
-    Ok(Holding { waiting, ..holding })
+    let mut holding = holding;
+    match push(&mut holding.waiting, item) {
+        Ok(()) => Ok(holding),
+        Err(flaw) => Err(without(holding, flaw)),
+    }
 }
 
 fn hold_link(holding: Holding, pid: Pid, ids: Ids) -> Result<Holding, Flaw>
     ensures { IsHeldSo (held_with (holds_so holding) (Linked pid ids)) result }
 {
     if holding.watching.len() > 0 || holding.kept.len() > 0 {
-        return Err(Flaw::Misplaced);
+        return Err(without(holding, Flaw::Misplaced));
     }
-    let links = pushed(holding.links, (pid, ids))?;
-    Ok(Holding { links, ..holding })
+    let mut holding = holding;
+    match push(&mut holding.links, (pid, ids)) {
+        Ok(()) => Ok(holding),
+        Err(flaw) => Err(without(holding, flaw)),
+    }
 }
 
 fn hold_monitor(holding: Holding, monitor: Ref, pid: Pid) -> Result<Holding, Flaw>
     ensures { IsHeldSo (held_with (holds_so holding) (Watches monitor pid)) result }
 {
     if holding.kept.len() > 0 {
-        return Err(Flaw::Misplaced);
+        return Err(without(holding, Flaw::Misplaced));
     }
-    let watching = pushed(holding.watching, (monitor, pid))?;
-    Ok(Holding {
-        watching,
-        ..holding
-    })
+    let mut holding = holding;
+    match push(&mut holding.watching, (monitor, pid)) {
+        Ok(()) => Ok(holding),
+        Err(flaw) => Err(without(holding, flaw)),
+    }
 }
 
 fn hold_watcher(holding: Holding, monitor: Ref, pid: Pid) -> Result<Holding, Flaw>
     ensures { IsHeldSo (held_with (holds_so holding) (Watched monitor pid)) result }
 {
-    let kept = pushed(holding.kept, (monitor, pid))?;
-    Ok(Holding { kept, ..holding })
+    let mut holding = holding;
+    match push(&mut holding.kept, (monitor, pid)) {
+        Ok(()) => Ok(holding),
+        Err(flaw) => Err(without(holding, flaw)),
+    }
 }
 
 /// What a process holds with one line more.
@@ -212,7 +227,7 @@ fn hold(holding: Holding, line: Record) -> Result<Holding, Flaw>
         Record::Linked(pid, ids) => hold_link(holding, pid, ids),
         Record::Watches(monitor, pid) => hold_monitor(holding, monitor, pid),
         Record::Watched(monitor, pid) => hold_watcher(holding, monitor, pid),
-        _ => Err(Flaw::Misplaced),
+        _ => Err(without(holding, Flaw::Misplaced)),
     }
 }
 
@@ -258,9 +273,11 @@ fn close(
         return Err(misplaced(line, Flaw::Misplaced));
     };
     if sum != sum_of(lines) {
+        rest.let_go();
         return Err(misplaced(line, Flaw::Sum));
     }
     if behind.len() > 0 {
+        rest.let_go();
         return Err(misplaced(line, Flaw::Behind));
     }
     Ok(rest)
@@ -315,6 +332,9 @@ impl Rest {
         read_lines(alloc, text)
     }
 
+    /// Drops it. What a drop does is so proved once, and not at each place that drops a rest.
+    pub(crate) fn let_go(self) {}
+
     /// The state with a process more, or several that ended alike.
     fn with_resident(self, resident: Resident) -> Result<Rest, Flaw>
         ensures { IsToldSo (Some (record (told_of self) { entries = entry_of resident ∷ (told_of self).entries })) result }
@@ -334,10 +354,19 @@ impl Rest {
         match rest.residents.pop_back() {
             Some(Resident::Lives(pid, holding)) => match hold(holding, line) {
                 Ok(holding) => rest.with_resident(Resident::Lives(pid, holding)),
-                Err(flaw) => Err(flaw),
+                Err(flaw) => {
+                    rest.let_go();
+                    Err(flaw)
+                }
             },
-            Some(Resident::Ended(_, _, _)) => Err(Flaw::Misplaced),
-            None => Err(Flaw::Misplaced),
+            Some(Resident::Ended(_, _, _)) => {
+                rest.let_go();
+                Err(Flaw::Misplaced)
+            }
+            None => {
+                rest.let_go();
+                Err(Flaw::Misplaced)
+            }
         }
     }
 
@@ -368,6 +397,7 @@ impl Rest {
         ensures { IsToldSo (told_with (told_of self) (Last stamped)) result }
     {
         if !self.is_bare() {
+            self.let_go();
             return Err(Flaw::Misplaced);
         }
         let last = Some(stamped);
@@ -378,12 +408,16 @@ impl Rest {
         ensures { IsToldSo (told_with (told_of self) (Clock desk stamp)) result }
     {
         if !self.takes_clock(desk) {
+            self.let_go();
             return Err(Flaw::Misplaced);
         }
         let mut rest = self;
         match rest.clocks.add(desk, stamp) {
             Ok(()) => Ok(rest),
-            Err(_) => Err(Flaw::Memory),
+            Err(_) => {
+                rest.let_go();
+                Err(Flaw::Memory)
+            }
         }
     }
 
@@ -392,7 +426,10 @@ impl Rest {
         ensures { IsToldSo (told_with (told_of self) line) result }
     {
         match line {
-            Record::Head(_, _, _) => Err(Flaw::Misplaced),
+            Record::Head(_, _, _) => {
+                self.let_go();
+                Err(Flaw::Misplaced)
+            }
             Record::Last(stamped) => self.with_last(stamped),
             Record::Clock(desk, stamp) => self.with_clock(desk, stamp),
             Record::Lives(pid, traps) => {
@@ -401,7 +438,10 @@ impl Rest {
             Record::Ended(pid, last, reason) => {
                 self.with_resident(Resident::Ended(pid, last, reason))
             }
-            Record::End(_) => Err(Flaw::Misplaced),
+            Record::End(_) => {
+                self.let_go();
+                Err(Flaw::Misplaced)
+            }
             _ => self.with_held(line),
         }
     }
