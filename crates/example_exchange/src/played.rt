@@ -72,32 +72,61 @@ pub fn play(alloc: Global) -> Result<Played>
     let Some(names) = names() else {
         bail!("the names of the lines are no names");
     };
-    let mut works = vec![in alloc; Exchange::new(alloc, names, plans(alloc)?)]?;
-    let history = run(alloc, &mut works)?;
-    let events = events_of(alloc, history.as_slice())?;
-    let Some(exchange) = works.pop() else {
-        bail!("the exchange is gone");
-    };
-    if exchange.standing() != Standing::Done {
-        bail!("the exchange is not done");
-    }
+    play_day(alloc, Exchange::new(alloc, names, plans(alloc)?))
+}
+
+/// What the judge says of a history, with the number of its events.
+#[derive(Clone, Copy)]
+struct Judged {
+    events: usize,
+    is_legal: bool,
+}
+
+/// Plays the day of this exchange.
+fn play_day(alloc: Global, exchange: Exchange) -> Result<Played> {
+    let mut works = vec![in alloc; exchange]?;
+    let judged = run(alloc, &mut works)?;
     Ok(Played {
-        exchange,
-        events: events.len(),
-        is_legal: replay(alloc, events.as_slice()).is_ok(),
+        exchange: done(works)?,
+        events: judged.events,
+        is_legal: judged.is_legal,
     })
 }
 
-/// Runs the exchange until nothing is left to do, and returns the history of its node.
-fn run(alloc: Global, works: &mut Vec<Exchange>) -> Result<Vec<Stamped>> {
-    let mut node = Node::open(alloc, Config::DEFAULT.with_desks(1).with_slots(16))?;
-    if node
-        .run_single(works, MOST_TURNS, 1_024, &FreeGate)
-        .is_err()
-    {
-        bail!("the exchange does not run");
+/// The exchange that was run, which has to be done.
+fn done(works: Vec<Exchange>) -> Result<Exchange> {
+    let mut works = works;
+    let Some(exchange) = works.pop() else {
+        bail!("the exchange is gone");
+    };
+    match exchange.standing() {
+        Standing::Done => Ok(exchange),
+        _ => bail!("the exchange is not done"),
     }
-    Ok(node.gather()?.history()?)
+}
+
+/// Runs the exchange until nothing is left to do, and has the history of its node judged.
+fn run(alloc: Global, works: &mut Vec<Exchange>) -> Result<Judged> {
+    let mut node = Node::open(alloc, Config::DEFAULT.with_desks(1).with_slots(16))?;
+    match node.run_single(works, MOST_TURNS, 1_024, &FreeGate) {
+        Ok(_) => judge_node(alloc, node),
+        Err(_) => bail!("the exchange does not run"),
+    }
+}
+
+/// What the judge says of the history of a node.
+fn judge_node(alloc: Global, node: Node) -> Result<Judged> {
+    let history = node.gather()?.history()?;
+    Ok(judge(alloc, history.as_slice())?)
+}
+
+/// What the judge says of a history.
+fn judge(alloc: Global, history: &[Stamped]) -> Result<Judged, AllocError> {
+    let events = events_of(alloc, history)?;
+    Ok(Judged {
+        events: events.len(),
+        is_legal: replay(alloc, events.as_slice()).is_ok(),
+    })
 }
 
 /// The events of a history, without their stamps.
