@@ -16,7 +16,6 @@ ghost use Rattle.pt_hands.specs.Pulling.{NotesLost, Pulls, SameViews, crew_of, h
 ghost use Rattle.pt_events.specs.declared.event.Event.TheVariants.{Left};
 ghost use Rattle.pt_hands.specs.Pulling.{new_hand};
 ghost use Rattle.pt_hands.specs.Taking.{IsAllNoted, KeepsExit, KeepsExits, NotesExit, PullsInto, TakesJob};
-
 ghost use Rattle.pt_hands.specs.Owning.{desk_after, desk_of};
 
 use crate::hand::{Hand, Job, job_of_exit};
