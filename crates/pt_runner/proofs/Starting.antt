@@ -3,7 +3,6 @@ use Rattle.std.proofs.Common.{◌≡◌, ◌≢◌, ⊎_elim, ℕ, zero, suc, �
 use Rattle.std.specs.Prelude.{◌==◌, ◌≤◌, filter, fold, reverse, IsSome, IsErrAnd, Vec}
 use Rattle.pt_script.specs.Sound.{IsSoundScript, TopFits}
 use Rattle.pt_script.specs.Plans.{Plan, Whole}
-use Rattle.pt_script.specs.Nodes.{config_of}
 use Rattle.std.specs.List.{All}
 use Rattle.std.proofs.lemmas.Bool.{cases_eq, eqb-true, eq-eqb}
 use Rattle.std.proofs.lemmas.List.{take_more, take_all, map-append, reverse-append, get_or-set_same, get_or-set_other, length-set, get_or_default}
@@ -233,10 +232,10 @@ all_at P (x ∷ xs) zero d all lt = All-head P x xs all
 all_at P (x ∷ xs) (suc i) d all lt = all_at P xs i d (All-tail P x xs all) (omega (arith, lt))
 
 -- the desk of a process of the script's list is one of the node
-pub desk_within : (w : Whole) (desks : List DeskState) (i : ℕ) (d : Top) → IsSoundScript w → AreDesksOf (config_of w.settings) desks → i < length w.tops → (get_or w.tops i d).desk < length desks
-desk_within w desks i d sound node lt =
+pub desk_within : (w : Whole) (config : Config) (desks : List DeskState) (i : ℕ) (d : Top) → IsSoundScript w → config.desks ≡ w.settings.desks → AreDesksOf config desks → i < length w.tops → (get_or w.tops i d).desk < length desks
+desk_within w config desks i d sound many node lt =
     let fits = all_at (TopFits (length w.processes) w.settings.desks) w.tops i d sound.tops lt in
-    omega (arith, fits.1, node.count)
+    omega (arith, fits.1, many, node.count)
 
 -- refusals ---------------------------------------------------------------------------------------
 
@@ -265,11 +264,11 @@ births_stop tops count desks t old y Myself few within whole b = absurd b
 births_stop tops count desks t old y NoProc few within whole b = absurd b
 
 -- there was no memory for the list of pids: nothing has happened on the desks
-pub none_born : (w : Whole) (desks : List DeskState) → IsSoundScript w → AreFresh (config_of w.settings) desks → BirthsStop w.tops 0 desks Memory
-none_born w desks sound are few t x =
-    let within : (get_or w.tops 0 t).desk < length desks = desk_within w desks 0 t sound are.node few in
+pub none_born : (w : Whole) (config : Config) (desks : List DeskState) → IsSoundScript w → config.desks ≡ w.settings.desks → config.start ≡ 0 → AreFresh config desks → BirthsStop w.tops 0 desks Memory
+none_born w config desks sound many zeroed are few t x =
+    let within : (get_or w.tops 0 t).desk < length desks = desk_within w config desks 0 t sound many are.node few in
     let H : ShardState → Type 0 = λ s. CanWrite s × IsSome s.vacant in
-    let can : CanWrite (fresh_shard (config_of w.settings) (get_or w.tops 0 t).desk) = lit< tt in
+    let can : CanWrite (fresh_shard config (get_or w.tops 0 t).desk) = subst (λ n. n < 4611686018427387904) (sym zeroed) (lit< tt) in
     subst H (sym (are.shards (get_or w.tops 0 t).desk x within)) (can, refl)
 
 -- nor for the runners: all are born

@@ -1,7 +1,7 @@
 -- What a runner knows of those that wait stays true, and who sleeps finds nothing.
 use Rattle.std.proofs.Common.{◌≡◌, ◌≢◌, ◌⊎◌, inl, inr, ℕ, zero, suc, ◌+◌, ◌-◌, ◌<◌, ◌≤◌, Bool, true, false, cond, ◌||◌, ◌&&◌, ◌==◌, leb-true, List, [], ◌∷◌, ◌++◌, length, length-append, reverse, take, map, get_or, set, slice_get, Option, Some, None, Ok, refl, sym, ap, subst, ◌∙◌, append_assoc, append-nil, add-one, arith}
 use Rattle.std.specs.Prelude.{is_some, not}
-use Rattle.std.specs.List.{All, find, filter, list_all}
+use Rattle.std.specs.List.{All, find, filter, list_all, list_any}
 use Rattle.std.specs.Option.{option_map}
 use Rattle.std.proofs.lemmas.Bool.{cases_lt, eqb-true}
 use Rattle.std.proofs.lemmas.List.{get_or_default, length-reverse, take_all}
@@ -17,7 +17,7 @@ use Rattle.pt_events.specs.declared.event.Event.{Event}
 use Rattle.pt_events.specs.declared.event.Event.TheVariants.{Born, Said, Came, Took, Flag, Left, Refused}
 use Rattle.pt_events.specs.declared.event.Stamped.{Stamped}
 use Rattle.pt_events.specs.History.{Phase, unborn, living, ended, is_living, is_unborn, state_of}
-use Rattle.pt_shard.specs.ShardState.{ShardState, lives, phase_of}
+use Rattle.pt_shard.specs.ShardState.{ShardState, lives, phase_of, state_in}
 use Rattle.pt_shard.specs.Calls.{Calls, CanWriteIf, after_if, first_match, take_event}
 use Rattle.pt_shard.specs.Extends.{Extends}
 use Rattle.pt_workers.specs.Waking.{came_in, came_to}
@@ -31,8 +31,8 @@ use Rattle.pt_script.specs.declared.values.Pattern.TheVariants.{Any, Kind, From,
 use Rattle.pt_runner.specs.declared.calls.Progress.TheVariants.{Waits}
 use Rattle.pt_runner.specs.declared.runner.Actor.{Actor}
 use Rattle.pt_runner.specs.declared.runner.Runner.{Runner}
-use Rattle.pt_runner.specs.Acting.{Acting, ActsAt, DoesOperation, Plays, acting, pick_meant, set_acting}
-use Rattle.pt_runner.specs.Waiting.{RunnerAttends, FindsNothing, IsFresh, IsNoted, IsTrueOf, IsUnmarked, RunnerKnows, KnowsOf, WaitsSince, is_before, marked, since, sleeps, rests, idle_runner, ActorRests, AllRest}
+use Rattle.pt_runner.specs.Acting.{Acting, ActsAt, DoesOperation, Plays, acting, next_of, pick_meant, set_acting}
+use Rattle.pt_runner.specs.Waiting.{RunnerAttends, FindsNothing, IsFresh, IsNoted, IsTrueOf, IsUnmarked, RunnerKnows, KnowsOf, WaitsSince, is_before, marked, since, sleeps, rests, idle_runner, none_fits, takes_none, is_out_of_work, ActorRests, AllRest}
 use Rattle.pt_runner.proofs.Acting.{table_of, acting_at, acting_within, set_actor, take_at}
 
 -- whom nothing came to ------------------------------------------------------------------------
@@ -264,6 +264,49 @@ pub idle_rests : (r : Runner) (d : ShardState) → idle_runner r d ≡ true → 
 idle_rests r d h k =
     let two = both_of (r.read == length d.journal) (list_all (rests r.came.items d) r.actors.items) h in
     read_rests r d (eqb-true r.read (length d.journal) two.0) two.1 k
+
+-- nothing in a mailbox fits, by a look at all of it
+none_found : {X : Type 0} (test : X → Bool) (xs : List X) → list_any test xs ≡ false → find test xs ≡ None
+none_found test [] h = refl
+none_found test (x ∷ xs) h = go (test x) refl h (none_found test xs)
+  where
+    go : (b : Bool) → test x ≡ b → (b || list_any test xs) ≡ false → (list_any test xs ≡ false → find test xs ≡ None) → find test (x ∷ xs) ≡ None
+    go true e bad rest = absurd (cc)
+    go false e none rest = rw e (rest none)
+
+denied : (b : Bool) → not b ≡ true → b ≡ false
+denied true h = absurd (cc)
+denied false h = refl
+
+none_fits_of : (plans : List Plan) (pids : List (Option Pid)) (d : ShardState) (a : Acting) (pattern : Pattern) (k : Option Pick) → next_of plans a ≡ Receive pattern → lives d a.pid ≡ true → pick_meant pids a.references pattern ≡ k → none_fits (state_in d a.pid).waiting k ≡ true → FindsNothing plans pids a d
+none_fits_of plans pids d a pattern None next alive picks h = absurd (cc)
+none_fits_of plans pids d a pattern (Some k) next alive picks h = record {
+  pattern = pattern;
+  pick = k;
+  next = next;
+  picks = picks;
+  alive = alive;
+  nothing = none_found (fits k) (state_in d a.pid).waiting (denied (list_any (fits k) (state_in d a.pid).waiting) h);
+}
+
+takes_none_of : (plans : List Plan) (pids : List (Option Pid)) (d : ShardState) (a : Acting) (o : Operation) → next_of plans a ≡ o → lives d a.pid ≡ true → takes_none pids (state_in d a.pid).waiting a o ≡ true → FindsNothing plans pids a d
+takes_none_of plans pids d a (Receive pattern) next alive h = none_fits_of plans pids d a pattern (pick_meant pids a.references pattern) next alive refl h
+takes_none_of plans pids d a _ next alive h = absurd (cc)
+
+out_alive : (plans : List Plan) (pids : List (Option Pid)) (d : ShardState) (a : Acting) (l : Bool) → cond l (takes_none pids (state_in d a.pid).waiting a (next_of plans a)) true ≡ true → lives d a.pid ≡ l → l ≡ true → FindsNothing plans pids a d
+out_alive plans pids d a true h is alive = takes_none_of plans pids d a (next_of plans a) refl is h
+out_alive plans pids d a false h is alive = absurd (cc)
+
+each_out : (plans : List Plan) (pids : List (Option Pid)) (d : ShardState) (actors : List Actor) → list_all (is_out_of_work plans pids d) actors ≡ true → All (ActorRests plans pids d) actors
+each_out plans pids d [] h = All-nil (ActorRests plans pids d)
+each_out plans pids d (a ∷ actors) h =
+    let two = both_of (is_out_of_work plans pids d a) (list_all (is_out_of_work plans pids d) actors) h in
+    All-cons (ActorRests plans pids d) a actors
+    (λ alive. out_alive plans pids d (acting a) (lives d a.pid) two.0 refl alive)
+    (each_out plans pids d actors two.1)
+
+pub all_out_of_work : (r : Runner) (d : ShardState) (b : Bool) → b ≡ list_all (is_out_of_work r.script.now.processes r.pids.items d) r.actors.items → b ≡ true → AllRest r d
+all_out_of_work r d b is h = each_out r.script.now.processes r.pids.items d r.actors.items (sym is ∙ h)
 
 -- who ended is taken out --------------------------------------------------------------------------------
 

@@ -1,17 +1,20 @@
 -- What a runner knows of the processes that wait, by the events of the desk's journal that it read.
 use Rattle.std.specs.Prelude.{◌≡◌, ◌⊎◌, ℕ, ◌-◌, ◌<◌, ◌≤◌, Bool, false, true, List, ◌++◌, length, slice_get, slice_index_or}
-use Rattle.std.specs.Prelude.{slice_set, take, leb, not, ◌&&◌, ◌||◌, ◌==◌, Option, Some, None}
-use Rattle.std.specs.List.{All, list_all}
+use Rattle.std.specs.Prelude.{slice_set, take, leb, cond, not, ◌&&◌, ◌||◌, ◌==◌, Option, Some, None}
+use Rattle.std.specs.List.{All, list_all, list_any}
 use Rattle.pt_signal.specs.declared.pid.Pid.{Pid}
+use Rattle.pt_signal.specs.declared.item.Item.{Item}
 use Rattle.pt_signal.specs.declared.item.Pick.{Pick}
+use Rattle.pt_signal.specs.Values.{fits}
 use Rattle.pt_events.specs.declared.event.Event.{Event}
 use Rattle.pt_events.specs.declared.event.Event.TheVariants.{Came, Left}
 use Rattle.pt_events.specs.declared.event.Stamped.{Stamped}
 use Rattle.pt_shard.specs.Calls.{first_match}
-use Rattle.pt_shard.specs.ShardState.{ShardState, lives}
+use Rattle.pt_shard.specs.ShardState.{ShardState, lives, state_in}
 use Rattle.pt_desk.specs.DeskState.{DeskState}
 use Rattle.pt_workers.specs.Waking.{came_in}
 use Rattle.pt_script.specs.Plans.{Plan}
+use Rattle.pt_script.specs.declared.values.Operation.{Operation}
 use Rattle.pt_script.specs.declared.values.Operation.TheVariants.{Receive}
 use Rattle.pt_script.specs.declared.values.Pattern.{Pattern}
 use Rattle.pt_runner.specs.Acting.{Acting, RunnerDoes, acting, next_of, pick_meant}
@@ -105,6 +108,21 @@ ActorRests plans pids d a = lives d a.pid ≡ true → FindsNothing plans pids (
 
 abbrev pub AllRest : Runner → ShardState → Type 0
 AllRest r d = All (ActorRests r.script.now.processes r.pids.items d) r.actors.items
+
+-- none of these items fits
+abbrev pub none_fits : List Item → Option Pick → Bool
+none_fits items None = false
+none_fits items (Some k) = not (list_any (fits k) items)
+
+-- an operation of a process is a receive for which none of these fits
+abbrev pub takes_none : List (Option Pid) → List Item → Acting → Operation → Bool
+takes_none pids items a (Receive pattern) = none_fits items (pick_meant pids a.references pattern)
+takes_none pids items a _ = false
+
+-- a process has ended, or its next operation is such a receive, of its mailbox
+abbrev pub is_out_of_work : List Plan → List (Option Pid) → ShardState → Actor → Bool
+is_out_of_work plans pids d a =
+    cond (lives d a.pid) (takes_none pids (state_in d a.pid).waiting (acting a) (next_of plans (acting a))) true
 
 -- the place behind an event is noted at the slot of the process to which a signal came, or which left
 abbrev pub marked : Event → ℕ → List ℕ → List ℕ

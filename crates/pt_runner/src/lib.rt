@@ -46,7 +46,7 @@
 //! # What is proved
 //!
 //! - **Starting.** `start` spawns the processes of the script, each on its desk and in order, and nothing else happens.
-//!   (`Starting`)
+//!   So does `start_on`, on a node with other settings. (`Starting`)
 //! - **Failed starts.** It fails with `Full` or `Worn` exactly if the next spawn does, and else only for memory.
 //! - **Steps.** In each step each live process does its next operation, in the order in which they were spawned, and
 //!   only that. (`RunnerDoes`)
@@ -56,7 +56,7 @@
 //! - **Places.** `place` returns the place of a process in its list, and how often its next operation failed for want
 //!   of memory or at the clock's limit. (`GoesBehind`)
 //! - **Idle runners.** If a runner is idle, each of its processes has exited, or waits for an item that has not
-//!   arrived. (`AllRest`)
+//!   arrived. So it is if `finds_nothing` says so, which looks into the mailboxes. (`AllRest`)
 #![tactic(auto)]
 
 mod calls;

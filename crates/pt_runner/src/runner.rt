@@ -2,7 +2,8 @@
 
 ghost use Rattle.std.specs.Prelude.{◌≡◌, ◌≢◌, ◌⊎◌, ℕ, Bool, false, ◌<◌, ◌≤◌, ◌+◌, ◌++◌, ◌∷◌, ◌||◌, [], List, None, Some, Ok};
 ghost use Rattle.std.specs.Prelude.{count_by, map, not, slice_index_or, slice_set, true, vec_capacity, vec_len};
-ghost use Rattle.std.specs.List.{All, list_all};
+ghost use Rattle.std.specs.List.{All, list_all, list_any};
+ghost use Rattle.pt_signal.specs.Values.{fits};
 ghost use Rattle.pt_shard.specs.ShardState.{ShardState, lives};
 ghost use Rattle.pt_desk.specs.DeskState.{GoesOn, HasSameEnds};
 ghost use Rattle.pt_script.specs.Plans.{Plan};
@@ -13,10 +14,10 @@ ghost use Rattle.pt_runner.specs.Acting.{Plays, GoesBehind, ActsAt, RunnerDoes, 
 ghost use Rattle.pt_runner.specs.Acting.{advanced, living, place_listed, put_off, with_born, RunnerSpawns};
 ghost use Rattle.pt_runner.specs.Stepping.{ProcessesStep, processes_here};
 ghost use Rattle.pt_runner.specs.Waiting.{RunnerAttends, HasSameRest, IsAbreast, IsFresh, IsTrueOf, IsUnmarked, RunnerKnows, RunnerSteps};
-ghost use Rattle.pt_runner.specs.Waiting.{AllRest, idle_runner, marked, rests, sleeps};
+ghost use Rattle.pt_runner.specs.Waiting.{AllRest, idle_runner, is_out_of_work, marked, none_fits, rests, sleeps, takes_none};
 
 use crate::calls::{Progress, References, call, pick_of, progress_of};
-use pt_node::{Desk, Event, Fault, Pid, Reason, Turned, Work};
+use pt_node::{Desk, Event, Fault, Item, Pick, Pid, Reason, Turned, Work};
 use pt_script::{Operation, Pattern, Script};
 use std::alloc::Global;
 
@@ -83,6 +84,28 @@ impl Actor {
         ensures { result ≡ (sleeps came.now self.now || not (lives desk.now.shard self.now.pid)) }
     {
         self.sleeps(came) || !desk.alive_here(self.pid)
+    }
+
+    /// Whether it has exited, or is at a receive for which no item in its mailbox fits.
+    fn finds_nothing(&self, script: &Script, pids: &[Option<Pid>], desk: &Desk) -> bool
+        ensures { result ≡ is_out_of_work script.now.processes pids.now desk.now.shard self.now }
+    {
+        match desk.waiting(self.pid) {
+            Some(items) => self.takes_none(pids, items, self.next(script)),
+            None => true,
+        }
+    }
+
+    /// Whether an operation of it is a receive for which none of these items fits.
+    fn takes_none(&self, pids: &[Option<Pid>], items: &[Item], operation: Operation) -> bool
+        ensures { result ≡ takes_none pids.now items.now (acting self.now) operation }
+    {
+        match operation {
+            Operation::Receive(pattern) => {
+                none_fits(items, pick_of(pids, &self.references, pattern))
+            }
+            _ => false,
+        }
     }
 
     /// Its next operation. After the last one this is its exit.
@@ -184,6 +207,22 @@ impl Actor {
             Err(_refused) => self.put_off(),
         }
     }
+}
+
+/// Whether none of these items fits.
+fn none_fits(items: &[Item], pick: Option<Pick>) -> bool
+    ensures { result ≡ none_fits items.now pick }
+{
+    match pick {
+        Some(pick) => !any_fits(items, pick),
+        None => false,
+    }
+}
+
+fn any_fits(items: &[Item], pick: Pick) -> bool
+    ensures { result ≡ list_any (fits pick) items.now }
+{
+    items.iter().any(|item| pick.fits(item))
 }
 
 /// The place of a process of the script in its list of operations.
@@ -295,6 +334,27 @@ impl<'a> Runner<'a> {
         ensures rests { result ≡ true → RunnerKnows self.now desk.now.shard → AllRest self.now desk.now.shard }
     {
         self.read == desk.journal().events().len() && self.all_rest(desk)
+    }
+
+    /// Whether each of its processes has exited, or is at a receive for which no item waits. It looks into the mailboxes,
+    /// and needs nothing to be read or tried before, unlike [`Runner::is_idle`].
+    pub fn finds_nothing(&self, desk: &Desk) -> bool
+        ensures waits { result ≡ list_all (is_out_of_work self.now.script.now.processes self.now.pids.items desk.now.shard)
+            self.now.actors.items }
+        ensures rests { result ≡ true → AllRest self.now desk.now.shard }
+    {
+        self.all_find_nothing(desk)
+    }
+
+    fn all_find_nothing(&self, desk: &Desk) -> bool
+        ensures { result ≡ list_all (is_out_of_work self.now.script.now.processes self.now.pids.items desk.now.shard)
+            self.now.actors.items }
+    {
+        let script = self.script;
+        let pids = self.pids.as_slice();
+        self.actors
+            .iter()
+            .all(|actor| actor.finds_nothing(script, pids, desk))
     }
 
     fn all_rest(&self, desk: &Desk) -> bool

@@ -9,7 +9,7 @@ ghost use Rattle.pt_node.specs.Opening.{AreFresh};
 ghost use Rattle.pt_runner.specs.Starting.{Starts, BearsList, AreRunners, IsRunnerOf, numbered_pids};
 
 use crate::runner::{Actor, Runner, put_pid};
-use pt_node::{Desk, Fault, Pid};
+use pt_node::{Config, Desk, Fault, Pid};
 use pt_script::Script;
 use std::alloc::{AllocError, Global};
 
@@ -23,7 +23,6 @@ impl<'a> Runner<'a> {
     /// The desks must be those that `open` returned for the script's `config`, in order. Fails with `Full` if the desk
     /// of the next process has no free slot, and with `Worn` if its clock is at its limit. Else it fails with `Memory`
     /// if there is none, for a process or for the runners. The processes that were spawned before stay.
-    #[tactic(auto, using(crate::proofs::Starting::refused_as, crate::proofs::Starting::no_runners))]
     pub fn start(
         alloc: Global,
         script: &'a Script,
@@ -34,16 +33,43 @@ impl<'a> Runner<'a> {
         ensures count { IfOk result (λ runners. vec_len runners ≡ length desks.new) }
         ensures starts { Starts script.now desks.new result }
     {
-        let born = bear(alloc, script, desks)?;
-        let runners = runners_of(alloc, script, born.as_slice(), desks.len())?;
+        Runner::start_on(alloc, script, script.config(), desks)
+    }
+
+    /// The same on a node with these settings, which need not be those of the script: the desks must be those that `open`
+    /// returned for them, in order. They must be as many as the script has, with clocks that begin at 0.
+    #[tactic(auto, using(crate::proofs::Starting::refused_as, crate::proofs::Starting::no_runners))]
+    pub fn start_on(
+        alloc: Global,
+        script: &'a Script,
+        config: Config,
+        desks: &mut [Desk],
+    ) -> Result<Vec<Runner<'a>>, Fault>
+        requires fresh { AreFresh config desks.old }
+        requires count { config.desks ≡ script.now.settings.desks }
+        requires start { config.start ≡ 0 }
+        ensures desks { AreDesksOf config desks.new }
+        ensures count { IfOk result (λ runners. vec_len runners ≡ length desks.new) }
+        ensures starts { Starts script.now desks.new result }
+    {
+        let born = bear(alloc, script, config, desks)?;
+        let slots = config.slots as usize;
+        let runners = runners_of(alloc, script, slots, born.as_slice(), desks.len())?;
         Ok(runners)
     }
 }
 
 /// Spawns the processes of the script's list, and returns their pids in its order.
-fn bear(alloc: Global, script: &Script, desks: &mut [Desk]) -> Result<Vec<Pid>, Fault>
-    requires { AreFresh (config_of script.now.settings) desks.old }
-    ensures desks { AreDesksOf (config_of script.now.settings) desks.new }
+fn bear(
+    alloc: Global,
+    script: &Script,
+    config: Config,
+    desks: &mut [Desk],
+) -> Result<Vec<Pid>, Fault>
+    requires fresh { AreFresh config desks.old }
+    requires count { config.desks ≡ script.now.settings.desks }
+    requires start { config.start ≡ 0 }
+    ensures desks { AreDesksOf config desks.new }
     ensures bears { BearsList script.now.tops desks.new result }
 {
     let tops = script.tops();
@@ -68,10 +94,11 @@ fn bear_on(desk: &mut Desk) -> Result<Pid, Fault>
     born
 }
 
-/// A runner for each of so many desks.
+/// A runner for each of so many desks, which have so many slots each.
 fn runners_of<'a>(
     alloc: Global,
     script: &'a Script,
+    slots: usize,
     born: &[Pid],
     desks: usize,
 ) -> Result<Vec<Runner<'a>>, AllocError>
@@ -82,7 +109,7 @@ fn runners_of<'a>(
     let pids = pids_of(alloc, script, born)?;
     let mut runners = Vec::with_capacity(alloc, desks)?;
     for desk in 0..desks {
-        runners.push(runner_of(alloc, script, desk, born, pids.as_slice())?)?;
+        runners.push(runner_of(alloc, script, slots, desk, born, pids.as_slice())?)?;
     }
     Ok(runners)
 }
@@ -100,10 +127,11 @@ fn pids_of(alloc: Global, script: &Script, born: &[Pid]) -> Result<Vec<Option<Pi
     Ok(pids)
 }
 
-/// The runner of a desk.
+/// The runner of a desk with so many slots.
 fn runner_of<'a>(
     alloc: Global,
     script: &'a Script,
+    slots: usize,
     desk: usize,
     born: &[Pid],
     pids: &[Option<Pid>],
@@ -119,6 +147,6 @@ fn runner_of<'a>(
             actors.push(Actor::new(alloc, script, *pid, tops[index].process))?;
         }
     }
-    let came = vec![in alloc; 0; script.config().slots as usize]?;
+    let came = vec![in alloc; 0; slots]?;
     Ok(Runner::new(alloc, script, Vec::from_slice(alloc, pids)?, actors, came))
 }
