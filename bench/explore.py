@@ -6,8 +6,8 @@
 It prints the tables of RESULTS.md, or writes that section of it. PROGRAM is a built pt_explore (`bench/build_unproved.py`), and
 `--before` names one to compare it with; both have to print the same. Each script is explored TIMES times (5), on one
 thread, the programs in turn. A row has the best of the processor's seconds, the start of the program and the reading of
-the script among them. The second table has the processor's seconds of each thread: that of the longest is what the clock
-would show where as many processors are free.
+the script among them. The second table has all stored scripts. The third has the processor's seconds of each thread: that
+of the longest is what the clock would show where as many processors are free.
 """
 from __future__ import annotations
 
@@ -108,6 +108,23 @@ def speeds(programs: list[str], folder: Path, times: int) -> list[str]:
     return lines
 
 
+def stored(program: str, times: int) -> list[str]:
+    """The table of the stored scripts, each with all of its schedules."""
+    found = []
+    for script in sorted((ROOT / "checks/examples").glob("*.json")):
+        runs = [explored(program, script) for _ in range(times)]
+        head = HEAD.match(runs[0][0])
+        if head is None:
+            raise SystemExit(f"{script}: {runs[0][0]}")
+        found.append((int(head[1]), int(head[2]), min(seconds for _, seconds in runs), f"`{script.name}`"))
+    found.sort(key=lambda it: (-it[0], it[3]))
+    lines = ["| Script | Schedules | Outcomes | Seconds |", "|---|---|---|---|"]
+    lines += [f"| {name} | {count} | {ends} | {seconds:.3f} |" for count, ends, seconds, name in found if count > 1]
+    single = [seconds for count, _, seconds, _ in found if count == 1]
+    lines.append(f"| {len(single)} others, each | 1 | 1 | {max(single):.3f} at most |")
+    return lines
+
+
 def threads(program: str, folder: Path) -> list[str]:
     """The table of threads, of the first script."""
     lines, alone = ["| Threads | Seconds of all | Of the longest | Faster by |", "|---|---|---|---|"], 0.0
@@ -122,13 +139,14 @@ def section(programs: list[str], times: int) -> str:
     """The section of RESULTS.md."""
     with tempfile.TemporaryDirectory() as room:
         folder, load = Path(room), os.getloadavg()[0]
-        first, second = speeds(programs, folder, times), threads(programs[-1], folder)
+        first, whole, second = speeds(programs, folder, times), stored(programs[-1], times), threads(programs[-1], folder)
     today = time.strftime("%-d %B %Y")
     return "\n".join([
         HEADING, f"{today}, beside other work (load {load:.0f}), pinned to {len(os.sched_getaffinity(0))} processors. "
         f"`bench/explore.py` wrote this section: the best of {times} runs each, in seconds of the processor, the start of the "
         "program among them. The programs were compiled without proofs, by `bench/build_unproved.py`.", "", *first, "",
         "50,000 schedules of 20 turns a second were wanted on one processor.", "",
+        "The stored scripts (`checks/examples`), all schedules of each:", "", *whole, "",
         "The first script again, by threads: the processor's seconds of all, and of the thread that had most to do, which is "
         "what the clock shows where as many processors are free.", "", *second, "", "",
     ])
