@@ -22,11 +22,11 @@ from pathlib import Path
 ROOT = Path(__file__).resolve().parent.parent
 BOUNDS = {"words": 0, "functions": 0, "prose": 0, "sentences": 0, "crates": 37}
 # the shell, the timers and names with their example, the explorer, and what was taken out of a crate so that its check holds less,
-# and the node that goes on by itself
+# the node that goes on by itself, and the supervisors of a crew whose handlers are outside
 NEW = {
     "pt_lines", "pt_answers", "pt_session", "pt_shell", "pt_timers", "pt_names", "pt_schedules", "pt_explore", "pt_explorer",
     "pt_workers", "pt_table", "test_recipes", "pt_registry", "pt_hands", "example_exchange", "pt_epochs", "pt_pauses",
-    "pt_places", "pt_tools",
+    "pt_places", "pt_tools", "pt_teams",
 }
 MOST_LINES = 30
 MOST_LETTERS = 300

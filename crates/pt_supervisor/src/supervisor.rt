@@ -11,6 +11,7 @@ use crate::limit::Limit;
 use crate::restart::{Restart, Strategy};
 use pt_crew::{Births, Next, exit_signal, spawn_child, trap};
 use pt_node::{Desk, Fault, Item, Pick, Pid, Reason};
+use std::mem;
 
 /// What the children of a supervisor do, as the program says.
 pub trait Start<B> {
@@ -123,6 +124,15 @@ impl<S> Supervisor<S> {
         ensures { result ≡ (standing self.now).started }
     {
         self.started
+    }
+
+    /// Puts another `Start` in the place of its own, and returns that. All else stays.
+    pub fn replace_start(&mut self, start: S) -> S
+        ensures was { result ≡ program_of self.old }
+        ensures start { program_of self.new ≡ start }
+        ensures standing { standing self.new ≡ standing self.old }
+    {
+        mem::replace(&mut self.start, start)
     }
 
     /// Asks the supervisor to end all its children, from the last to the first, and then to exit with this reason. It

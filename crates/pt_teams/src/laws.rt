@@ -1,0 +1,35 @@
+//! What holds of the supervisors of a team, as the contract of a function that does nothing.
+
+ghost use Rattle.std.specs.Prelude.{ℕ};
+ghost use Rattle.pt_events.specs.History.{Past};
+ghost use Rattle.pt_shard.specs.ShardState.{ShardState};
+ghost use Rattle.pt_desk.specs.DeskState.{DeskState};
+ghost use Rattle.pt_desk.specs.Turns.{Turns};
+ghost use Rattle.pt_desk.specs.declared.turned.Turned.{Turned};
+ghost use Rattle.pt_crew.specs.Upholding.{IsLater};
+ghost use Rattle.pt_supervisor.specs.Keeping.{QuietChildrenLive};
+ghost use Rattle.pt_supervisor.specs.Stopping.{StoppedChildrenEnded};
+ghost use Rattle.pt_teams.specs.declared.team.Team.{Team};
+ghost use Rattle.pt_teams.specs.Members.{boss_part};
+ghost use Rattle.pt_teams.specs.Teaming.{AreLeftAlone, TeamUpholds};
+
+use crate::member::Member;
+use pt_supervisor::{quiet_children_live, stopped_children_ended};
+
+/// In a node that is still, each child that a supervisor of a team wants alive is alive, or unlinked itself from the
+/// supervisor (`live`). If a supervisor stopped by itself, no child that it ever started is alive, unless that child sent
+/// it an exit signal (`ended`). The function does nothing: its contract is the promise.
+///
+/// Both need what the supervisors of the team uphold. Each call of the team keeps it. So does a turn of the desk (`turn`),
+/// and whatever the program does on the desk, if it does nothing for a supervisor (`outside`).
+pub fn team_children_live()
+    ensures turn { (past : Past) (t : Team) (budget : ℕ) (d e : DeskState) (turned : Turned) → Turns budget d turned e
+        → TeamUpholds past t d.shard → TeamUpholds past t e.shard }
+    ensures outside { (past : Past) (t : Team) (d e : ShardState) → IsLater d e → AreLeftAlone t d e → TeamUpholds past t d
+        → TeamUpholds past t e }
+    ensures live { QuietChildrenLive boss_part }
+    ensures ended { StoppedChildrenEnded boss_part }
+{
+    quiet_children_live::<Member>();
+    stopped_children_ended::<Member>();
+}

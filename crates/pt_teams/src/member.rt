@@ -1,0 +1,315 @@
+//! A process of a team, and what is told of it.
+
+ghost use Rattle.std.specs.Prelude.{◌≡◌, None, Some, false, position, true};
+ghost use Rattle.std.specs.Option.{option_copied, option_map};
+ghost use Rattle.pt_crew.specs.declared.behaviour.Next.TheVariants.{Running};
+ghost use Rattle.pt_hands.specs.Pulling.{noted_reason, reason_told};
+ghost use Rattle.pt_supervisor.specs.Hearing.{program_of, standing};
+ghost use Rattle.pt_supervisor.specs.Children.{is_child};
+ghost use Rattle.pt_teams.specs.Planning.{again_at, new_child, posts_heard, posts_of};
+ghost use Rattle.pt_teams.specs.Members.{boss_part, member_answers, news_of, notice_of_exit};
+
+use crate::plan::{Origin, Plan, Post, mark};
+use pt_crew::{Behaviour, Births, Next, Role};
+use pt_node::{Desk, Item, Pid, Reason};
+use pt_supervisor::{Child, Supervised, Supervisor};
+
+/// What is told of a process.
+#[derive(Clone, Copy, Debug, PartialEq, Eq)]
+pub enum News {
+    /// It begins: it proceeds, and has been told nothing before. The origin says which supervisor started it, and is
+    /// `None` if the program spawned it.
+    Start(Option<Origin>),
+    /// It proceeds, as it was answered.
+    Proceed,
+    /// It gets this item, which matches what it waited for.
+    Item(Item),
+    /// The time until which it waited has come, and no item matches.
+    Timeout,
+    /// It has exited with this reason, and this was what it was to do. It is told nothing after this.
+    ///
+    /// The reason is that of its own exit in the desk's journal: the one that it stopped with, or that a call of `exit`
+    /// gave. If an exit signal ended the process, it is the reason that [`Team::note_loss`](crate::Team::note_loss) was
+    /// told, or `Noproc` if it was told none.
+    Exit(Reason, Next),
+}
+
+/// What is told of a process, and which process it is.
+#[derive(Clone, Copy, Debug, PartialEq, Eq)]
+pub struct Notice {
+    pub pid: Pid,
+    pub tag: u64,
+    pub news: News,
+}
+
+/// What is known of a process for what it is told. It is public since the definitions name it.
+#[derive(Clone, Copy, Debug, PartialEq, Eq)]
+pub struct Notes {
+    /// Whether it has been told anything.
+    pub(crate) begun: bool,
+    /// What it was handed, until it is told: an item, or `None` if it proceeds or its time has come.
+    pub(crate) handed: Option<Option<Item>>,
+    /// The reason with which it exited, once that was read in the journal.
+    pub(crate) ended: Option<Reason>,
+    /// The reason with which it exited, once a loss told it.
+    pub(crate) lost: Option<Reason>,
+}
+
+/// A process of a team. It is public since the definitions name it; no call returns one.
+#[derive(Drop)]
+pub struct Member {
+    tag: u64,
+    origin: Option<Origin>,
+    notes: Notes,
+    /// The supervisor that it is, if it is one. Else its handler is outside.
+    boss: Option<Supervisor<Plan>>,
+}
+
+impl Notes {
+    /// Of a process that begins.
+    #[inline(always)]
+    fn none() -> Notes
+        ensures { result ≡ record { begun = false; handed = None; ended = None; lost = None } }
+    {
+        Notes {
+            begun: false,
+            handed: None,
+            ended: None,
+            lost: None,
+        }
+    }
+}
+
+impl Member {
+    /// One that begins, and is a supervisor or not.
+    #[inline(always)]
+    pub(crate) fn new(tag: u64, boss: Option<Supervisor<Plan>>) -> Member
+        ensures { result ≡ record {
+          tag = tag;
+          origin = None;
+          notes = record { begun = false; handed = None; ended = None; lost = None };
+          boss = boss;
+        } }
+    {
+        Member {
+            tag,
+            origin: None,
+            notes: Notes::none(),
+            boss,
+        }
+    }
+
+    /// A child of a supervisor that begins.
+    #[inline(always)]
+    pub(crate) fn child(post: Post, supervisor: Pid) -> Member
+        ensures { result ≡ new_child post supervisor }
+    {
+        Member {
+            tag: post.tag(),
+            origin: Some(Origin {
+                supervisor,
+                again: post.again(),
+            }),
+            notes: Notes::none(),
+            boss: None,
+        }
+    }
+
+    /// Its tag.
+    #[inline(always)]
+    pub(crate) fn tag(&self) -> u64
+        ensures { result ≡ self.now.tag }
+    {
+        self.tag
+    }
+
+    /// What is known of it for what it is told.
+    #[inline(always)]
+    pub(crate) fn notes(&self) -> Notes
+        ensures { result ≡ self.now.notes }
+    {
+        self.notes
+    }
+
+    /// What it was handed and has not been told.
+    #[inline(always)]
+    pub(crate) fn handed(&self) -> Option<Option<Item>>
+        ensures { result ≡ self.now.notes.handed }
+    {
+        self.notes.handed
+    }
+
+    /// The children of the supervisor that it is, if it is one.
+    pub(crate) fn children(&self) -> Option<&[Child]>
+        ensures { option_copied result ≡ option_map (λ s. (standing s).children) self.now.boss }
+    {
+        match &self.boss {
+            Some(boss) => Some(boss.children()),
+            None => None,
+        }
+    }
+
+    /// The same process, of which this is known.
+    #[inline(always)]
+    pub(crate) fn with_notes(self, notes: Notes) -> Member
+        ensures { result ≡ record self { notes = notes } }
+    {
+        let Member {
+            tag,
+            origin,
+            notes: _,
+            boss,
+        } = self;
+        Member {
+            tag,
+            origin,
+            notes,
+            boss,
+        }
+    }
+
+    /// The same process, which is this supervisor.
+    #[inline(always)]
+    pub(crate) fn with_boss(self, supervisor: Supervisor<Plan>) -> Member
+        ensures { result ≡ record self { boss = Some supervisor } }
+    {
+        let Member {
+            tag,
+            origin,
+            notes,
+            boss: _,
+        } = self;
+        Member {
+            tag,
+            origin,
+            notes,
+            boss: Some(supervisor),
+        }
+    }
+
+    /// What it is told, which was to do this, and was handed this item or none.
+    #[inline(always)]
+    pub(crate) fn news(&self, before: Option<Next>, item: Option<Item>) -> News
+        ensures { result ≡ news_of self.now.notes.begun self.now.origin before item }
+    {
+        match (item, before) {
+            (Some(item), _) => News::Item(item),
+            (None, Some(Next::Proceed)) => {
+                if self.notes.begun {
+                    News::Proceed
+                } else {
+                    News::Start(self.origin)
+                }
+            }
+            (None, _) => News::Timeout,
+        }
+    }
+}
+
+/// The reason of a process that left, and was alive or not as it was come to: that with which it stopped, or the one that
+/// was noted.
+fn reason_of(next: Next, alive: bool, noted: Reason) -> Reason
+    ensures { result ≡ reason_told alive next noted }
+{
+    match next {
+        Next::Stop(reason) => { if alive { reason } else { noted } }
+        Next::Wait(_) | Next::WaitUntil(_, _) | Next::Proceed | Next::Running => noted,
+    }
+}
+
+/// The reason that was noted: by the journal, or else by a loss, or `Noproc` if none was.
+fn reason_noted(ended: Option<Reason>, lost: Option<Reason>) -> Reason
+    ensures { result ≡ noted_reason ended lost }
+{
+    match (ended, lost) {
+        (Some(reason), _) => reason,
+        (None, Some(reason)) => reason,
+        (None, None) => Reason::Noproc,
+    }
+}
+
+/// What is told of a process that left, and was alive or not as it was come to.
+pub(crate) fn notice_of_exit(left: Role<Member>, alive: bool) -> Notice
+    ensures { result ≡ notice_of_exit alive left }
+{
+    let notes = left.behaviour.notes;
+    let noted = reason_noted(notes.ended, notes.lost);
+    let reason = reason_of(left.next, alive, noted);
+    Notice {
+        pid: left.pid,
+        tag: left.behaviour.tag,
+        news: News::Exit(reason, left.next),
+    }
+}
+
+/// The place of a child by its pid.
+fn place_of(children: &[Child], pid: Pid) -> Option<usize>
+    ensures { result ≡ position (λ c. is_child c.pid pid) children.now }
+{
+    children.iter().position(|child| child.is_of(pid))
+}
+
+/// Notes that a child of a supervisor has exited, if the process is one.
+fn heed_exit(boss: &mut Supervisor<Plan>, from: Pid)
+    ensures standing { standing boss.new ≡ standing boss.old }
+    ensures posts { posts_of (program_of boss.new)
+        ≡ again_at (position (λ c. is_child c.pid from) (standing boss.old).children) (posts_of (program_of boss.old)) }
+{
+    if let Some(place) = place_of(boss.children(), from) {
+        mark(boss, place);
+    }
+}
+
+/// Notes which child of a supervisor has exited, if this item says so of one.
+fn heed_item(boss: &mut Supervisor<Plan>, item: Item)
+    ensures standing { standing boss.new ≡ standing boss.old }
+    ensures posts { posts_of (program_of boss.new)
+        ≡ posts_heard (Some item) (standing boss.old).children (posts_of (program_of boss.old)) }
+{
+    match item {
+        Item::Exit(from, _) => heed_exit(boss, from),
+        _ => {}
+    }
+}
+
+/// Notes which child of a supervisor has exited, if there is an item that says so of one.
+fn heed(boss: &mut Supervisor<Plan>, item: Option<Item>)
+    ensures standing { standing boss.new ≡ standing boss.old }
+    ensures posts { posts_of (program_of boss.new)
+        ≡ posts_heard item (standing boss.old).children (posts_of (program_of boss.old)) }
+{
+    match item {
+        Some(found) => heed_item(boss, found),
+        None => {}
+    }
+}
+
+impl Behaviour for Member {
+    ghost answers = { member_answers };
+
+    #[tactic(auto, using(pt_workers::proofs::GoingOn::stays))]
+    fn handle(
+        &mut self,
+        desk: &mut Desk,
+        births: &mut Births<Member>,
+        me: Pid,
+        item: Option<Item>,
+    ) -> Next {
+        match &mut self.boss {
+            Some(boss) => {
+                heed(boss, item);
+                boss.handle(desk, births, me, item)
+            }
+            None => {
+                self.notes.handed = Some(item);
+                Next::Running
+            }
+        }
+    }
+}
+
+impl Supervised for Member {
+    ghost supervisor = { boss_part };
+
+    ghost supervises = { λ b d me item next now e births h. h.0 };
+}
