@@ -1,5 +1,5 @@
 -- A running process becomes a supervisor.
-use Rattle.std.proofs.Common.{◌≡◌, Option, Some, None, refl, sym, ap, subst, ◌∙◌}
+use Rattle.std.proofs.Common.{◌≡◌, Some, refl, sym, ap, ◌∙◌}
 use Rattle.pt_signal.specs.declared.pid.Pid.{Pid}
 use Rattle.pt_signal.specs.Values.{same_pid}
 use Rattle.pt_signal.proofs.Same.{same_pid_refl}
@@ -7,7 +7,7 @@ use Rattle.std.specs.Prelude.{Bool, true, false, cond, MatchBool, List}
 use Rattle.pt_shard.specs.ShardState.{ShardState}
 use Rattle.pt_desk.proofs.Turning.{extends}
 use Rattle.pt_crew.specs.declared.behaviour.Next.{Next}
-use Rattle.pt_crew.specs.declared.behaviour.Next.TheVariants.{Proceed, Running}
+use Rattle.pt_crew.specs.declared.behaviour.Next.TheVariants.{Proceed}
 use Rattle.pt_crew.specs.Visiting.{AreWith, Roles}
 use Rattle.pt_crew.specs.Crews.{IsSame, roles, waiting}
 use Rattle.pt_crew.specs.Stepping.{IsAnswered}

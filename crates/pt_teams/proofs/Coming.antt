@@ -7,7 +7,7 @@ use Rattle.pt_signal.specs.declared.pid.Pid.{Pid}
 use Rattle.pt_signal.specs.declared.item.Item.{Item}
 use Rattle.pt_signal.specs.declared.item.Pick.{Pick}
 use Rattle.pt_signal.specs.declared.reason.Reason.{Reason}
-use Rattle.pt_signal.specs.Values.{same_pid, fits}
+use Rattle.pt_signal.specs.Values.{fits}
 use Rattle.pt_signal.proofs.Same.{same_pid_refl}
 use Rattle.pt_events.specs.declared.event.Event.TheVariants.{Took, Left}
 use Rattle.pt_events.specs.declared.event.Stamped.{Stamped}
@@ -20,7 +20,7 @@ use Rattle.pt_crew.specs.declared.behaviour.Next.{Next}
 use Rattle.pt_crew.specs.declared.behaviour.Next.TheVariants.{Wait, WaitUntil, Proceed, Running, Stop}
 use Rattle.pt_crew.specs.declared.births.Role.{Role}
 use Rattle.pt_crew.specs.declared.crew.Tended.{Tended}
-use Rattle.pt_crew.specs.declared.crew.Tended.TheVariants.{Idle, Again, Done, Refused, Gone as Ended}
+use Rattle.pt_crew.specs.declared.crew.Tended.TheVariants.{Idle, Refused, Gone as Ended}
 use Rattle.pt_crew.specs.Visiting.{ComesTo, EndsAs, HandsTo, LeavesAs, SeesTo, StaysAs, TakesAs, handed_as, handed_by, leaves_crew, takes}
 use Rattle.pt_crew.specs.Handing.{MayBeHanded, item_handed}
 use Rattle.pt_crew.specs.Waking.{pick_of}

@@ -1,6 +1,6 @@
 -- A team goes on with a history: the reason of each exit in it is kept, and their crew begins again.
 use Rattle.std.proofs.Common.{◌≡◌, ℕ, ◌+◌, ◌<◌, ◌≤◌, Bool, true, false, cond, List, [], ◌∷◌, ◌++◌, length, reverse, get_or, Option, Some, None, refl, sym, ap, ◌∙◌, subst, append-nil, append_assoc, length-append, arith, Result, Ok, Err}
-use Rattle.std.specs.Prelude.{IfOk, IfErr, IsOk, OnOk}
+use Rattle.std.specs.Prelude.{IsOk, OnOk}
 use Rattle.std.specs.Option.{option_map}
 use Rattle.std.proofs.lemmas.List.{reverse-append}
 use Rattle.pt_signal.specs.declared.pid.Pid.{Pid}
@@ -16,16 +16,16 @@ use Rattle.pt_crew.specs.Visiting.{AreSame, AreWith}
 use Rattle.pt_crew.specs.Crews.{AreBorn, Attends, HasRoom, KeepsRest, queue, roles, waiting}
 use Rattle.pt_crew.specs.Stepping.{QueueIsLonger}
 use Rattle.pt_crew.proofs.Visiting.{rest_then}
-use Rattle.pt_crew.proofs.Waking.{by_cases, elsewhere, same_some, some_none, there}
+use Rattle.pt_crew.proofs.Waking.{by_cases, elsewhere, same_some, there}
 use Rattle.pt_teams.specs.declared.member.Member.{Member}
 use Rattle.pt_teams.specs.declared.team.Team.{Team}
 use Rattle.pt_hands.specs.Pulling.{AreAllQueued, HasExitsOf, exit_by, exit_in}
-use Rattle.pt_teams.specs.Teaming.{AttendsTeam, TeamGoesOn, TeamUpholds, member_view, member_view_kept, member_views}
+use Rattle.pt_teams.specs.Teaming.{AttendsTeam, TeamGoesOn, member_view, member_view_kept}
 use Rattle.pt_teams.specs.Taken.{KeepsMemberExit, KeepsMemberExits, SetsNotes, StaysElse, member_kept, member_role_kept}
 use Rattle.pt_hands.proofs.Noting.{none_before}
 use Rattle.pt_teams.specs.declared.member.Notes.{Notes}
 use Rattle.pt_teams.proofs.Upheld.{kept_upholds}
-use Rattle.pt_teams.proofs.Noting.{fresh_is, its_role, rest_same}
+use Rattle.pt_teams.proofs.Noting.{fresh_is, its_role}
 
 -- what is kept of one hand -----------------------------------------------------------------------
 

@@ -1,6 +1,6 @@
 -- What a team knows of its desk stays so, and the exits of its journal are noted.
-use Rattle.std.proofs.Common.{◌≡◌, ℕ, ◌+◌, ◌<◌, ◌≤◌, Bool, true, false, cond, List, [], ◌∷◌, ◌++◌, length, reverse, get_or, Option, Some, None, refl, sym, ap, subst, ◌∙◌, append_assoc, append-nil, length-append, arith, Result, Ok, Err}
-use Rattle.std.specs.Prelude.{IfOk, IfErr, MatchBool, OnErr, OnOk, ⊤}
+use Rattle.std.proofs.Common.{◌≡◌, ◌+◌, ◌<◌, Bool, true, false, cond, List, [], ◌∷◌, ◌++◌, length, reverse, get_or, Option, Some, None, refl, sym, ap, subst, ◌∙◌, append_assoc, append-nil, arith, Result, Ok, Err}
+use Rattle.std.specs.Prelude.{IfOk, IfErr, MatchBool, OnErr}
 use Rattle.std.specs.Option.{option_map}
 use Rattle.std.proofs.lemmas.List.{length-reverse, get_or_default}
 use Rattle.pt_signal.specs.declared.pid.Pid.{Pid}
@@ -17,11 +17,11 @@ use Rattle.pt_shard.specs.ShardState.{ShardState, lives, phase_of}
 use Rattle.pt_shard.specs.Extends.{Extends}
 use Rattle.pt_workers.proofs.Unread.{Oldest, oldest}
 use Rattle.pt_crew.specs.declared.behaviour.Next.{Next}
-use Rattle.pt_crew.specs.declared.behaviour.Next.TheVariants.{Running, Proceed}
+use Rattle.pt_crew.specs.declared.behaviour.Next.TheVariants.{Running}
 use Rattle.pt_crew.specs.declared.births.Role.{Role}
 use Rattle.pt_crew.specs.declared.crew.Crew.{Crew}
 use Rattle.pt_crew.specs.Visiting.{AreSame, AreWith, Roles}
-use Rattle.pt_crew.specs.Crews.{Aboard, Attends, EntersAll, EntersOne, HasRoom, HasTimers, IsSame, KeepsRest, KnowsDesk, left, members, queue, read_events, role, roles, waiting}
+use Rattle.pt_crew.specs.Crews.{Aboard, Attends, EntersAll, HasRoom, HasTimers, IsSame, KeepsRest, KnowsDesk, left, members, queue, read_events, role, roles, waiting}
 use Rattle.pt_crew.specs.Stepping.{BeginsStep, EndsStep, IsAnswered}
 use Rattle.pt_desk.proofs.Turning.{extends}
 use Rattle.pt_crew.proofs.Waking.{by_cases, elsewhere, knows_later, there, same_some, some_none}
@@ -37,7 +37,7 @@ use Rattle.pt_teams.specs.declared.member.Notice.{Notice}
 use Rattle.pt_teams.specs.declared.plan.Plan.{Plan}
 use Rattle.pt_teams.specs.declared.team.Team.{Team}
 use Rattle.pt_teams.specs.Members.{news_of}
-use Rattle.pt_teams.specs.Teaming.{AreUntold, AreSeenSame, AttendsTeam, ExitsNoted, MemberView, NotesLostMember, children_seen, member_view, member_views, new_member}
+use Rattle.pt_teams.specs.Teaming.{AreUntold, AreSeenSame, AttendsTeam, MemberView, NotesLostMember, children_seen, member_view, member_views, new_member}
 use Rattle.pt_teams.specs.Taken.{DropsLeft, NotesMemberExit, SetsBoss, SetsMember, SetsNotes, StaysElse, TakesHeldNotice, TakesMember, TakesNotice, TakesNoticeOf}
 
 -- what is seen of a member ----------------------------------------------------------------------

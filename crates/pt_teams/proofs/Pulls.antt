@@ -1,5 +1,5 @@
 -- What a pull does.
-use Rattle.std.proofs.Common.{◌≡◌, ◌⊎◌, inl, inr, ℕ, ◌+◌, ◌≤◌, Bool, true, false, cond, ◌||◌, List, [], ◌∷◌, ◌++◌, length, Option, Some, None, refl, sym, ap, subst, ◌∙◌, length-append, append-nil, arith}
+use Rattle.std.proofs.Common.{◌≡◌, ◌⊎◌, inl, inr, ℕ, ◌≤◌, Bool, true, false, cond, ◌||◌, List, [], ◌∷◌, ◌++◌, length, Option, Some, None, refl, sym, ap, subst, ◌∙◌, length-append, append-nil, arith}
 use Rattle.std.specs.Option.{option_map}
 use Rattle.std.proofs.Math.Seq.{drop-append_seam}
 use Rattle.pt_signal.specs.declared.pid.Pid.{Pid}
@@ -18,12 +18,12 @@ use Rattle.pt_crew.specs.declared.crew.Crew.{Crew}
 use Rattle.pt_crew.specs.declared.crew.Tended.{Tended}
 use Rattle.pt_crew.specs.declared.crew.Tended.TheVariants.{Idle, Again, Done, Refused, Gone as Ended}
 use Rattle.pt_crew.specs.Births.{bore}
-use Rattle.pt_crew.specs.Visiting.{AreSame, AreWith, BearsChildren, VisitsOne, again_as, is_refused, leaver, leaves_crew, left_as, takes}
+use Rattle.pt_crew.specs.Visiting.{AreSame, BearsChildren, VisitsOne, again_as, is_refused, leaver, leaves_crew, left_as}
 use Rattle.pt_crew.specs.Crews.{Attends, HasRoom, HasTimers, KnowsDesk, left, queue, role, roles, scene, time_of, waiting, was_refused}
 use Rattle.pt_crew.specs.Waking.{in_queue}
 use Rattle.pt_crew.specs.Stepping.{Serves, first_of}
 use Rattle.pt_crew.proofs.Waking.{by_cases, elsewhere, first_in, same_some, some_none, there}
-use Rattle.pt_hands.specs.Pulling.{exit_in, exit_reason}
+use Rattle.pt_hands.specs.Pulling.{exit_in}
 use Rattle.pt_hands.proofs.Pulls.{empty_queue, split}
 use Rattle.pt_supervisor.specs.declared.supervisor.Supervisor.{Supervisor}
 use Rattle.pt_supervisor.specs.Hearing.{standing}
@@ -37,7 +37,7 @@ use Rattle.pt_teams.specs.declared.plan.Plan.{Plan}
 use Rattle.pt_teams.specs.declared.team.Team.{Team}
 use Rattle.pt_teams.specs.Planning.{starts_post}
 use Rattle.pt_teams.specs.Members.{boss_part, member_answers, news_of, notice_of_exit}
-use Rattle.pt_teams.specs.Teaming.{AreUntold, AreSeenSame, AreSeenWith, AttendsTeam, MemberStays, MemberView, RunsBoss, TeamPulls, TeamPullsFirst, TeamUpholds, TellsMember, TellsMemberExit, member_view, member_views}
+use Rattle.pt_teams.specs.Teaming.{AreUntold, AreSeenSame, AreSeenWith, AttendsTeam, MemberView, TeamPulls, TeamPullsFirst, TeamUpholds, member_view, member_views}
 use Rattle.pt_teams.specs.Taken.{DropsLeft, ExitsAllNoted, TakesHeldNotice, TakesNotice, TakesNoticeOf}
 use Rattle.pt_teams.proofs.Begins.{all_fresh}
 use Rattle.pt_teams.proofs.Noting.{attends_dropped, attends_then, fresh_both, fresh_is}

@@ -1,6 +1,6 @@
 -- What the supervisors of a team uphold stays so.
 use Rattle.std.proofs.Common.{◌≡◌, ◌⊎◌, inl, inr, ℕ, Bool, true, false, cond, ◌||◌, List, [], ◌∷◌, ◌++◌, map, slice_get, Option, Some, None, Result, Ok, Err, refl, sym, ap, subst, ◌∙◌}
-use Rattle.std.specs.Prelude.{MatchBool, IfOk, OnErr, ⊤}
+use Rattle.std.specs.Prelude.{MatchBool, IfOk, OnErr}
 use Rattle.std.specs.Option.{option_map}
 use Rattle.std.proofs.lemmas.Option.{slice_get-map}
 use Rattle.pt_signal.specs.declared.pid.Pid.{Pid}
@@ -13,7 +13,7 @@ use Rattle.pt_events.specs.declared.event.Event.TheVariants.{Born}
 use Rattle.pt_events.specs.History.{Past, is_unborn}
 use Rattle.pt_shard.specs.declared.fault.Fault.{Fault}
 use Rattle.pt_shard.specs.declared.fault.Fault.TheVariants.{Full, Memory, Worn, Gone, Myself, NoProc}
-use Rattle.pt_shard.specs.ShardState.{ShardState, lives, phase_of, shard_after}
+use Rattle.pt_shard.specs.ShardState.{ShardState, phase_of, shard_after}
 use Rattle.pt_shard.specs.Calls.{BearsChild, birth_link}
 use Rattle.pt_desk.specs.DeskState.{DeskState}
 use Rattle.pt_desk.specs.Turns.{Turns}
@@ -22,12 +22,12 @@ use Rattle.pt_crew.specs.declared.behaviour.Next.{Next}
 use Rattle.pt_crew.specs.declared.behaviour.Next.TheVariants.{Running, Proceed}
 use Rattle.pt_crew.specs.declared.births.Role.{Role}
 use Rattle.pt_crew.specs.declared.crew.Crew.{Crew}
-use Rattle.pt_crew.specs.Visiting.{AreSame, AreWith, Roles, VisitsOne}
+use Rattle.pt_crew.specs.Visiting.{AreSame, AreWith, Roles}
 use Rattle.pt_crew.specs.Crews.{Enters, IsSame, left, queue, role, roles, scene, waiting}
 use Rattle.pt_crew.specs.Stepping.{EndsStep, EntersChild, IsAnswered, Serves}
 use Rattle.pt_crew.specs.Upholding.{AllFirst, AllStand, IsLater, IsLeftAlone, IsUpheld, Upholds}
-use Rattle.pt_crew.proofs.Upholding.{alone_event, alone_is, alone_same, alone_then, born_then, enter_upholds, first_back, first_front, later_after, later_is, later_same, later_then, same_pid_sym, turn_upholds}
-use Rattle.pt_crew.proofs.Waking.{by_cases, elsewhere, same_some, some_none, there}
+use Rattle.pt_crew.proofs.Upholding.{alone_event, alone_same, alone_then, born_then, enter_upholds, first_back, first_front, later_after, later_same, later_then, same_pid_sym, turn_upholds}
+use Rattle.pt_crew.proofs.Waking.{by_cases, elsewhere, same_some, there}
 use Rattle.pt_events.specs.declared.event.Stamped.{Stamped}
 use Rattle.pt_hands.specs.Pulling.{exit_in}
 use Rattle.pt_supervisor.specs.declared.children.Child.{Child}
@@ -37,15 +37,14 @@ use Rattle.pt_supervisor.specs.Hearing.{Standing, standing}
 use Rattle.pt_supervisor.specs.Keeping.{HoldsAs, Keeps, SupervisorBegins}
 use Rattle.pt_supervisor.proofs.Tending.{begins, upheld}
 use Rattle.pt_teams.specs.declared.member.Member.{Member}
-use Rattle.pt_teams.specs.declared.member.Notes.{Notes}
 use Rattle.pt_teams.specs.declared.member.Notice.{Notice}
 use Rattle.pt_teams.specs.declared.plan.ChildSpec.{ChildSpec}
 use Rattle.pt_teams.specs.declared.plan.Plan.{Plan}
 use Rattle.pt_teams.specs.declared.plan.SupervisorSpec.{SupervisorSpec}
 use Rattle.pt_teams.specs.declared.team.Team.{Team}
-use Rattle.pt_teams.specs.Planning.{begun_as, child_as}
+use Rattle.pt_teams.specs.Planning.{child_as}
 use Rattle.pt_teams.specs.Members.{boss_part, member_answers}
-use Rattle.pt_teams.specs.Teaming.{AreLeftAlone, AreSeenSame, AttendsTeam, BecomesBoss, IsNewBoss, IsNoBoss, MemberView, NotesLostMember, TeamUpholds, member_view, member_views, new_member}
+use Rattle.pt_teams.specs.Teaming.{AreLeftAlone, AreSeenSame, AttendsTeam, BecomesBoss, IsNewBoss, IsNoBoss, MemberView, NotesLostMember, TeamUpholds, member_view, member_views}
 use Rattle.pt_teams.specs.Taken.{DropsLeft, ExitsAllNoted, KeepsMemberExits, member_role_kept, TakesHeldNotice, TakesNotice, TakesNoticeOf}
 use Rattle.pt_teams.proofs.Noting.{attends_dropped}
 use Rattle.pt_teams.proofs.Served.{AreGone, all_enter, one_upholds}

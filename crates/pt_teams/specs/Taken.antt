@@ -1,5 +1,5 @@
 -- What the parts of a pull do. No public clause cites this module.
-use Rattle.std.specs.Prelude.{◌≡◌, ◌+◌, ◌≤◌, ℕ, true, false, List, [], length, slice_set, Option, Some, None}
+use Rattle.std.specs.Prelude.{◌≡◌, ◌+◌, ◌≤◌, ℕ, true, List, [], length, slice_set, Option, Some, None}
 use Rattle.std.specs.Option.{option_map}
 use Rattle.pt_signal.specs.declared.pid.Pid.{Pid}
 use Rattle.pt_signal.specs.declared.item.Item.{Item}
@@ -9,7 +9,7 @@ use Rattle.pt_events.specs.declared.event.Stamped.{Stamped}
 use Rattle.pt_shard.specs.ShardState.{ShardState}
 use Rattle.pt_crew.specs.declared.behaviour.Next.{Next}
 use Rattle.pt_crew.specs.Visiting.{AreSame, AreWith}
-use Rattle.pt_crew.specs.Crews.{Attends, IsSame, KeepsRest, left, queue, read_events, roles, time_of, waiting, was_refused}
+use Rattle.pt_crew.specs.Crews.{Attends, KeepsRest, left, queue, roles, time_of, waiting, was_refused}
 use Rattle.pt_hands.specs.Pulling.{exit_by, exit_in}
 use Rattle.pt_supervisor.specs.declared.supervisor.Supervisor.{Supervisor}
 use Rattle.pt_teams.specs.declared.member.Member.{Member}

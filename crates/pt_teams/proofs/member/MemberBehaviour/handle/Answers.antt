@@ -1,10 +1,9 @@
 -- `MemberBehaviour::handle`: its clause `answers`.
-use Rattle.std.proofs.Common.{◌≡◌, List, ◌++◌, Option, Some, None, refl, sym, subst}
+use Rattle.std.proofs.Common.{List, Option, Some, refl, sym, subst}
 use Rattle.std.specs.Option.{option_map}
 use Rattle.pt_crew.specs.declared.behaviour.Next.TheVariants.{Running}
 use Rattle.pt_crew.specs.declared.births.Role.{Role}
 use Rattle.pt_crew.specs.Births.{bore, born, time_told}
-use Rattle.pt_crew.specs.Upholding.{ActsFor}
 use Rattle.pt_crew.proofs.Upholding.{acts_is}
 use Rattle.pt_supervisor.specs.declared.supervisor.Supervisor.{Supervisor}
 use Rattle.pt_supervisor.specs.Hearing.{Standing, program_of, standing}

@@ -1,5 +1,5 @@
 -- `Team::drop_left`: its contract, and its loop over `place`.
-use Rattle.std.proofs.Common.{◌≡◌, ◌++◌, ◌+◌, ◌<◌, ◌∷◌, [], List, length, Option, Some, None, refl, sym, ap, ◌∙◌, length-append, arith}
+use Rattle.std.proofs.Common.{◌≡◌, ◌++◌, ◌+◌, ◌<◌, ◌∷◌, [], List, length, Option, Some, None, refl, ap, ◌∙◌, length-append, arith}
 use Rattle.std.specs.Prelude.{option_to_list}
 use Rattle.pt_crew.specs.declared.births.Role.{Role}
 use Rattle.pt_teams.specs.declared.member.Member.{Member}

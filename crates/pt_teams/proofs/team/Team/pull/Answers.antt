@@ -1,7 +1,7 @@
 -- `Team::pull`: its clauses `does`, `attends` and `upholds`.
 use Rattle.std.proofs.Common.{Some, refl, sym, subst}
 use Rattle.pt_teams.specs.Teaming.{TeamPulls}
-use Rattle.pt_teams.proofs.Pulls.{attends_exit, attends_notice, left_both, pulls_exit, pulls_none, pulls_notice, visited}
+use Rattle.pt_teams.proofs.Pulls.{attends_exit, attends_notice, pulls_exit, pulls_none, pulls_notice, visited}
 use Rattle.pt_teams.proofs.Upheld.{pulled_upholds, taken_upholds}
 use Rattle.pt_teams.proofs.team.Team.pull.Goals as goal
 

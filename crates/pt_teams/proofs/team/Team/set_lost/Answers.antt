@@ -1,5 +1,5 @@
 -- `Team::set_lost`: its contract.
-use Rattle.std.proofs.Common.{refl, ap, Some}
+use Rattle.std.proofs.Common.{ap, Some}
 use Rattle.pt_crew.specs.Crews.{roles}
 use Rattle.pt_teams.specs.declared.member.Notes.{Notes}
 use Rattle.pt_teams.proofs.Noting.{HasLostMember, lost_set, no_role, none_lost}

@@ -1,6 +1,5 @@
 -- `Team::spawn`: its clauses `attends` and `upholds`.
-use Rattle.std.proofs.Common.{◌≡◌, None, Some, ap, refl, subst, sym}
-use Rattle.pt_crew.specs.Crews.{Enters}
+use Rattle.std.proofs.Common.{None, ap, refl, subst, sym}
 use Rattle.pt_hands.proofs.Noting.{no_exit_born}
 use Rattle.pt_teams.specs.declared.member.Member.{Member}
 use Rattle.pt_teams.specs.Members.{boss_part}

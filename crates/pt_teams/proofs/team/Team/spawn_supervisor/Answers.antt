@@ -1,6 +1,5 @@
 -- `Team::spawn_supervisor`: its clauses `does`, `attends` and `upholds`.
-use Rattle.std.proofs.Common.{◌≡◌, None, Some, Ok, Err, ap, refl, subst, sym}
-use Rattle.std.specs.Prelude.{Result}
+use Rattle.std.proofs.Common.{None, Ok, Err, ap, refl, subst, sym}
 use Rattle.pt_crew.specs.declared.behaviour.Next.TheVariants.{Proceed}
 use Rattle.pt_hands.proofs.Noting.{no_exit_born}
 use Rattle.pt_supervisor.specs.Keeping.{SupervisorBegins}

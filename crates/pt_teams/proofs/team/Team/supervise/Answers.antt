@@ -1,10 +1,4 @@
 -- `Team::supervise`: its clauses `becomes`, `attends` and `upholds`.
-use Rattle.std.proofs.Common.{◌≡◌, true, refl, sym, subst}
-use Rattle.std.specs.Prelude.{MatchBool}
-use Rattle.pt_crew.specs.declared.behaviour.Next.TheVariants.{Proceed}
-use Rattle.pt_crew.specs.Crews.{IsSame}
-use Rattle.pt_crew.specs.Stepping.{IsAnswered}
-use Rattle.pt_teams.specs.Teaming.{BecomesBoss, IsNewBoss}
 use Rattle.pt_teams.proofs.Becoming.{attends_became, becomes, was_answered}
 use Rattle.pt_teams.proofs.Upheld.{boss_upholds}
 use Rattle.pt_teams.proofs.team.Team.supervise.Goals as goal

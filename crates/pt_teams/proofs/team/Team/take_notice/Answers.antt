@@ -1,5 +1,5 @@
 -- `Team::take_notice`: its contract.
-use Rattle.std.proofs.Common.{◌≡◌, true, None, refl, sym, ap, ◌∙◌}
+use Rattle.std.proofs.Common.{true, None, sym, ap}
 use Rattle.pt_teams.specs.declared.member.Notes.{Notes}
 use Rattle.pt_teams.proofs.Noting.{notice_taken, none_held, none_seen}
 use Rattle.pt_teams.proofs.team.Team.take_notice.Goals as goal

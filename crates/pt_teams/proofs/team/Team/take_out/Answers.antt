@@ -1,5 +1,4 @@
 -- `Team::take_out`: its clause `takes`.
-use Rattle.std.proofs.Common.{refl}
 use Rattle.pt_teams.proofs.Noting.{member_taken, none_out}
 use Rattle.pt_teams.proofs.team.Team.take_out.Goals as goal
 
