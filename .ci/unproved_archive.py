@@ -65,8 +65,8 @@ def argument(kind: str) -> str:
     if kind == "Global":
         return "rt.alloc()"
     if row := ROW.fullmatch(kind):
-        module = {"DeskHandle": "desk_handle", "CrewHandle": "crew_handle"}.get(row[2], "types")
-        item = row[2] if row[2] in PLAIN else f"pt_table::{module}::{row[2]}"
+        handle = {"DeskHandle": "pt_table::desk_handle", "CrewHandle": "pt_table::crew_handle"}.get(row[2])
+        item = row[2] if row[2] in PLAIN else f"{handle or 'pt_structs::types'}::{row[2]}"
         return f"{row[1]}any::<[{item}; 1]>(&rt)"
     return "&mut any(&rt)" if kind.startswith("&mut ") else "any(&rt)"
 

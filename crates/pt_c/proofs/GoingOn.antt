@@ -7,7 +7,7 @@ use Rattle.pt_desk.specs.DeskState.{DeskState}
 use Rattle.pt_gathered.specs.Gathered.{GatheredState}
 use Rattle.pt_gathered.specs.Quiet.{QuietState}
 use Rattle.pt_hands.specs.declared.hands.Hands.{Hands}
-use Rattle.pt_table.specs.Codes.{empty, filled, open_code, wrong_desk}
+use Rattle.pt_structs.specs.Codes.{empty, filled, open_code, wrong_desk}
 use Rattle.pt_table.specs.Answers.{HandlePlace, HistoryState, value_behind, values}
 use Rattle.pt_table.specs.Owning.{are_own}
 use Rattle.pt_c.specs.Nodes.{GathersAs, HandleTells, IfEmpty, IfNone, IsQuietHistoryOf, ResumesAs, SettlesAs}

@@ -8,7 +8,7 @@ use Rattle.pt_desk.specs.DeskState.{DeskState}
 use Rattle.pt_gathered.specs.Gathered.{GatheredState}
 use Rattle.pt_gathered.specs.Quiet.{QuietState}
 use Rattle.pt_table.specs.Answers.{HandlePlace, value_behind, values, had, full}
-use Rattle.pt_table.specs.Codes.{empty, filled, open_code}
+use Rattle.pt_structs.specs.Codes.{empty, filled, open_code}
 use Rattle.pt_table.specs.InOrder.{are_in_order}
 use Rattle.pt_c.specs.Nodes.{AreAllFull, IfEmpty, GathersAs, GathersWhole, Joins, SettlesAs, IsSettledOf, NotSettled, ListsAs, ListsOne, in_order}
 use Rattle.pt_table.proofs.InRow.{first_value}

@@ -1,23 +1,23 @@
 -- What the library says of itself: its codes, the sizes of what crosses, and a sample of each struct, whose fields have
 -- the numbers 1, 2, 3 and so on in order, a bool being true.
 use Rattle.std.specs.Prelude.{ℕ, ◌+◌, true, pos}
-use Rattle.pt_table.specs.declared.types.PtPid.{PtPid}
-use Rattle.pt_table.specs.declared.types.PtRef.{PtRef}
-use Rattle.pt_table.specs.declared.types.PtReason.{PtReason}
-use Rattle.pt_table.specs.declared.types.PtIds.{PtIds}
-use Rattle.pt_table.specs.declared.types.PtBody.{PtBody}
-use Rattle.pt_table.specs.declared.types.PtPick.{PtPick}
-use Rattle.pt_table.specs.declared.types.PtItem.{PtItem}
-use Rattle.pt_table.specs.declared.types.PtSignal.{PtSignal}
-use Rattle.pt_table.specs.declared.types.PtEvent.{PtEvent}
-use Rattle.pt_table.specs.declared.types.PtLeftOver.{PtLeftOver}
-use Rattle.pt_table.specs.declared.types.PtTurned.{PtTurned}
-use Rattle.pt_table.specs.declared.types.PtAccount.{PtAccount}
-use Rattle.pt_table.specs.declared.types.PtLoss.{PtLoss}
-use Rattle.pt_table.specs.declared.types.PtConfig.{PtConfig}
-use Rattle.pt_table.specs.declared.types.PtNext.{PtNext}
-use Rattle.pt_table.specs.declared.types.PtJob.{PtJob}
-use Rattle.pt_table.specs.declared.types.PtAnswer.{PtAnswer}
+use Rattle.pt_structs.specs.declared.types.PtPid.{PtPid}
+use Rattle.pt_structs.specs.declared.types.PtRef.{PtRef}
+use Rattle.pt_structs.specs.declared.types.PtReason.{PtReason}
+use Rattle.pt_structs.specs.declared.types.PtIds.{PtIds}
+use Rattle.pt_structs.specs.declared.types.PtBody.{PtBody}
+use Rattle.pt_structs.specs.declared.types.PtPick.{PtPick}
+use Rattle.pt_structs.specs.declared.types.PtItem.{PtItem}
+use Rattle.pt_structs.specs.declared.types.PtSignal.{PtSignal}
+use Rattle.pt_structs.specs.declared.types.PtEvent.{PtEvent}
+use Rattle.pt_structs.specs.declared.types.PtLeftOver.{PtLeftOver}
+use Rattle.pt_structs.specs.declared.types.PtTurned.{PtTurned}
+use Rattle.pt_structs.specs.declared.types.PtAccount.{PtAccount}
+use Rattle.pt_structs.specs.declared.types.PtLoss.{PtLoss}
+use Rattle.pt_structs.specs.declared.types.PtConfig.{PtConfig}
+use Rattle.pt_structs.specs.declared.types.PtNext.{PtNext}
+use Rattle.pt_structs.specs.declared.types.PtJob.{PtJob}
+use Rattle.pt_structs.specs.declared.types.PtAnswer.{PtAnswer}
 use Rattle.pt_tools.specs.declared.types.PtTimer.{PtTimer}
 use Rattle.pt_tools.specs.declared.types.PtFired.{PtFired}
 use Rattle.pt_c.specs.declared.naming.PtHolder.{PtHolder}

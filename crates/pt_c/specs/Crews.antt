@@ -7,9 +7,9 @@ use Rattle.pt_crew.specs.Visiting.{AreSame}
 use Rattle.pt_hands.specs.declared.hands.Hands.{Hands}
 use Rattle.pt_hands.specs.Owning.{desk_of}
 use Rattle.pt_hands.specs.Pulling.{AttendsHands, crew_of}
-use Rattle.pt_table.specs.declared.types.PtAnswer.{PtAnswer}
+use Rattle.pt_structs.specs.declared.types.PtAnswer.{PtAnswer}
 use Rattle.pt_table.specs.Answers.{HandlePlace, full}
-use Rattle.pt_table.specs.Codes.{filled}
+use Rattle.pt_structs.specs.Codes.{filled}
 use Rattle.pt_table.specs.Crewing.{TakesAnswers}
 use Rattle.pt_c.specs.Nodes.{IfEmpty}
 

@@ -10,7 +10,7 @@ use Rattle.pt_names.specs.Letters.{is_name_text, padded}
 use Rattle.pt_names.specs.State.{NamesState}
 use Rattle.pt_names.specs.Calls.{Checks, Forgets, Registers, Unregisters}
 use Rattle.pt_table.specs.Answers.{ShowsCode}
-use Rattle.pt_table.specs.Crossing.{pid_out, ref_out}
+use Rattle.pt_structs.specs.Crossing.{pid_out, ref_out}
 use Rattle.pt_c.specs.declared.naming.PtHolder.{PtHolder}
 use Rattle.pt_c.specs.declared.naming.PtName.{PtName}
 

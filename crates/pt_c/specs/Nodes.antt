@@ -22,9 +22,9 @@ use Rattle.pt_workers.specs.Desks.{desk_kept}
 use Rattle.pt_node.specs.Opening.{AreFresh}
 use Rattle.pt_node.specs.Gathering.{Gathers, HasJournalsOf, ReadsAreTrue}
 use Rattle.pt_node.specs.Resuming.{Resumes}
-use Rattle.pt_table.specs.declared.types.PtConfig.{PtConfig}
-use Rattle.pt_table.specs.Codes.{open_code, stop_code, empty, filled}
-use Rattle.pt_table.specs.Crossing.{config_in}
+use Rattle.pt_structs.specs.declared.types.PtConfig.{PtConfig}
+use Rattle.pt_structs.specs.Codes.{open_code, stop_code, empty, filled}
+use Rattle.pt_structs.specs.Crossing.{config_in}
 use Rattle.pt_table.specs.Answers.{HandlePlace, value_behind, values, full, HistoryState}
 use Rattle.pt_table.specs.InOrder.{are_in_order}
 

@@ -5,7 +5,7 @@ use Rattle.pt_timers.specs.Calls.{IsNone as NoTimers}
 use Rattle.pt_names.specs.State.{NamesState}
 use Rattle.pt_names.specs.Calls.{IsNone as NoNames}
 use Rattle.pt_table.specs.Answers.{HandlePlace, full}
-use Rattle.pt_table.specs.Codes.{filled}
+use Rattle.pt_structs.specs.Codes.{filled}
 use Rattle.pt_c.specs.Nodes.{IfEmpty}
 
 -- the handle has no timers yet, and gets some of which none is pending; or there was no memory, or it had some already,

@@ -14,12 +14,12 @@ use pt_node::{
     Body, Event, Fault, Ids, Item, LinkId, OpenError, Pick, Pid, Reason, Ref, Setting, Signal,
     Stamped,
 };
-use pt_table::codes::{
+use pt_structs::codes::{
     BAD_CODE, DONE, EMPTY, FILLED, NOT_RUNNING, NOTHING, UNKNOWN, WRONG_DESK, code_of, open_code,
 };
-use pt_table::crossing::{event_out, item_out, pick_out, reason_out, signal_out};
-use pt_table::crossing_jobs::{job_out, next_out};
-use pt_table::types::{
+use pt_structs::crossing::{event_out, item_out, pick_out, reason_out, signal_out};
+use pt_structs::crossing_jobs::{job_out, next_out};
+use pt_structs::types::{
     PtAccount, PtAnswer, PtBody, PtConfig, PtEvent, PtIds, PtItem, PtJob, PtLeftOver, PtLoss,
     PtNext, PtPick, PtPid, PtReason, PtRef, PtSignal, PtTurned,
 };

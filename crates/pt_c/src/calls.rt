@@ -7,16 +7,16 @@
 ghost use Rattle.std.specs.Prelude.{◌≡◌};
 ghost use Rattle.pt_table.specs.Answers.{CallsThrough, SpawnsOnDesk, SpawnsChild, SendsOnDesk, SendsExit, Links, Unlinks, WatchesOnDesk, UnwatchesOnDesk};
 ghost use Rattle.pt_table.specs.Answers.{AsksOnDesk, Traps, TakesOnDesk, Exits, TurnsOnce};
-ghost use Rattle.pt_table.specs.Crossing.{pid_crossed, ref_in, body_in};
+ghost use Rattle.pt_structs.specs.Crossing.{pid_crossed, ref_in, body_in};
 
-use pt_table::codes::{DONE, EMPTY};
-use pt_table::crossing::{body_in, pid_in, ref_in};
+use pt_structs::codes::{DONE, EMPTY};
+use pt_structs::crossing::{body_in, pid_in, ref_in};
 use pt_table::desk_handle::{DeskHandle, claim, hold};
 use pt_table::doing::{
     ask_alive, demonitor, exit, exit_signal, link, monitor, receive, send, spawn, spawn_child,
     trap, turn, unlink,
 };
-use pt_table::types::{PtBody, PtItem, PtPick, PtPid, PtReason, PtRef, PtTurned};
+use pt_structs::types::{PtBody, PtItem, PtPick, PtPid, PtReason, PtRef, PtTurned};
 use std::alloc::Global;
 
 /// Spawns a process without a parent, as `Desk::spawn` does. It writes the pid to `out` if it returns 0.

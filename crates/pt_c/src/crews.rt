@@ -9,22 +9,22 @@ ghost use Rattle.pt_crew.specs.Crews.{crew_size, queue, was_refused};
 ghost use Rattle.pt_hands.specs.Pulling.{crew_of, hand_views};
 ghost use Rattle.pt_table.specs.Answers.{CallsThrough, ReadsThrough, ShowsCode, full, value_behind};
 ghost use Rattle.pt_table.specs.Crewing.{CrewBeginsAgain, CrewSteps, CrewTells, NotesIfOwn, SpawnsChildInCrew, SpawnsInCrew, TellsTime};
-ghost use Rattle.pt_table.specs.Crossing.{pid_crossed};
-ghost use Rattle.pt_table.specs.Jobs.{next_out};
+ghost use Rattle.pt_structs.specs.Crossing.{pid_crossed};
+ghost use Rattle.pt_structs.specs.Jobs.{next_out};
 ghost use Rattle.pt_table.specs.Owning.{IfOwn, is_own};
 ghost use Rattle.pt_c.specs.Crews.{AnswersInOrder, OpensCrew, SetsCrewTime};
 ghost use Rattle.pt_c.specs.Nodes.{GivesUp};
 
 use crate::node::end_code;
 use pt_hands::Hands;
-use pt_table::codes::{DONE, EMPTY, FILLED, MEMORY};
+use pt_structs::codes::{DONE, EMPTY, FILLED, MEMORY};
 use pt_table::crew_handle::{CrewHandle, claim, filled, hold, is_full, spare};
 use pt_table::crewing::{
     answer_all, begin_again, is_idle, next, next_time, note_loss, spawn, spawn_child, step, tag,
 };
-use pt_table::crossing::pid_in;
+use pt_structs::crossing::pid_in;
 use pt_table::desk_handle::{DeskHandle, claim as claim_desk, hold as hold_desk};
-use pt_table::types::{PtAnswer, PtJob, PtNext, PtPid, PtTurned};
+use pt_structs::types::{PtAnswer, PtJob, PtNext, PtPid, PtTurned};
 use std::alloc::Global;
 
 /// Begins a crew, with no process and at the time 0. It is that of the desk on which it spawns its first process or makes

@@ -3,14 +3,14 @@
 ghost use Rattle.std.specs.Prelude.{◌≡◌, map};
 ghost use Rattle.pt_workers.specs.Desks.{AreDesks};
 ghost use Rattle.pt_table.specs.Answers.{values};
-ghost use Rattle.pt_table.specs.Codes.{filled};
+ghost use Rattle.pt_structs.specs.Codes.{filled};
 ghost use Rattle.pt_c.specs.Nodes.{IfNone, IsWholeNode};
 ghost use Rattle.pt_c.specs.GoingOn.{GathersFirst, GoOnWith, NodeGoesOn, ResumesWithCrews, SettlesFirst};
 
 use crate::node::{pt_gather, pt_history_give_up};
 use crate::settled::{pt_resume_settled, pt_settle_unlisted, pt_settled_history};
 use pt_node::{OpenError, Setting};
-use pt_table::codes::{DONE, EMPTY, FILLED, WRONG_DESK, open_code};
+use pt_structs::codes::{DONE, EMPTY, FILLED, WRONG_DESK, open_code};
 use pt_table::crew_handle::CrewHandle;
 use pt_table::desk_handle::DeskHandle;
 use pt_table::gathered_handle::{GatheredHandle, is_full as has_gathered};

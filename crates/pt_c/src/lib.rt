@@ -5,7 +5,7 @@
 //! that has its name, and puts the value back. By its contract, its code and what it writes are that call's answer, and
 //! if it fails, all is as it was. An empty handle is a code, too.
 //!
-//! Values with an enum or an option in Rattle cross as plain structs with a code (`pt_table::types`). `about` reports
+//! Values with an enum or an option in Rattle cross as plain structs with a code (`pt_structs::types`). `about` reports
 //! codes, sizes and fields, to be compared with a header. `pt_table` has what is not exported, and `pt_tools` that of
 //! timers.
 //!

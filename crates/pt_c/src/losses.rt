@@ -5,13 +5,13 @@
 
 ghost use Rattle.std.specs.Prelude.{◌≡◌};
 ghost use Rattle.pt_table.specs.Answers.{CallsThrough, ReadsThrough, ShowsCode};
-ghost use Rattle.pt_table.specs.Crossing.{item_out};
+ghost use Rattle.pt_structs.specs.Crossing.{item_out};
 ghost use Rattle.pt_table.specs.Losing.{KeepsLosses, PassesLoss, item_lost, loss_numbered, loss_out};
 
-use pt_table::codes::EMPTY;
+use pt_structs::codes::EMPTY;
 use pt_table::desk_handle::{DeskHandle, claim, hold};
 use pt_table::losing::{keep_losses, loss_at, loss_item, next_loss};
-use pt_table::types::{PtItem, PtLoss};
+use pt_structs::types::{PtItem, PtLoss};
 use std::alloc::Global;
 
 /// Sets whether what the desk loses from now on is kept until it is told, as `Desk::keep_losses` does.

@@ -6,7 +6,7 @@
 ghost use Rattle.std.specs.Prelude.{◌≡◌, length};
 ghost use Rattle.pt_names.specs.State.{name_at, pid_of};
 ghost use Rattle.pt_table.specs.Answers.{CallsThrough, ReadsThrough, ShowsCode};
-ghost use Rattle.pt_table.specs.Crossing.{pid_crossed, pid_out, ref_in};
+ghost use Rattle.pt_structs.specs.Crossing.{pid_crossed, pid_out, ref_in};
 ghost use Rattle.pt_c.specs.Naming.{ChecksName, ForgetsHolder, IfIsName, RegistersName, UnregistersName};
 ghost use Rattle.pt_c.specs.Naming.{name_crossed, name_out};
 ghost use Rattle.pt_c.specs.Nodes.{GivesUp};
@@ -15,9 +15,9 @@ ghost use Rattle.pt_c.specs.Tools.{OpensNames};
 use crate::naming::{PtHolder, PtName, check, forget, name_of, register, unregister, whereis};
 use crate::node::end_code;
 use pt_names::Names;
-use pt_table::codes::{DONE, EMPTY, FILLED, MEMORY};
-use pt_table::crossing::{pid_in, ref_in};
-use pt_table::types::{PtPid, PtRef};
+use pt_structs::codes::{DONE, EMPTY, FILLED, MEMORY};
+use pt_structs::crossing::{pid_in, ref_in};
+use pt_structs::types::{PtPid, PtRef};
 use pt_tools::names_handle::{NamesHandle, claim, filled, hold, is_full, spare};
 use std::alloc::Global;
 

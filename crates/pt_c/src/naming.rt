@@ -6,15 +6,15 @@
 ghost use Rattle.std.specs.Prelude.{◌≡◌};
 ghost use Rattle.pt_names.specs.State.{name_at, pid_of};
 ghost use Rattle.pt_table.specs.Answers.{ShowsCode};
-ghost use Rattle.pt_table.specs.Crossing.{pid_out};
+ghost use Rattle.pt_structs.specs.Crossing.{pid_out};
 ghost use Rattle.pt_c.specs.Naming.{ChecksName, ForgetsHolder, IfIsName, RegistersName, UnregistersName};
 ghost use Rattle.pt_c.specs.Naming.{holder_out, name_crossed, name_out, register_code};
 
 use pt_names::{Holder, Name, Names, RegisterError};
 use pt_signal::{Pid, Ref};
-use pt_table::codes::{DONE, MEMORY, NOTHING};
-use pt_table::crossing::{pid_out, ref_out};
-use pt_table::types::{PtPid, PtRef};
+use pt_structs::codes::{DONE, MEMORY, NOTHING};
+use pt_structs::crossing::{pid_out, ref_out};
+use pt_structs::types::{PtPid, PtRef};
 
 /// The bytes are no name.
 pub(crate) const BAD_NAME: u32 = 19;

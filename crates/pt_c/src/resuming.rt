@@ -6,7 +6,7 @@ ghost use Rattle.pt_table.specs.Answers.{value_behind};
 ghost use Rattle.pt_c.specs.Nodes.{ResumesAs};
 
 use pt_node::{OpenError, Setting, resume};
-use pt_table::codes::{DONE, EMPTY, FILLED, MEMORY, open_code};
+use pt_structs::codes::{DONE, EMPTY, FILLED, MEMORY, open_code};
 use pt_table::desk_handle::DeskHandle;
 use pt_table::quiet_handle::{QuietHandle, claim, filled, hold, take_out};
 use pt_table::rows::{count_full, fill_all, spare_places};

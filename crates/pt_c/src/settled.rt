@@ -7,7 +7,7 @@ ghost use Rattle.pt_c.specs.Nodes.{SettlesAs, ListsAs, ResumesAs, GivesUp, Handl
 
 use crate::node::end_code;
 use pt_node::{OpenError, Setting, Settled, resume_settled};
-use pt_table::codes::{DONE, EMPTY, FILLED, MEMORY, open_code, stop_code};
+use pt_structs::codes::{DONE, EMPTY, FILLED, MEMORY, open_code, stop_code};
 use pt_table::desk_handle::DeskHandle;
 use pt_table::gathered_handle::{
     GatheredHandle, filled as filled_gathered, is_full as has_gathered, take_out as take_gathered,

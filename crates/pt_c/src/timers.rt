@@ -11,7 +11,7 @@ ghost use Rattle.pt_c.specs.Nodes.{GivesUp};
 ghost use Rattle.pt_c.specs.Tools.{OpensTimers};
 
 use crate::node::end_code;
-use pt_table::codes::{DONE, EMPTY, FILLED, MEMORY};
+use pt_structs::codes::{DONE, EMPTY, FILLED, MEMORY};
 use pt_timers::Timers;
 use pt_tools::timers_handle::{TimersHandle, claim, filled, hold, is_full, spare};
 use pt_tools::timing::{cancel, get, next, peek_due, pop_due, start};

@@ -11,10 +11,10 @@ use Rattle.pt_hands.specs.declared.hand.What.TheVariants.{Start}
 use Rattle.pt_hands.specs.declared.hands.Hands.{Hands}
 use Rattle.pt_hands.specs.Pulling.{AttendsHands, Pulls, crew_of}
 use Rattle.pt_hands.proofs.Filling.{FilledSo, all_filled, fills_into, none_filled}
-use Rattle.pt_table.specs.declared.types.PtAnswer.{PtAnswer}
-use Rattle.pt_table.specs.declared.types.PtJob.{PtJob}
-use Rattle.pt_table.specs.Crossing.{no_pid}
-use Rattle.pt_table.specs.Jobs.{job_out, no_next}
+use Rattle.pt_structs.specs.declared.types.PtAnswer.{PtAnswer}
+use Rattle.pt_structs.specs.declared.types.PtJob.{PtJob}
+use Rattle.pt_structs.specs.Crossing.{no_pid}
+use Rattle.pt_structs.specs.Jobs.{job_out, no_next}
 use Rattle.pt_table.specs.Crewing.{AnswersAll, AnswersOne, HandsOutRow, PullsRow, TakesAnswers}
 
 -- a row of jobs --------------------------------------------------------------------------

@@ -20,14 +20,14 @@ use Rattle.pt_desk.specs.declared.turned.Turned.{Turned}
 use Rattle.pt_desk.specs.DeskState.{DeskState, HasSameEnds, GoesOn}
 use Rattle.pt_desk.specs.Reaching.{Reaches, has_link_to_make, has_monitor_to_make}
 use Rattle.pt_desk.specs.Turns.{Turns}
-use Rattle.pt_table.specs.declared.types.PtPid.{PtPid}
-use Rattle.pt_table.specs.declared.types.PtRef.{PtRef}
-use Rattle.pt_table.specs.declared.types.PtItem.{PtItem}
-use Rattle.pt_table.specs.declared.types.PtTurned.{PtTurned}
-use Rattle.pt_table.specs.declared.types.PtPick.{PtPick}
-use Rattle.pt_table.specs.declared.types.PtReason.{PtReason}
-use Rattle.pt_table.specs.Codes.{code_at, found_code, stop_code, unknown, bad_code}
-use Rattle.pt_table.specs.Crossing.{pid_out, ref_out, item_out, pick_in, reason_in}
+use Rattle.pt_structs.specs.declared.types.PtPid.{PtPid}
+use Rattle.pt_structs.specs.declared.types.PtRef.{PtRef}
+use Rattle.pt_structs.specs.declared.types.PtItem.{PtItem}
+use Rattle.pt_structs.specs.declared.types.PtTurned.{PtTurned}
+use Rattle.pt_structs.specs.declared.types.PtPick.{PtPick}
+use Rattle.pt_structs.specs.declared.types.PtReason.{PtReason}
+use Rattle.pt_structs.specs.Codes.{code_at, found_code, stop_code, unknown, bad_code}
+use Rattle.pt_structs.specs.Crossing.{pid_out, ref_out, item_out, pick_in, reason_in}
 
 -- what is passed out ---------------------------------------------------------------------
 

@@ -17,14 +17,14 @@ use Rattle.pt_hands.specs.declared.hand.Job.{Job}
 use Rattle.pt_hands.specs.declared.hands.Hands.{Hands}
 use Rattle.pt_hands.specs.Owning.{desk_after, desk_of}
 use Rattle.pt_hands.specs.Pulling.{AreAllQueued, AttendsHands, Fills, NoneNoted, NotesLoss, Pulls, crew_of, new_hand}
-use Rattle.pt_table.specs.declared.types.PtAnswer.{PtAnswer}
-use Rattle.pt_table.specs.declared.types.PtJob.{PtJob}
-use Rattle.pt_table.specs.declared.types.PtNext.{PtNext}
-use Rattle.pt_table.specs.declared.types.PtPid.{PtPid}
-use Rattle.pt_table.specs.declared.types.PtTurned.{PtTurned}
-use Rattle.pt_table.specs.Codes.{not_running, some_code}
-use Rattle.pt_table.specs.Crossing.{pid_crossed, pid_out}
-use Rattle.pt_table.specs.Jobs.{job_out, next_in}
+use Rattle.pt_structs.specs.declared.types.PtAnswer.{PtAnswer}
+use Rattle.pt_structs.specs.declared.types.PtJob.{PtJob}
+use Rattle.pt_structs.specs.declared.types.PtNext.{PtNext}
+use Rattle.pt_structs.specs.declared.types.PtPid.{PtPid}
+use Rattle.pt_structs.specs.declared.types.PtTurned.{PtTurned}
+use Rattle.pt_structs.specs.Codes.{not_running, some_code}
+use Rattle.pt_structs.specs.Crossing.{pid_crossed, pid_out}
+use Rattle.pt_structs.specs.Jobs.{job_out, next_in}
 use Rattle.pt_table.specs.Losing.{loss_numbered}
 use Rattle.pt_table.specs.Answers.{GivesCode, IfCrosses, ShowsCode, turned_out}
 use Rattle.pt_table.specs.Owning.{IfOwn, is_own}

@@ -1,8 +1,5 @@
-pub mod Crossing
-pub mod Jobs
 pub mod Crewing
 pub mod GoingOn
-pub mod Codes
 pub mod Answers
 pub mod InOrder
 pub mod Reading

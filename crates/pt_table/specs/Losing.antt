@@ -4,9 +4,9 @@ use Rattle.pt_signal.specs.declared.item.Item.{Item}
 use Rattle.pt_shard.specs.declared.loss.Loss.{Loss}
 use Rattle.pt_shard.specs.Losses.{items_lost, loser, reason_lost}
 use Rattle.pt_desk.specs.DeskState.{DeskState, GoesOn}
-use Rattle.pt_table.specs.declared.types.PtLoss.{PtLoss}
-use Rattle.pt_table.specs.Codes.{some_code}
-use Rattle.pt_table.specs.Crossing.{pid_out, reason_or_none}
+use Rattle.pt_structs.specs.declared.types.PtLoss.{PtLoss}
+use Rattle.pt_structs.specs.Codes.{some_code}
+use Rattle.pt_structs.specs.Crossing.{pid_out, reason_or_none}
 
 -- the loss with this number among those kept, the oldest first
 abbrev pub loss_numbered : DeskState → ℕ → Option Loss

@@ -4,7 +4,7 @@ use Rattle.pt_desk.specs.DeskState.{DeskState}
 use Rattle.pt_hands.specs.declared.hands.Hands.{Hands}
 use Rattle.pt_hands.specs.Owning.{desk_of}
 use Rattle.pt_table.specs.Answers.{HandlePlace, value_behind}
-use Rattle.pt_table.specs.Codes.{wrong_desk}
+use Rattle.pt_structs.specs.Codes.{wrong_desk}
 
 -- this is the number of the crew's desk, or the crew may be that of any
 abbrev pub is_number_of : Option ℕ → ℕ → Bool

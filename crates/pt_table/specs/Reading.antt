@@ -19,10 +19,10 @@ use Rattle.pt_shard.specs.Outbox.{count_pending}
 use Rattle.pt_desk.specs.DeskState.{DeskState}
 use Rattle.pt_gathered.specs.Gathered.{begins, journals}
 use Rattle.pt_gathered.specs.Quiet.{QuietState}
-use Rattle.pt_table.specs.declared.types.PtPid.{PtPid}
-use Rattle.pt_table.specs.declared.types.PtIds.{PtIds}
-use Rattle.pt_table.specs.declared.types.PtAccount.{PtAccount}
-use Rattle.pt_table.specs.Crossing.{pid_out, ids_out, account_out}
+use Rattle.pt_structs.specs.declared.types.PtPid.{PtPid}
+use Rattle.pt_structs.specs.declared.types.PtIds.{PtIds}
+use Rattle.pt_structs.specs.declared.types.PtAccount.{PtAccount}
+use Rattle.pt_structs.specs.Crossing.{pid_out, ids_out, account_out}
 use Rattle.pt_table.specs.Answers.{ShowsCode}
 
 -- desks --------------------------------------------------------------------------------

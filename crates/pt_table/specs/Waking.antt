@@ -5,9 +5,9 @@ use Rattle.pt_events.specs.declared.event.Event.{Event}
 use Rattle.pt_events.specs.declared.event.Stamped.{Stamped}
 use Rattle.pt_events.specs.History.{Past, Start, life, arrives, reason_of, is_the}
 use Rattle.pt_workers.specs.Waking.{woken_by, IsNextWoken, NoneIsWoken}
-use Rattle.pt_table.specs.declared.types.PtPid.{PtPid}
-use Rattle.pt_table.specs.Codes.{nothing_there}
-use Rattle.pt_table.specs.Crossing.{pid_out}
+use Rattle.pt_structs.specs.declared.types.PtPid.{PtPid}
+use Rattle.pt_structs.specs.Codes.{nothing_there}
+use Rattle.pt_structs.specs.Crossing.{pid_out}
 
 -- the next from a place on, with the place behind it
 pub record WokenNext (code from next : ℕ) (after : PtPid) (events : List Stamped) : Type 0 where

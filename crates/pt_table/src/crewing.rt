@@ -15,12 +15,12 @@ ghost use Rattle.pt_table.specs.Answers.{ShowsCode};
 ghost use Rattle.pt_table.specs.Crewing.{AnswersOne, CrewBeginsAgain, CrewSteps, CrewTells, HandsOutRow, NotesIfOwn};
 ghost use Rattle.pt_table.specs.Crewing.{PullsRow, SpawnsChildInCrew, SpawnsInCrew, TakesAnswers, TellsTime};
 ghost use Rattle.pt_table.specs.Owning.{IfOwn, is_own};
-ghost use Rattle.pt_table.specs.Jobs.{next_out};
+ghost use Rattle.pt_structs.specs.Jobs.{next_out};
 
-use crate::codes::{BAD_CODE, DONE, MEMORY, NOT_RUNNING, NOTHING, WRONG_DESK, code_of, stop_code};
-use crate::crossing::{pid_in, pid_out};
-use crate::crossing_jobs::{job_out, next_in, next_out};
-use crate::types::{PtAnswer, PtJob, PtNext, PtPid, PtTurned};
+use pt_structs::codes::{BAD_CODE, DONE, MEMORY, NOT_RUNNING, NOTHING, WRONG_DESK, code_of, stop_code};
+use pt_structs::crossing::{pid_in, pid_out};
+use pt_structs::crossing_jobs::{job_out, next_in, next_out};
+use pt_structs::types::{PtAnswer, PtJob, PtNext, PtPid, PtTurned};
 use pt_hands::Hands;
 use pt_node::{Desk, Pid};
 

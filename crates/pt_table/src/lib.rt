@@ -1,5 +1,5 @@
-//! The table for C without its exports: plain structs and codes in place of enums and options, the handles, and the
-//! calls of a desk and of a crew with these structs.
+//! The table for C without its exports: the handles, and the calls of a desk and of a crew with the structs and codes
+//! of `pt_structs`.
 //!
 //! `pt_c` exports it. It is a library of its own so that the gate proves it once. A static library keeps no checked
 //! crate, so what is in `pt_c` is proved again when its archive is built.
@@ -8,8 +8,6 @@
 //!
 //! # What is proved
 //!
-//! - **Structs and codes.** Each value crosses to its struct and back, and each failure to its code. (`Crossing`,
-//!   `Codes`)
 //! - **Bad codes.** A pick or a reason with a code that means nothing is refused, before all that the desk would refuse,
 //!   and nothing has changed. (`IfCrosses`)
 //! - **One desk.** A call of a crew over a desk with another number than that of its own is refused, and nothing has
@@ -22,11 +20,8 @@
 //!   it exit. (`NobodyIsMissed`)
 #![tactic(auto)]
 
-pub mod codes;
 pub mod crew_handle;
 pub mod crewing;
-pub mod crossing;
-pub mod crossing_jobs;
 pub mod desk_handle;
 pub mod doing;
 pub mod gathered_handle;
@@ -37,4 +32,3 @@ pub mod losing;
 pub mod quiet_handle;
 pub mod rows;
 pub mod settled_handle;
-pub mod types;

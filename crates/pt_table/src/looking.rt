@@ -8,12 +8,12 @@ ghost use Rattle.pt_table.specs.Reading.{nth_link, links_on_desk, nth_monitor, m
 ghost use Rattle.pt_table.specs.Reading.{traps_on_desk, watchers_on_desk};
 ghost use Rattle.pt_table.specs.Waking.{Woken};
 ghost use Rattle.pt_table.specs.Reading.{TellsCount, TellsPid, TellsAccount, TellsLinked, TellsKept, TellsWatching};
-ghost use Rattle.pt_table.specs.Crossing.{pid_out, ref_out, ids_out, item_out, event_out, left_out};
+ghost use Rattle.pt_structs.specs.Crossing.{pid_out, ref_out, ids_out, item_out, event_out, left_out};
 
-use crate::codes::{DONE, NOTHING};
-use crate::crossing::{account_out, event_out, ids_out, item_out, left_out, pid_out, ref_out};
+use pt_structs::codes::{DONE, NOTHING};
+use pt_structs::crossing::{account_out, event_out, ids_out, item_out, left_out, pid_out, ref_out};
 use crate::held::History;
-use crate::types::{PtAccount, PtEvent, PtIds, PtItem, PtLeftOver, PtPid, PtRef};
+use pt_structs::types::{PtAccount, PtEvent, PtIds, PtItem, PtLeftOver, PtPid, PtRef};
 use pt_node::{Desk, Ids, Item, Pid, Quiet, Ref, Stamped};
 
 fn show_pid(pid: Option<Pid>, out: &mut PtPid) -> u32

@@ -2,7 +2,7 @@
 use Rattle.std.proofs.Common.{◌≡◌, inr, refl, sym, subst, ◌∙◌}
 use Rattle.pt_table.specs.Answers.{IfCrosses}
 use Rattle.pt_table.specs.Crewing.{AnswersNext}
-use Rattle.pt_table.specs.Crossing.{pid_crossed}
+use Rattle.pt_structs.specs.Crossing.{pid_crossed}
 use Rattle.pt_table.proofs.crewing.answer.Goals as goal
 
 pub returns-in-Err-clause-does : goal.returns-in-Err-clause-does

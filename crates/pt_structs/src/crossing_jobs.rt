@@ -1,7 +1,7 @@
 //! What a crew is told and tells, as the structs that cross.
 
 ghost use Rattle.std.specs.Prelude.{◌≡◌};
-ghost use Rattle.pt_table.specs.Jobs.{next_in, next_out, no_next, job_out, job_of};
+ghost use Rattle.pt_structs.specs.Jobs.{next_in, next_out, no_next, job_out, job_of};
 
 use crate::crossing::{
     item_out, no_item, no_pick, no_reason, pick_in, pick_out, pid_out, reason_in, reason_out,

@@ -21,18 +21,18 @@ use Rattle.pt_events.specs.declared.event.Stamped.{Stamped}
 use Rattle.pt_gathered.specs.declared.left_over.LeftOver.{LeftOver}
 use Rattle.pt_accounts.specs.declared.account.Account.{Account}
 use Rattle.pt_signal.specs.declared.config.Config.{Config}
-use Rattle.pt_table.specs.declared.types.PtPid.{PtPid}
-use Rattle.pt_table.specs.declared.types.PtRef.{PtRef}
-use Rattle.pt_table.specs.declared.types.PtIds.{PtIds}
-use Rattle.pt_table.specs.declared.types.PtReason.{PtReason}
-use Rattle.pt_table.specs.declared.types.PtBody.{PtBody}
-use Rattle.pt_table.specs.declared.types.PtItem.{PtItem}
-use Rattle.pt_table.specs.declared.types.PtPick.{PtPick}
-use Rattle.pt_table.specs.declared.types.PtSignal.{PtSignal}
-use Rattle.pt_table.specs.declared.types.PtEvent.{PtEvent}
-use Rattle.pt_table.specs.declared.types.PtLeftOver.{PtLeftOver}
-use Rattle.pt_table.specs.declared.types.PtAccount.{PtAccount}
-use Rattle.pt_table.specs.declared.types.PtConfig.{PtConfig}
+use Rattle.pt_structs.specs.declared.types.PtPid.{PtPid}
+use Rattle.pt_structs.specs.declared.types.PtRef.{PtRef}
+use Rattle.pt_structs.specs.declared.types.PtIds.{PtIds}
+use Rattle.pt_structs.specs.declared.types.PtReason.{PtReason}
+use Rattle.pt_structs.specs.declared.types.PtBody.{PtBody}
+use Rattle.pt_structs.specs.declared.types.PtItem.{PtItem}
+use Rattle.pt_structs.specs.declared.types.PtPick.{PtPick}
+use Rattle.pt_structs.specs.declared.types.PtSignal.{PtSignal}
+use Rattle.pt_structs.specs.declared.types.PtEvent.{PtEvent}
+use Rattle.pt_structs.specs.declared.types.PtLeftOver.{PtLeftOver}
+use Rattle.pt_structs.specs.declared.types.PtAccount.{PtAccount}
+use Rattle.pt_structs.specs.declared.types.PtConfig.{PtConfig}
 
 -- nothing ----------------------------------------------------------------------------
 

@@ -1,7 +1,7 @@
 //! The codes that calls return.
 
 ghost use Rattle.std.specs.Prelude.{◌≡◌};
-ghost use Rattle.pt_table.specs.Codes.{code_of, code_at, stop_code, open_code};
+ghost use Rattle.pt_structs.specs.Codes.{code_of, code_at, stop_code, open_code};
 
 use pt_node::{Fault, OpenError, Setting, Stop};
 

@@ -2,10 +2,10 @@
 
 ghost use Rattle.std.specs.Prelude.{◌≡◌, true};
 ghost use Rattle.pt_events.specs.declared.event.Event.TheVariants.{Born};
-ghost use Rattle.pt_table.specs.Crossing.{pid_crossed, pid_out, ref_in, ref_out, link_out, ids_out, reason_in, reason_out};
-ghost use Rattle.pt_table.specs.Crossing.{body_in, body_out, pick_in, pick_out, item_out, signal_out, event_out, told_in_c};
-ghost use Rattle.pt_table.specs.Crossing.{left_out, account_out, no_pid, no_ref, no_ids, no_reason, no_body, no_pick};
-ghost use Rattle.pt_table.specs.Crossing.{no_item, no_signal, blank};
+ghost use Rattle.pt_structs.specs.Crossing.{pid_crossed, pid_out, ref_in, ref_out, link_out, ids_out, reason_in, reason_out};
+ghost use Rattle.pt_structs.specs.Crossing.{body_in, body_out, pick_in, pick_out, item_out, signal_out, event_out, told_in_c};
+ghost use Rattle.pt_structs.specs.Crossing.{left_out, account_out, no_pid, no_ref, no_ids, no_reason, no_body, no_pick};
+ghost use Rattle.pt_structs.specs.Crossing.{no_item, no_signal, blank};
 
 use crate::types::{
     PtAccount, PtBody, PtEvent, PtIds, PtItem, PtLeftOver, PtPick, PtPid, PtReason, PtRef, PtSignal,
@@ -411,7 +411,8 @@ fn no_ids() -> PtIds
     }
 }
 
-pub(crate) fn no_reason() -> PtReason
+/// The struct of no reason: all fields are zero.
+pub fn no_reason() -> PtReason
     ensures { result ≡ no_reason }
 {
     PtReason { code: 0, number: 0 }

@@ -6,9 +6,9 @@ use Rattle.pt_crew.specs.declared.behaviour.Next.TheVariants.{Wait, WaitUntil, P
 use Rattle.pt_hands.specs.declared.hand.Job.{Job}
 use Rattle.pt_hands.specs.declared.hand.What.{What}
 use Rattle.pt_hands.specs.declared.hand.What.TheVariants.{Start, Proceed as Proceeds, Item, Timeout, Exit}
-use Rattle.pt_table.specs.declared.types.PtNext.{PtNext}
-use Rattle.pt_table.specs.declared.types.PtJob.{PtJob}
-use Rattle.pt_table.specs.Crossing.{pid_out, item_out, reason_in, reason_out, pick_in, pick_out, no_item, no_reason, no_pick}
+use Rattle.pt_structs.specs.declared.types.PtNext.{PtNext}
+use Rattle.pt_structs.specs.declared.types.PtJob.{PtJob}
+use Rattle.pt_structs.specs.Crossing.{pid_out, item_out, reason_in, reason_out, pick_in, pick_out, no_item, no_reason, no_pick}
 
 abbrev pub no_next : PtNext
 no_next = record { code = 0; reason = no_reason; until = 0; pick = no_pick }

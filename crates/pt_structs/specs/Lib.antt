@@ -1,0 +1,3 @@
+pub mod Crossing
+pub mod Jobs
+pub mod Codes
