@@ -11,12 +11,12 @@ ghost use Rattle.pt_structs.specs.Crossing.{pid_crossed, ref_in, body_in};
 
 use pt_structs::codes::{DONE, EMPTY};
 use pt_structs::crossing::{body_in, pid_in, ref_in};
+use pt_structs::types::{PtBody, PtItem, PtPick, PtPid, PtReason, PtRef, PtTurned};
 use pt_table::desk_handle::{DeskHandle, claim, hold};
 use pt_table::doing::{
     ask_alive, demonitor, exit, exit_signal, link, monitor, receive, send, spawn, spawn_child,
     trap, turn, unlink,
 };
-use pt_structs::types::{PtBody, PtItem, PtPick, PtPid, PtReason, PtRef, PtTurned};
 use std::alloc::Global;
 
 /// Spawns a process without a parent, as `Desk::spawn` does. It writes the pid to `out` if it returns 0.

@@ -18,13 +18,13 @@ ghost use Rattle.pt_c.specs.Nodes.{GivesUp};
 use crate::node::end_code;
 use pt_hands::Hands;
 use pt_structs::codes::{DONE, EMPTY, FILLED, MEMORY};
+use pt_structs::crossing::pid_in;
+use pt_structs::types::{PtAnswer, PtJob, PtNext, PtPid, PtTurned};
 use pt_table::crew_handle::{CrewHandle, claim, filled, hold, is_full, spare};
 use pt_table::crewing::{
     answer_all, begin_again, is_idle, next, next_time, note_loss, spawn, spawn_child, step, tag,
 };
-use pt_structs::crossing::pid_in;
 use pt_table::desk_handle::{DeskHandle, claim as claim_desk, hold as hold_desk};
-use pt_structs::types::{PtAnswer, PtJob, PtNext, PtPid, PtTurned};
 use std::alloc::Global;
 
 /// Begins a crew, with no process and at the time 0. It is that of the desk on which it spawns its first process or makes

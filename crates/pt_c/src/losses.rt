@@ -9,9 +9,9 @@ ghost use Rattle.pt_structs.specs.Crossing.{item_out};
 ghost use Rattle.pt_table.specs.Losing.{KeepsLosses, PassesLoss, item_lost, loss_numbered, loss_out};
 
 use pt_structs::codes::EMPTY;
+use pt_structs::types::{PtItem, PtLoss};
 use pt_table::desk_handle::{DeskHandle, claim, hold};
 use pt_table::losing::{keep_losses, loss_at, loss_item, next_loss};
-use pt_structs::types::{PtItem, PtLoss};
 use std::alloc::Global;
 
 /// Sets whether what the desk loses from now on is kept until it is told, as `Desk::keep_losses` does.

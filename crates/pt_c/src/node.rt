@@ -9,6 +9,7 @@ ghost use Rattle.pt_c.specs.Nodes.{IsHistoryOf, IsQuietHistoryOf};
 
 use pt_node::{Config, Desk, Gathered, OpenError, Quiet, Setting, abandon, gather, open};
 use pt_structs::codes::{DONE, EMPTY, FILLED, MEMORY, open_code, stop_code};
+use pt_structs::types::PtConfig;
 use pt_table::desk_handle::{DeskHandle, claim as claim_desk};
 use pt_table::gathered_handle::{
     GatheredHandle, claim as claim_gathered, filled as filled_gathered, hold as hold_gathered,
@@ -24,7 +25,6 @@ use pt_table::quiet_handle::{
     is_full as has_quiet, spare as spare_quiet,
 };
 use pt_table::rows::{are_in_order, count_full, empty_all, fill_all, spare_places};
-use pt_structs::types::PtConfig;
 use std::alloc::{AllocError, Global};
 
 /// Opens a node: each handle gets one of its desks, in order, as `open` makes them.

@@ -16,6 +16,7 @@ ghost use Rattle.pt_structs.specs.Crossing.{pid_crossed, pid_out, ref_in, ref_ou
 
 use pt_structs::codes::{DONE, EMPTY};
 use pt_structs::crossing::{pid_in, ref_in};
+use pt_structs::types::{PtAccount, PtEvent, PtIds, PtItem, PtLeftOver, PtPid, PtRef};
 use pt_table::desk_handle::{DeskHandle, claim as claim_desk, hold as hold_desk};
 use pt_table::gathered_handle::{GatheredHandle, claim as claim_gathered, hold as hold_gathered};
 use pt_table::history_handle::{HistoryHandle, claim as claim_history, hold as hold_history};
@@ -25,7 +26,6 @@ use pt_table::looking::{
     waiting, watcher_at, watcher_count, watching,
 };
 use pt_table::quiet_handle::{QuietHandle, claim as claim_quiet, hold as hold_quiet};
-use pt_structs::types::{PtAccount, PtEvent, PtIds, PtItem, PtLeftOver, PtPid, PtRef};
 use std::alloc::Global;
 
 /// The stamp of the newest event, or the start of the clock.

@@ -17,12 +17,14 @@ ghost use Rattle.pt_table.specs.Crewing.{PullsRow, SpawnsChildInCrew, SpawnsInCr
 ghost use Rattle.pt_table.specs.Owning.{IfOwn, is_own};
 ghost use Rattle.pt_structs.specs.Jobs.{next_out};
 
-use pt_structs::codes::{BAD_CODE, DONE, MEMORY, NOT_RUNNING, NOTHING, WRONG_DESK, code_of, stop_code};
+use pt_hands::Hands;
+use pt_node::{Desk, Pid};
+use pt_structs::codes::{
+    BAD_CODE, DONE, MEMORY, NOT_RUNNING, NOTHING, WRONG_DESK, code_of, stop_code,
+};
 use pt_structs::crossing::{pid_in, pid_out};
 use pt_structs::crossing_jobs::{job_out, next_in, next_out};
 use pt_structs::types::{PtAnswer, PtJob, PtNext, PtPid, PtTurned};
-use pt_hands::Hands;
-use pt_node::{Desk, Pid};
 
 /// Whether the desk is the crew's own, or the crew may be that of any desk.
 fn is_own(crew: &Hands, desk: &Desk) -> bool

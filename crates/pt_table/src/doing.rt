@@ -7,10 +7,10 @@ ghost use Rattle.std.specs.Prelude.{◌≡◌};
 ghost use Rattle.pt_table.specs.Answers.{SpawnsOnDesk, SpawnsChild, SendsOnDesk, SendsExit, Links, Unlinks, WatchesOnDesk, UnwatchesOnDesk, AsksOnDesk};
 ghost use Rattle.pt_table.specs.Answers.{Traps, TakesOnDesk, Exits, TurnsOnce};
 
+use pt_node::{Body, Desk, Pid, Ref};
 use pt_structs::codes::{BAD_CODE, DONE, NOTHING, UNKNOWN, code_at, code_of, stop_code};
 use pt_structs::crossing::{item_out, pick_in, pid_out, reason_in, ref_out};
 use pt_structs::types::{PtItem, PtPick, PtPid, PtReason, PtRef, PtTurned};
-use pt_node::{Body, Desk, Pid, Ref};
 
 #[tactic(auto, unfolding(crate::specs::Answers::SpawnsOnDesk))]
 pub fn spawn(desk: &mut Desk, out: &mut PtPid) -> u32

@@ -10,11 +10,11 @@ ghost use Rattle.pt_table.specs.Waking.{Woken};
 ghost use Rattle.pt_table.specs.Reading.{TellsCount, TellsPid, TellsAccount, TellsLinked, TellsKept, TellsWatching};
 ghost use Rattle.pt_structs.specs.Crossing.{pid_out, ref_out, ids_out, item_out, event_out, left_out};
 
+use crate::held::History;
+use pt_node::{Desk, Ids, Item, Pid, Quiet, Ref, Stamped};
 use pt_structs::codes::{DONE, NOTHING};
 use pt_structs::crossing::{account_out, event_out, ids_out, item_out, left_out, pid_out, ref_out};
-use crate::held::History;
 use pt_structs::types::{PtAccount, PtEvent, PtIds, PtItem, PtLeftOver, PtPid, PtRef};
-use pt_node::{Desk, Ids, Item, Pid, Quiet, Ref, Stamped};
 
 fn show_pid(pid: Option<Pid>, out: &mut PtPid) -> u32
     ensures { ShowsCode result out.old out.new pid_out pid }

@@ -5,10 +5,10 @@ ghost use Rattle.pt_table.specs.Answers.{ShowsCode};
 ghost use Rattle.pt_structs.specs.Crossing.{item_out};
 ghost use Rattle.pt_table.specs.Losing.{KeepsLosses, PassesLoss, item_lost, loss_numbered, loss_out};
 
+use pt_node::{Desk, Loss};
 use pt_structs::codes::{DONE, NOTHING};
 use pt_structs::crossing::{item_out, no_reason, pid_out, reason_out};
 use pt_structs::types::{PtItem, PtLoss};
-use pt_node::{Desk, Loss};
 
 fn loss_out(loss: &Loss) -> PtLoss
     ensures { result ≡ loss_out loss.now }

@@ -9,3 +9,4 @@ pub mod Upheld
 pub mod Becoming
 pub mod Idle
 pub mod Keeping
+pub mod Quieting

@@ -33,14 +33,18 @@
 //! - **Children are restarted, and no orphans.** What both theorems of `pt_supervisor` need of a crew, each call of a team
 //!   keeps; and so does the program, if it does nothing for a supervisor. So they hold of every program with a team.
 //!   (`team_children_live`, `TeamUpholds`)
+//! - **Whole nodes.** Once no team of a node has anything to do, and the node was gathered and settled, each child that a
+//!   supervisor wants alive lives, on each desk, or unlinked itself. (`TeamsChildrenLive`)
 #![tactic(auto)]
 
 mod laws;
 mod member;
 mod plan;
+mod resting_node;
 mod team;
 
 pub use laws::team_children_live;
 pub use member::{Member, News, Notes, Notice};
 pub use plan::{ChildSpec, Origin, Plan, Post, SupervisorSpec};
+pub use resting_node::node_children_live;
 pub use team::Team;

@@ -1,0 +1,12 @@
+-- `node_children_live`: its contract.
+use Rattle.std.proofs.Common.{map}
+use Rattle.pt_supervisor.proofs.AllLive.{all_children_live}
+use Rattle.pt_teams.specs.Members.{boss_part}
+use Rattle.pt_teams.specs.Teaming.{team_crew}
+use Rattle.pt_teams.proofs.Quieting.{crews_idle, crews_uphold}
+use Rattle.pt_teams.proofs.resting_node.node_children_live.Goals as goal
+
+pub returns : goal.returns
+returns c = λ past teams desks g u idle.
+    all_children_live boss_part c.journals_tell_their_pids.ensures.journals c.journals_have_one_merge.ensures.there past (map team_crew teams) desks g
+    (crews_uphold past teams desks u) (crews_idle past teams desks u idle)

@@ -1,0 +1,17 @@
+//! What holds of the teams of all desks of a node that is still, as the contract of a function that does nothing.
+
+ghost use Rattle.pt_teams.specs.Quieting.{TeamsChildrenLive};
+
+use pt_laws::laws;
+
+/// Once no team of a node has anything to do, and the node is gathered and settled, each child that a live supervisor wants
+/// alive is alive, on each desk, or unlinked itself. The function does nothing: its contract is the promise.
+///
+/// It needs what each call of a team keeps (`AttendsTeam`, `TeamUpholds`), and that [`Team::is_idle`](crate::Team::is_idle)
+/// is true of each over its desk.
+pub fn node_children_live()
+    ensures { TeamsChildrenLive }
+{
+    laws::journals_tell_their_pids();
+    laws::journals_have_one_merge();
+}
