@@ -55,7 +55,7 @@
 //! pause costs what happened since the last one, the live processes and the slots.
 //!
 //! Tests: `checks/rows`, `checks/tried/test_calls/nodes.rt.txt`, `checks/tried/test_calls/opening.rt.txt` and
-//! `checks/tried/test_calls/living.rt.txt`.
+//! `crates/test_calls/src/nodes.rt`.
 //!
 //! # What is proved
 //!

@@ -47,7 +47,7 @@
 //!
 //! Links, monitors and watches keep the order of entry through all removals.
 //!
-//! Tests: `checks/tried/test_calls/process.rt.txt` and `checks/tried/test_calls/entries.rt.txt`.
+//! Tests: `checks/tried/test_calls/process.rt.txt` and `crates/test_calls/src/layers/entries.rt`.
 //!
 //! # What is proved
 //!

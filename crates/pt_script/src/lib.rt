@@ -5,7 +5,8 @@
 //! text, and operations name processes by these numbers. [`process_names`] returns the names, for programs that show
 //! them. [`laws`] says what holds for every script. The format is that of `docs/SCRIPTS.md`.
 //!
-//! Tests: `checks/tried/pt_scripts/scripts.rt.txt` and `checks/tried/pt_scripts/faults.rt.txt`.
+//! Tests: `checks/tried/pt_scripts/scripts.rt.txt`, `checks/tried/pt_scripts/faults.rt.txt` and
+//! `crates/test_calls/src/layers/scripts.rt`.
 //!
 //! # What is proved
 //!
