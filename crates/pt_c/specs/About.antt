@@ -216,7 +216,7 @@ all_sizes = record {
   fired = 24;
   name = 32;
   holder = 32;
-  codes = 256;
+  codes = 260;
 }
 
 -- a value whose fields have the numbers from this one on

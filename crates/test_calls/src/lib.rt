@@ -1,9 +1,10 @@
-//! Proved tests. Each makes public calls that nothing else proved makes, and compares their answers. The tests of what the
-//! layers do are in `checks/tried`: they are run and not proved.
+//! Proved tests. Each makes public calls that no program and no other crate makes, and compares their answers. The tests
+//! of what the layers do are in `checks/tried`: they are run and not proved.
 //!
 //! | Module | Tests of |
 //! |---|---|
 //! | `layers` | the layers below a node, each called by itself |
+//! | `nodes` | what a running node returns about its desks and processes |
 //! | `on_a_desk` | crews and recipes that are called on a desk |
 //! | `supervisors` | a supervisor and what it is made of, without a desk |
 //! | `refusals` | the texts of the refusals that no program prints |
@@ -20,6 +21,8 @@
 
 #[cfg(test)]
 mod layers;
+#[cfg(test)]
+mod nodes;
 #[cfg(test)]
 mod on_a_desk;
 #[cfg(test)]

@@ -7,8 +7,10 @@ use crate::upheld::{Listener, never_stops};
 use example_uses::game::{Game, HIT};
 use example_uses::payloads::Texts;
 use example_uses::steps;
-use pt_crew::{Crew, Next, link, send, unlink};
-use pt_node::{Body, Config, Desk, FreeGate, Item, Pick, Takes, Work, open, take_each};
+use pt_crew::{Behaviour, Births, Crew, Next, link, send, unlink};
+use pt_node::{
+    Body, Config, Desk, FreeGate, Item, Pick, Pid, Reason, Takes, Work, open, take_each,
+};
 use std::alloc::Global;
 use std::process::Abort;
 
@@ -25,9 +27,10 @@ const ONE_DESK: Config = Config {
 enum Play {
     Game,
     Texts,
-    Links,
+    Crew,
     Items,
     Listener,
+    Clock,
 }
 
 /// Runs on a new node, and gathers it.
@@ -51,9 +54,10 @@ fn on_desk(rt: &impl Abort, alloc: Global, desk: &mut Desk, play: Play)
     match play {
         Play::Game => fight(rt, alloc, desk),
         Play::Texts => write(rt, alloc, desk),
-        Play::Links => link_to_itself(rt, desk),
+        Play::Crew => serve(rt, alloc, desk),
         Play::Items => take(rt, desk),
         Play::Listener => listen(rt, alloc, desk),
+        Play::Clock => wake(rt, alloc, desk),
     }
 }
 
@@ -99,19 +103,70 @@ fn greet(rt: &impl Abort, alloc: Global, desk: &mut Desk, texts: &mut Texts)
     assert_eq!(rt; texts.kept.len(), 0);
 }
 
+/// A process that exits at its first item.
+#[derive(Drop)]
+struct Once;
+
+impl Behaviour for Once {
+    ghost use Rattle.std.specs.Prelude.{⊤};
+
+    ghost answers = { λ _ _ _ _ _ _ _ _. ⊤ };
+
+    #[tactic(auto, using(pt_workers::proofs::GoingOn::stays))]
+    fn handle(
+        &mut self,
+        _desk: &mut Desk,
+        _births: &mut Births<Once>,
+        _me: Pid,
+        item: Option<Item>,
+    ) -> Next {
+        match item {
+            Some(_) => Next::Stop(Reason::Other(3)),
+            None => Next::Wait(Pick::Any),
+        }
+    }
+}
+
+fn serve(rt: &impl Abort, alloc: Global, desk: &mut Desk)
+    ensures { IsStill desk.old desk.new }
+{
+    let mut crew = Crew::new(alloc, 1);
+    let p = waits(rt, &mut crew, desk);
+    leaves(rt, &mut crew, desk, p);
+}
+
 const HELLO: Body = Body {
     kind: 1,
     num: 7,
     who: None,
 };
 
-/// A process that links itself with itself does nothing by that.
-fn link_to_itself(rt: &impl Abort, desk: &mut Desk)
+/// A process enters, and waits after its first step.
+fn waits(rt: &impl Abort, crew: &mut Crew<Once>, desk: &mut Desk) -> Pid
     ensures { IsStill desk.old desk.new }
 {
-    let p = desk.spawn().expect(rt, "memory");
+    let p = crew.enter(desk, Once, Next::Proceed).expect(rt, "memory");
+    assert_eq!(rt; crew.next(p), Some(Next::Proceed));
+    crew.step(desk);
+    assert_eq!(rt; crew.next(p), Some(Next::Wait(Pick::Any)));
+    assert!(rt; crew.is_idle(desk));
+    assert_eq!(rt; crew.begin_again(), Ok(()));
+    assert_eq!(rt; crew.queued(), 1);
+    p
+}
+
+/// It handles a message in one step, exits in the next, and is taken from the crew.
+fn leaves(rt: &impl Abort, crew: &mut Crew<Once>, desk: &mut Desk, p: Pid)
+    ensures { IsStill desk.old desk.new }
+{
     assert_eq!(rt; link(desk, p, p), Ok(()));
     assert_eq!(rt; unlink(desk, p, p), Ok(()));
+    assert_eq!(rt; send(desk, p, p, HELLO), Ok(()));
+    let _ = desk.turn(16);
+    crew.step(desk);
+    crew.step(desk);
+    let left = crew.take_left().expect(rt, "it left");
+    assert_eq!(rt; left.next, Next::Stop(Reason::Other(3)));
 }
 
 /// Adds up the numbers of the messages that are taken.
@@ -171,6 +226,55 @@ fn hears(rt: &impl Abort, crew: &mut Crew<Listener>, desk: &mut Desk)
     assert_eq!(rt; heard, Some(1));
 }
 
+/// Notes when its time came.
+#[derive(Drop)]
+struct Clock {
+    at: u64,
+}
+
+impl Behaviour for Clock {
+    ghost use Rattle.std.specs.Prelude.{⊤};
+
+    ghost answers = { λ _ _ _ _ _ _ _ _. ⊤ };
+
+    #[tactic(auto, using(pt_workers::proofs::GoingOn::stays))]
+    fn handle(
+        &mut self,
+        _desk: &mut Desk,
+        births: &mut Births<Clock>,
+        _me: Pid,
+        _item: Option<Item>,
+    ) -> Next {
+        self.at = births.now();
+        Next::Wait(Pick::Any)
+    }
+}
+
+fn wake(rt: &impl Abort, alloc: Global, desk: &mut Desk)
+    ensures { IsStill desk.old desk.new }
+{
+    let mut crew = Crew::new(alloc, 1);
+    rings(rt, &mut crew, desk);
+}
+
+/// A process that waits until a time gets `None` in the step of that time, and has no timer then.
+fn rings(rt: &impl Abort, crew: &mut Crew<Clock>, desk: &mut Desk)
+    ensures { IsStill desk.old desk.new }
+{
+    let until = Next::WaitUntil(Pick::Any, 9);
+    let p = crew
+        .enter(desk, Clock { at: 0 }, until)
+        .expect(rt, "memory");
+    crew.set_time(4);
+    crew.step(desk);
+    assert_eq!(rt; crew.next_time(), Some(9));
+    crew.set_time(9);
+    crew.step(desk);
+    assert_eq!(rt; crew.next_time(), None);
+    let at = crew.behaviour(p).map(|clock| clock.at);
+    assert_eq!(rt; at, Some(9));
+}
+
 #[test]
 fn a_monster_is_hit(rt: HostRuntime) {
     played(&rt, rt.alloc(), Play::Game);
@@ -192,6 +296,11 @@ fn a_listener_never_asks_to_stop(rt: HostRuntime) {
 }
 
 #[test]
-fn a_process_is_linked_with_itself(rt: HostRuntime) {
-    played(&rt, rt.alloc(), Play::Links);
+fn a_time_comes(rt: HostRuntime) {
+    played(&rt, rt.alloc(), Play::Clock);
+}
+
+#[test]
+fn a_member_waits_and_leaves(rt: HostRuntime) {
+    played(&rt, rt.alloc(), Play::Crew);
 }

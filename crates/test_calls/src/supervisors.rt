@@ -32,6 +32,24 @@ fn a_child_says_how_it_ends(rt: HostRuntime) {
         },
         KILLED
     );
+    assert_eq!(rt; child.shutdown.bids(), Reason::Kill);
+    assert!(rt; child.is_missing());
+    assert!(rt; KILLED.is_of(PARENT));
+    assert_eq!(rt; KILLED.leaving(), Some((PARENT, Shutdown::BrutalKill)));
+    assert_eq!(rt; Shutdown::After(5).bids(), Reason::Shutdown);
+    assert_eq!(rt; Shutdown::After(5).until(7), Some(12));
+    assert_eq!(rt; Shutdown::After(5).until(u64::MAX), Some(u64::MAX));
+    assert_eq!(rt; Shutdown::Infinity.until(7), None);
+}
+
+#[test]
+fn restarts_are_limited(rt: HostRuntime) {
+    assert!(rt; Restart::Transient.starts_again(Reason::Kill));
+    assert_eq!(rt; Strategy::RestForOne.ends_from(1, 3), 1);
+    let mut limit = Limit::new(rt.alloc(), 1, 1000).expect(&rt, "memory");
+    assert_eq!(rt; limit.moment(7, 3), 7);
+    assert!(rt; limit.allows(7));
+    assert!(rt; !limit.allows(8));
 }
 
 #[test]
