@@ -1,13 +1,14 @@
 #!/usr/bin/env python3
 """Measures how many schedules a second `pt_explore` runs.
 
-    bench/explore.py PROGRAM [TIMES] [--before PROGRAM] [--write]
+    bench/explore.py PROGRAM [TIMES] [--before PROGRAM] [--proved] [--write]
 
-It prints the tables of RESULTS.md, or writes that section of it. PROGRAM is a built pt_explore (`bench/build_unproved.py`), and
-`--before` names one to compare it with; both have to print the same. Each script is explored TIMES times (5), on one
-thread, the programs in turn. A row has the best of the processor's seconds, the start of the program and the reading of
-the script among them. The second table has all stored scripts. The third has the processor's seconds of each thread: that
-of the longest is what the clock would show where as many processors are free.
+It prints the tables of RESULTS.md, or writes that section of it. PROGRAM is a built pt_explore: that of
+`bench/build_unproved.py`, or with `--proved` the one that the gate builds. `--before` names one to compare it with; both have
+to print the same. Each script is explored TIMES times (5), on one thread, the programs in turn. A row has the best of the
+processor's seconds, the start of the program and the reading of the script among them. The second table has all stored
+scripts. The third has the processor's seconds of each thread: that of the longest is what the clock would show where as
+many processors are free.
 """
 from __future__ import annotations
 
@@ -135,16 +136,18 @@ def threads(program: str, folder: Path) -> list[str]:
     return lines
 
 
-def section(programs: list[str], times: int) -> str:
+def section(programs: list[str], times: int, proved: bool) -> str:
     """The section of RESULTS.md."""
     with tempfile.TemporaryDirectory() as room:
         folder, load = Path(room), os.getloadavg()[0]
         first, whole, second = speeds(programs, folder, times), stored(programs[-1], times), threads(programs[-1], folder)
     today = time.strftime("%-d %B %Y")
+    built = "The programs are those that the gate proves and builds." if proved else (
+        "The programs were compiled without proofs, by `bench/build_unproved.py`.")
     return "\n".join([
         HEADING, f"{today}, beside other work (load {load:.0f}), pinned to {len(os.sched_getaffinity(0))} processors. "
         f"`bench/explore.py` wrote this section: the best of {times} runs each, in seconds of the processor, the start of the "
-        "program among them. The programs were compiled without proofs, by `bench/build_unproved.py`.", "", *first, "",
+        f"program among them. {built}", "", *first, "",
         "50,000 schedules of 20 turns a second were wanted on one processor.", "",
         "The stored scripts (`checks/examples`), all schedules of each:", "", *whole, "",
         "The first script again, by threads: the processor's seconds of all, and of the thread that had most to do, which is "
@@ -158,8 +161,9 @@ def main(words: list[str]) -> None:
     asked.add_argument("times", type=int, nargs="?", default=5)
     asked.add_argument("--before", metavar="PROGRAM")
     asked.add_argument("--write", action="store_true")
+    asked.add_argument("--proved", action="store_true")
     found = asked.parse_args(words)
-    written = section([*([found.before] if found.before else []), found.program], found.times)
+    written = section([*([found.before] if found.before else []), found.program], found.times, found.proved)
     if not found.write:
         print(written, end="")
         return
