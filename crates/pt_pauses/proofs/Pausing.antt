@@ -7,7 +7,7 @@ use Rattle.pt_signal.specs.declared.pid.Pid.{Pid}
 use Rattle.pt_signal.specs.Values.{same_pid}
 use Rattle.pt_events.specs.declared.event.Stamped.{Stamped}
 use Rattle.pt_events.specs.History.{Past, Start, unborn, at_start, phase_or_unborn, change, is_unborn, life}
-use Rattle.pt_events.specs.Journal.{IsLocal, IsMerge, events}
+use Rattle.pt_events.specs.Journal.{IsLocal, IsMerge, events, of_desk}
 use Rattle.pt_events.specs.Leaving.{outcome}
 use Rattle.pt_events.specs.Locality.{AllHome}
 use Rattle.pt_events.proofs.Leaving.{leaves_each}
@@ -32,9 +32,9 @@ use Rattle.pt_node.proofs.Pasts.{gathers_past}
 use Rattle.pt_crew.specs.declared.behaviour.Next.{Next}
 use Rattle.pt_crew.specs.declared.births.Role.{Role}
 use Rattle.pt_crew.specs.declared.crew.Crew.{Crew}
-use Rattle.pt_crew.specs.Visiting.{Answers}
-use Rattle.pt_crew.specs.Crews.{waiting}
-use Rattle.pt_crew.specs.Upholding.{AllFirst, AllStill, StandsStill}
+use Rattle.pt_crew.specs.Visiting.{Answers, AreSame}
+use Rattle.pt_crew.specs.Crews.{AreBorn, roles, waiting}
+use Rattle.pt_crew.specs.Upholding.{AllFirst, AllStand, AllStill, StandsStill, Upholds}
 use Rattle.pt_crew.specs.Running.{UpholdsOn}
 use Rattle.pt_crew.proofs.Upholding.{born_then}
 use Rattle.pt_supervisor.specs.Hearing.{Standing}
@@ -167,15 +167,19 @@ module _ {B : Type 0} (answers : Answers B) (part : PartOf B) (law : SuperviseAs
       left_then [] h = tt
       left_then (r ∷ rs) h = (still_then r h.0, left_then rs h.1)
 
-      -- and so of a crew that begins again
+      -- and so of a crew that has these processes, and then has them behind it
+      pub crew_from : (c : Crew B) → AllStand (Keeps past part) (roles c) x → (new : Crew B) → AreSame (roles c) (roles new) → AllFirst (Keeps past part) (waiting new)
+          → Upholds (Keeps then part) new (restarted n y)
+      crew_from c stand new same first = record {
+        members = λ p r is. let was = stand p r (sym (same p) ∙ is) in (born_again p was.0, stands_then r.0 r.1 p was.0 was.1);
+        waiting = first_then x (waiting new) first;
+      }
+
+      -- one that begins again
       pub crew_then : (old new : Crew B) → CrewBegins old new → UpholdsOn (Keeps past part) old x → UpholdsOn (Keeps then part) new (restarted n y)
       crew_then old new b u = record {
         attends = b.attends x (restarted n y) u.attends (λ p r is. born_again p (u.upholds.members p r is).0);
-        upholds = record {
-          members = λ p r is.
-              let was = u.upholds.members p r (sym (b.roles p) ∙ is) in (born_again p was.0, stands_then r.0 r.1 p was.0 was.1);
-          waiting = subst (AllFirst (Keeps then part)) (sym b.rest.waiting) (first_then x (waiting old) u.upholds.waiting);
-        };
+        upholds = crew_from old u.upholds.members new b.roles (subst (AllFirst (Keeps past part)) (sym b.rest.waiting) u.upholds.waiting);
       }
 
 -- the node over a pause -------------------------------------------------------------------------------
@@ -196,7 +200,7 @@ module _ {B : Type 0} (answers : Answers B) (part : PartOf B) (law : SuperviseAs
   count_new : length new ≡ length s.shards
   count_new = sym (length-map new shard_of) ∙ (ap length p.resumes.resumes.shards ∙ length-map s.shards (restarted n))
 
-  count_both : length new ≡ length desks
+  pub count_both : length new ≡ length desks
   count_both = count_new ∙ (p.settles.count ∙ count_g)
 
   -- the desk at a place as it was gathered, and as it was settled
@@ -211,7 +215,7 @@ module _ {B : Type 0} (answers : Answers B) (part : PartOf B) (law : SuperviseAs
   same_place : (shards : List ShardState) (d : ℕ) (x : ShardState) → d < length shards → get_or shards d x ≡ get_or shards d (get_or shards d x)
   same_place shards d x within = get_or_default shards d x (get_or shards d x) within
 
-  goes_on : GoOnFrom past desks → GoOnFrom (events merged ++ past) new
+  pub goes_on : GoOnFrom past desks → GoOnFrom (events merged ++ past) new
   goes_on from = p.resumes.resumes.whole past merged (settles_keep g s p.settles past (gathers_past desks g p.gathers past from)) p.merge
 
   module _ (from : GoOnFrom past desks) (d : ℕ) (x : DeskState) (within : d < length desks) where
@@ -236,6 +240,24 @@ module _ {B : Type 0} (answers : Answers B) (part : PartOf B) (law : SuperviseAs
     crew_at old young b u =
         subst (UpholdsOn (Keeps (events merged ++ past) part) young) (sym (new_at d x x.shard (omega (arith, within, count_both))))
         (crew_then answers part law past merged g s p.node p.settled_node p.settles p.merge (gathers_past desks g p.gathers past from) n d (get_or desks d x).shard y in_g x_is (same_place s.shards d x.shard in_s) old young b u)
+
+    -- the processes of a crew were born on the desk behind the pause, too
+    pub born_at : (c : Crew B) → AllStand (Keeps past part) (roles c) (get_or desks d x).shard → AreBorn (roles c) (get_or new d x).shard
+    born_at c stand q r is =
+        subst (λ (z : ShardState). is_unborn (phase_of z q) ≡ false) (sym (new_at d x x.shard (omega (arith, within, count_both))))
+        (born_again answers part law past merged g s p.node p.settled_node p.settles p.merge (gathers_past desks g p.gathers past from) n d (get_or desks d x).shard y in_g x_is (same_place s.shards d x.shard in_s) q (stand q r is).0)
+
+    pub crew_from_at : (c : Crew B) → AllStand (Keeps past part) (roles c) (get_or desks d x).shard → (young : Crew B) → AreSame (roles c) (roles young) → AllFirst (Keeps past part) (waiting young)
+        → Upholds (Keeps (events merged ++ past) part) young (get_or new d x).shard
+    crew_from_at c stand young same first =
+        subst (Upholds (Keeps (events merged ++ past) part) young) (sym (new_at d x x.shard (omega (arith, within, count_both))))
+        (crew_from answers part law past merged g s p.node p.settled_node p.settles p.merge (gathers_past desks g p.gathers past from) n d (get_or desks d x).shard y in_g x_is (same_place s.shards d x.shard in_s) c stand young same first)
+
+    -- the journal that the desk had is a part of the history
+    pub journal_at : (more : List Stamped) × (of_desk d merged ≡ more ++ (get_or desks d x).shard.journal)
+    journal_at =
+        let follows = p.settles.journals_follow d in_g in
+        (follows.more, p.merge.1 d ∙ (follows.is ∙ ap (λ (j : List Stamped). follows.more ++ j) (journal_of g d x.shard in_g ∙ ap (λ (z : ShardState). z.journal) (desk_at d x within))))
 
   pub pause_holds : AllHold part past crews desks → AllHold part (events merged ++ past) later new
   pause_holds h = record {

@@ -1,2 +1,3 @@
 pub mod Pauses
 pub mod Halts
+pub mod Teams

@@ -11,6 +11,8 @@
 //!
 //! - **Pauses.** What supervisors uphold, they uphold behind a pause. So each child that a supervisor wants alive is
 //!   linked with it, or the supervisor gets its exit; or it unlinked itself, at any time. (`PausesHold`)
+//! - **Teams.** So it is of teams whose handlers are outside, in C, Rust or Python, if each goes on with the node's
+//!   history. (`TeamPausesHold`)
 //! - **Left supervisors.** A supervisor that stopped still forgets no child behind a pause. (`PausesKeepLeft`)
 //! - **Epochs.** So it is over a run of epochs, on one thread or on many, and all that its sink took is what happened
 //!   before. (`EpochsHold`, `RunsHold`)
@@ -26,7 +28,9 @@
 mod epochs;
 mod halts;
 mod pauses;
+mod teams;
 
 pub use epochs::epochs_children_live;
 pub use halts::halted_children_live;
 pub use pauses::paused_children_live;
+pub use teams::paused_team_children_live;

@@ -1,0 +1,14 @@
+//! Teams over a pause of their node, as the contract of a function that does nothing.
+
+ghost use Rattle.pt_pauses.specs.Teams.{TeamPausesHold};
+
+/// What the supervisors of teams uphold on the desks of a node, they uphold behind a pause. The function does nothing:
+/// its contract is the promise.
+///
+/// It needs that the node was gathered, settled and resumed, and that each team went on with the node's history
+/// ([`Team::go_on`](pt_teams::Team::go_on)). What happened until then counts as what was before. So by
+/// [`node_children_live`](pt_teams::node_children_live) each child that a supervisor wants alive is alive once the node is
+/// still again, or unlinked itself. This holds over any number of pauses, one after the other.
+pub fn paused_team_children_live()
+    ensures { TeamPausesHold }
+{}
