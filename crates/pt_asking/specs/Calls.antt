@@ -1,0 +1,142 @@
+-- Calls that are answered, as C keeps them: what is asked, heard and replied.
+use Rattle.std.specs.Prelude.{◌≡◌, ℕ, pos, cond, ◌&&◌, not, Bool, true, false, is_some, List, [], MatchOption}
+use Rattle.std.specs.Prelude.{Option, Some, None, Result, Ok, Err}
+use Rattle.pt_signal.specs.declared.pid.Pid.{Pid}
+use Rattle.pt_signal.specs.declared.ids.Ref.{Ref}
+use Rattle.pt_signal.specs.declared.item.Item.{Item}
+use Rattle.pt_desk.specs.DeskState.{DeskState}
+use Rattle.pt_crew.specs.declared.call_fault.CallFault.{CallFault}
+use Rattle.pt_crew.specs.declared.call_fault.CallFault.TheVariants.{Unknown, Refused}
+use Rattle.pt_crew.specs.declared.pending.Pending.{Pending}
+use Rattle.pt_crew.specs.declared.pending.Heard.{Heard}
+use Rattle.pt_crew.specs.declared.request.Request.{Request}
+use Rattle.pt_crew.specs.Asking.{Asks, SendsTo, answer, request_of}
+use Rattle.pt_crew.specs.Ending.{CallEvent, Closes, Expires, ends_reported, first_call_end, heard_by_call, is_due}
+use Rattle.pt_crew.specs.Ending.{is_expired, says_to_call}
+use Rattle.pt_places.specs.Places.{ShowsCode}
+use Rattle.pt_structs.specs.declared.types.PtItem.{PtItem}
+use Rattle.pt_structs.specs.Codes.{bad_code, code_of, unknown}
+use Rattle.pt_structs.specs.Crossing.{no_reason, pid_crossed, pid_out, reason_out, ref_in, ref_out}
+use Rattle.pt_asking.specs.declared.types.PtCall.{PtCall}
+use Rattle.pt_asking.specs.declared.types.PtHeard.{PtHeard}
+use Rattle.pt_asking.specs.declared.types.PtRequest.{PtRequest}
+use Rattle.pt_asking.specs.Items.{item_in}
+
+-- the structs ------------------------------------------------------------------------
+
+abbrev pub until : Bool → ℕ → Option ℕ
+until true deadline = Some deadline
+until false deadline = None
+
+-- the call of a behaviour that the struct is
+abbrev pub call_in : PtCall → Pending
+call_in c = record {
+  client = pid_crossed c.client;
+  server = pid_crossed c.server;
+  monitor = ref_in c.monitor;
+  number = pos c.monitor.number;
+  deadline = until c.has_deadline c.deadline;
+  waits = c.waits;
+}
+
+-- the struct of a call that was made
+abbrev pub call_made : Pid → Pid → Ref → Bool → ℕ → PtCall
+call_made client server monitor has_deadline deadline = record {
+  client = pid_out client;
+  server = pid_out server;
+  monitor = ref_out monitor;
+  has_deadline = has_deadline;
+  waits = true;
+  deadline = deadline;
+}
+
+abbrev pub heard_out : Heard → PtHeard
+heard_out (Heard.Answer n) = record { code = 0; answer = n; reason = no_reason }
+heard_out (Heard.Down r) = record { code = 1; answer = 0; reason = reason_out r }
+heard_out Heard.Late = record { code = 2; answer = 0; reason = no_reason }
+heard_out Heard.NotMine = record { code = 3; answer = 0; reason = no_reason }
+
+abbrev pub request_out : Request → PtRequest
+request_out r = record { from = pid_out r.from; asks = r.asks; number = r.number }
+
+abbrev pub request_in : PtRequest → Request
+request_in r = record { from = pid_crossed r.from; number = r.number; asks = r.asks }
+
+-- the codes --------------------------------------------------------------------------
+
+abbrev pub fault_code : CallFault → ℕ
+fault_code Unknown = unknown
+fault_code (Refused f) = code_of f
+
+abbrev pub told_code : {A : Type 0} → Result A CallFault → ℕ
+told_code (Ok a) = 0
+told_code (Err f) = fault_code f
+
+-- asking -----------------------------------------------------------------------------
+
+-- the call that was made under this reference, or the fault for which none was
+abbrev pub call_asked : Pid → Pid → Option ℕ → Result Ref CallFault → Result Pending CallFault
+call_asked client server deadline (Ok m) = Ok (record {
+  client = client;
+  server = server;
+  monitor = m;
+  number = pos m.number;
+  deadline = deadline;
+  waits = true;
+})
+call_asked client server deadline (Err f) = Err f
+
+-- the struct of the call, and what was there where none was made
+abbrev pub call_or : PtCall → Pid → Pid → Bool → ℕ → Result Ref CallFault → PtCall
+call_or before client server has_deadline deadline (Ok m) = call_made client server m has_deadline deadline
+call_or before client server has_deadline deadline (Err f) = before
+
+-- a call is asked as a behaviour's; the code says whether it was made, and so the struct
+abbrev pub AsksServer : Pid → Pid → ℕ → Bool → ℕ → ℕ → PtCall → PtCall → DeskState → DeskState → Type 0
+AsksServer me server asks has_deadline deadline code before after old new =
+    (r : Result Ref CallFault) × (code ≡ told_code r) × (after ≡ call_or before me server has_deadline deadline r)
+    × Asks me server asks (until has_deadline deadline) old (call_asked me server (until has_deadline deadline) r) new
+
+-- hearing ----------------------------------------------------------------------------
+
+-- the call once its client got the item
+abbrev pub call_after : PtCall → Item → PtCall
+call_after c item = record c { waits = c.waits && not (is_some (says_to_call (call_in c) item)) }
+
+-- the item means to the call what it means to that of a behaviour
+abbrev pub HearsOne : Item → ℕ → PtCall → PtCall → PtHeard → DeskState → DeskState → Type 0
+HearsOne item code call left after old new =
+    (code ≡ 0) × (after ≡ heard_out (heard_by_call (call_in call) item)) × (left ≡ call_after call item)
+    × Closes (call_in call) item old new
+
+-- if its code means nothing, the code says so, and nothing has changed
+abbrev pub HearsItem : PtItem → ℕ → PtCall → PtCall → PtHeard → PtHeard → DeskState → DeskState → Type 0
+HearsItem item code call left before after old new =
+    MatchOption (item_in item) ((code ≡ bad_code) × (left ≡ call) × (after ≡ before) × (new ≡ old))
+    (λ i. HearsOne i code call left after old new)
+
+-- whether it ends by its deadline, and then its monitor is given up
+abbrev pub ExpiresAt : ℕ → Bool → PtCall → PtCall → DeskState → DeskState → Type 0
+ExpiresAt now is call left old new =
+    (is ≡ is_expired (call_in call) now)
+    × (left ≡ record call { waits = call.waits && not (is_due (call_in call) now) })
+    × Expires (call_in call) now old new
+
+-- an open call reports one end, by the first event that is one
+abbrev pub CallsEndOnce : Type 0
+CallsEndOnce =
+    (c : PtCall) (events : List CallEvent)
+    → ends_reported (call_in c) events ≡ cond c.waits (first_call_end (call_in c) events) []
+
+-- replying ---------------------------------------------------------------------------
+
+-- the request that the item is; if its code means nothing, the code says so
+abbrev pub ReadsRequest : PtItem → ℕ → PtRequest → PtRequest → Type 0
+ReadsRequest item code before after =
+    MatchOption (item_in item) ((code ≡ bad_code) × (after ≡ before))
+    (λ i. ShowsCode code before after request_out (request_of i))
+
+abbrev pub Replies : Pid → PtRequest → ℕ → ℕ → DeskState → DeskState → Type 0
+Replies me request n code old new =
+    (r : Result (Unit {0}) CallFault) × (code ≡ told_code r)
+    × SendsTo me (pid_crossed request.from) (answer (request_in request) n) old r new

@@ -1,0 +1,24 @@
+//! Calls that are answered, for C: what is asked, heard and replied, with plain structs and codes.
+//!
+//! They are the calls of `pt_crew` ([`Pending`](pt_crew::Pending), [`reply`](pt_crew::reply)), with a call and a request
+//! as plain structs that the program keeps. `pt_c` exports them.
+//!
+//! Tests: `bindings/run.sh`.
+//!
+//! # What is proved
+//!
+//! - **Asking.** `ask` does what `Pending::ask_until` does, and writes the call that it would return. (`AsksServer`)
+//! - **Hearing.** An item means to a call what it means to a `Pending`, and the call ends as that does. (`HearsItem`,
+//!   `ExpiresAt`)
+//! - **Once.** A call ends once: by its answer, by the exit of its server or by its deadline. (`CallsEndOnce`)
+//! - **Replying.** A request is what `request_of` returns for the item, and a reply is that of `reply`. (`ReadsRequest`,
+//!   `Replies`)
+//! - **Items.** What `pt_receive` writes is read as the item that was received, and no other code is. (`ItemsCross`)
+//! - **Refusals.** An item with a code that means nothing is refused, and nothing has changed.
+#![tactic(auto)]
+
+pub mod asking;
+pub mod hearing;
+pub mod items;
+pub mod replying;
+pub mod types;

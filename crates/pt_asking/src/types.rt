@@ -1,0 +1,41 @@
+//! The structs of calls that cross: plain.
+
+use pt_structs::types::{PtPid, PtReason, PtRef};
+
+/// A call that was made: the server that it waits for, until when (`deadline`, if `has_deadline`), and whether it still
+/// does.
+///
+/// The answer carries the number of the reference of its monitor.
+#[repr(C)]
+#[derive(Clone, Copy)]
+pub struct PtCall {
+    pub client: PtPid,
+    pub server: PtPid,
+    pub monitor: PtRef,
+    pub has_deadline: bool,
+    pub waits: bool,
+    pub deadline: u64,
+}
+
+/// A request that arrived: who asks, under which number, and what, as a number of the program's own.
+#[repr(C)]
+#[derive(Clone, Copy)]
+pub struct PtRequest {
+    pub from: PtPid,
+    pub asks: u32,
+    pub number: i64,
+}
+
+/// What an item means to a call. The codes are:
+///
+/// - 0: its answer (`answer`): the call has ended;
+/// - 1: its server has exited (`reason`), and there is no answer: the call has ended;
+/// - 2: its answer or its `DOWN`, after the call had ended;
+/// - 3: nothing of this call.
+#[repr(C)]
+#[derive(Clone, Copy)]
+pub struct PtHeard {
+    pub code: u32,
+    pub answer: u32,
+    pub reason: PtReason,
+}
