@@ -4,7 +4,7 @@ use Rattle.std.specs.Prelude.{Option, Some, None, Result, Ok, Err}
 use Rattle.pt_signal.specs.declared.pid.Pid.{Pid}
 use Rattle.pt_signal.specs.declared.ids.Ref.{Ref}
 use Rattle.pt_signal.specs.declared.item.Item.{Item}
-use Rattle.pt_desk.specs.DeskState.{DeskState}
+use Rattle.pt_desk.specs.DeskState.{DeskState, GoesOn}
 use Rattle.pt_crew.specs.declared.call_fault.CallFault.{CallFault}
 use Rattle.pt_crew.specs.declared.call_fault.CallFault.TheVariants.{Unknown, Refused}
 use Rattle.pt_crew.specs.declared.pending.Pending.{Pending}
@@ -24,18 +24,18 @@ use Rattle.pt_asking.specs.Items.{item_in}
 
 -- the structs ------------------------------------------------------------------------
 
-abbrev pub until : Bool → ℕ → Option ℕ
-until true deadline = Some deadline
-until false deadline = None
+abbrev pub deadline_of : Bool → ℕ → Option ℕ
+deadline_of true deadline = Some deadline
+deadline_of false deadline = None
 
 -- the call of a behaviour that the struct is
-abbrev pub call_in : PtCall → Pending
-call_in c = record {
+abbrev pub pending_of : PtCall → Pending
+pending_of c = record {
   client = pid_crossed c.client;
   server = pid_crossed c.server;
   monitor = ref_in c.monitor;
   number = pos c.monitor.number;
-  deadline = until c.has_deadline c.deadline;
+  deadline = deadline_of c.has_deadline c.deadline;
   waits = c.waits;
 }
 
@@ -75,8 +75,8 @@ told_code (Err f) = fault_code f
 -- asking -----------------------------------------------------------------------------
 
 -- the call that was made under this reference, or the fault for which none was
-abbrev pub call_asked : Pid → Pid → Option ℕ → Result Ref CallFault → Result Pending CallFault
-call_asked client server deadline (Ok m) = Ok (record {
+abbrev pub pending_asked : Pid → Pid → Option ℕ → Result Ref CallFault → Result Pending CallFault
+pending_asked client server deadline (Ok m) = Ok (record {
   client = client;
   server = server;
   monitor = m;
@@ -84,7 +84,7 @@ call_asked client server deadline (Ok m) = Ok (record {
   deadline = deadline;
   waits = true;
 })
-call_asked client server deadline (Err f) = Err f
+pending_asked client server deadline (Err f) = Err f
 
 -- the struct of the call, and what was there where none was made
 abbrev pub call_or : PtCall → Pid → Pid → Bool → ℕ → Result Ref CallFault → PtCall
@@ -92,51 +92,52 @@ call_or before client server has_deadline deadline (Ok m) = call_made client ser
 call_or before client server has_deadline deadline (Err f) = before
 
 -- a call is asked as a behaviour's; the code says whether it was made, and so the struct
-abbrev pub AsksServer : Pid → Pid → ℕ → Bool → ℕ → ℕ → PtCall → PtCall → DeskState → DeskState → Type 0
+unfoldable pub AsksServer : Pid → Pid → ℕ → Bool → ℕ → ℕ → PtCall → PtCall → DeskState → DeskState → Type 0
 AsksServer me server asks has_deadline deadline code before after old new =
     (r : Result Ref CallFault) × (code ≡ told_code r) × (after ≡ call_or before me server has_deadline deadline r)
-    × Asks me server asks (until has_deadline deadline) old (call_asked me server (until has_deadline deadline) r) new
+    × Asks me server asks (deadline_of has_deadline deadline) old (pending_asked me server (deadline_of has_deadline deadline) r) new
+    × GoesOn old new
 
 -- hearing ----------------------------------------------------------------------------
 
 -- the call once its client got the item
 abbrev pub call_after : PtCall → Item → PtCall
-call_after c item = record c { waits = c.waits && not (is_some (says_to_call (call_in c) item)) }
+call_after c item = record c { waits = c.waits && not (is_some (says_to_call (pending_of c) item)) }
 
 -- the item means to the call what it means to that of a behaviour
 abbrev pub HearsOne : Item → ℕ → PtCall → PtCall → PtHeard → DeskState → DeskState → Type 0
 HearsOne item code call left after old new =
-    (code ≡ 0) × (after ≡ heard_out (heard_by_call (call_in call) item)) × (left ≡ call_after call item)
-    × Closes (call_in call) item old new
+    (code ≡ 0) × (after ≡ heard_out (heard_by_call (pending_of call) item)) × (left ≡ call_after call item)
+    × Closes (pending_of call) item old new × GoesOn old new
 
 -- if its code means nothing, the code says so, and nothing has changed
-abbrev pub HearsItem : PtItem → ℕ → PtCall → PtCall → PtHeard → PtHeard → DeskState → DeskState → Type 0
+unfoldable pub HearsItem : PtItem → ℕ → PtCall → PtCall → PtHeard → PtHeard → DeskState → DeskState → Type 0
 HearsItem item code call left before after old new =
     MatchOption (item_in item) ((code ≡ bad_code) × (left ≡ call) × (after ≡ before) × (new ≡ old))
     (λ i. HearsOne i code call left after old new)
 
 -- whether it ends by its deadline, and then its monitor is given up
-abbrev pub ExpiresAt : ℕ → Bool → PtCall → PtCall → DeskState → DeskState → Type 0
-ExpiresAt now is call left old new =
-    (is ≡ is_expired (call_in call) now)
-    × (left ≡ record call { waits = call.waits && not (is_due (call_in call) now) })
-    × Expires (call_in call) now old new
+unfoldable pub ExpiresCode : ℕ → ℕ → PtCall → PtCall → Bool → DeskState → DeskState → Type 0
+ExpiresCode now code call left is old new =
+    (code ≡ 0) × (is ≡ is_expired (pending_of call) now)
+    × (left ≡ record call { waits = call.waits && not (is_due (pending_of call) now) })
+    × Expires (pending_of call) now old new × GoesOn old new
 
 -- an open call reports one end, by the first event that is one
 abbrev pub CallsEndOnce : Type 0
 CallsEndOnce =
     (c : PtCall) (events : List CallEvent)
-    → ends_reported (call_in c) events ≡ cond c.waits (first_call_end (call_in c) events) []
+    → ends_reported (pending_of c) events ≡ cond c.waits (first_call_end (pending_of c) events) []
 
 -- replying ---------------------------------------------------------------------------
 
 -- the request that the item is; if its code means nothing, the code says so
-abbrev pub ReadsRequest : PtItem → ℕ → PtRequest → PtRequest → Type 0
+unfoldable pub ReadsRequest : PtItem → ℕ → PtRequest → PtRequest → Type 0
 ReadsRequest item code before after =
     MatchOption (item_in item) ((code ≡ bad_code) × (after ≡ before))
     (λ i. ShowsCode code before after request_out (request_of i))
 
-abbrev pub Replies : Pid → PtRequest → ℕ → ℕ → DeskState → DeskState → Type 0
-Replies me request n code old new =
+unfoldable pub RepliesCode : Pid → PtRequest → ℕ → ℕ → DeskState → DeskState → Type 0
+RepliesCode me request n code old new =
     (r : Result (Unit {0}) CallFault) × (code ≡ told_code r)
-    × SendsTo me (pid_crossed request.from) (answer (request_in request) n) old r new
+    × SendsTo me (pid_crossed request.from) (answer (request_in request) n) old r new × GoesOn old new

@@ -3,7 +3,7 @@
 ghost use Rattle.std.specs.Prelude.{◌≡◌, ◌<◌, ◌^◌, pos, true, false, Option, ℕ};
 ghost use Rattle.pt_desk.specs.DeskState.{GoesOn};
 ghost use Rattle.pt_crew.specs.Asking.{Asks, refusal};
-ghost use Rattle.pt_asking.specs.Calls.{AsksServer, call_asked, call_made, fault_code};
+ghost use Rattle.pt_asking.specs.Calls.{AsksServer, pending_asked, call_made, fault_code};
 
 use crate::types::PtCall;
 use pt_crew::{CallFault, demonitor, monitor, send};
@@ -22,9 +22,9 @@ pub(crate) fn fault_code(fault: CallFault) -> u32
 }
 
 /// Asks a server, as `Pending::ask` does, and writes the call.
+#[tactic(auto, unfolding(crate::specs::Calls::AsksServer))]
 pub fn ask(desk: &mut Desk, me: Pid, server: Pid, asks: u32, out: &mut PtCall) -> u32
-    ensures does { AsksServer me server asks false 0 result out.old out.new desk.old desk.new }
-    ensures goes_on { GoesOn desk.old desk.new }
+    ensures { AsksServer me server asks false 0 result out.old out.new desk.old desk.new }
 {
     match begin(desk, me, server, asks) {
         Ok(reference) => {
@@ -36,6 +36,7 @@ pub fn ask(desk: &mut Desk, me: Pid, server: Pid, asks: u32, out: &mut PtCall) -
 }
 
 /// Asks a server until a moment, as `Pending::ask_until` does, and writes the call.
+#[tactic(auto, unfolding(crate::specs::Calls::AsksServer))]
 pub fn ask_until(
     desk: &mut Desk,
     me: Pid,
@@ -44,8 +45,7 @@ pub fn ask_until(
     deadline: u64,
     out: &mut PtCall,
 ) -> u32
-    ensures does { AsksServer me server asks true deadline result out.old out.new desk.old desk.new }
-    ensures goes_on { GoesOn desk.old desk.new }
+    ensures { AsksServer me server asks true deadline result out.old out.new desk.old desk.new }
 {
     match begin(desk, me, server, asks) {
         Ok(reference) => {
@@ -73,7 +73,7 @@ fn made(me: Pid, server: Pid, reference: Ref, has_deadline: bool, deadline: u64)
 /// Makes the monitor, and sends the request under its number. It returns the monitor's reference.
 fn begin(desk: &mut Desk, me: Pid, server: Pid, asks: u32) -> Result<Ref, CallFault>
     ensures does { (deadline : Option ℕ)
-        → Asks me server asks deadline desk.old (call_asked me server deadline result) desk.new }
+        → Asks me server asks deadline desk.old (pending_asked me server deadline result) desk.new }
     ensures goes_on { GoesOn desk.old desk.new }
 {
     let reference = monitor(desk, me, server)?;

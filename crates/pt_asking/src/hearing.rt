@@ -5,7 +5,7 @@ ghost use Rattle.std.specs.Ordering.{int_eq};
 ghost use Rattle.pt_desk.specs.DeskState.{GoesOn};
 ghost use Rattle.pt_crew.specs.Asking.{speaks_of};
 ghost use Rattle.pt_crew.specs.Ending.{Closes, IsGivenUp, heard_by_call, is_answer_to_call, is_due, says_to_call};
-ghost use Rattle.pt_asking.specs.Calls.{CallsEndOnce, ExpiresAt, HearsItem, call_after, call_in, heard_out};
+ghost use Rattle.pt_asking.specs.Calls.{CallsEndOnce, ExpiresCode, HearsItem, call_after, pending_of, heard_out};
 
 use crate::items::item_in;
 use crate::types::{PtCall, PtHeard};
@@ -43,9 +43,9 @@ fn heard_out(heard: Heard) -> PtHeard
 }
 
 /// Reads an item that the client got, as `Pending::hear` does, and writes what it means to the call.
+#[tactic(auto, unfolding(crate::specs::Calls::HearsItem))]
 pub fn hear(desk: &mut Desk, call: &mut PtCall, item: PtItem, out: &mut PtHeard) -> u32
-    ensures does { HearsItem item result call.old call.new out.old out.new desk.old desk.new }
-    ensures goes_on { GoesOn desk.old desk.new }
+    ensures { HearsItem item result call.old call.new out.old out.new desk.old desk.new }
 {
     let Some(item) = item_in(item) else {
         return BAD_CODE;
@@ -56,9 +56,9 @@ pub fn hear(desk: &mut Desk, call: &mut PtCall, item: PtItem, out: &mut PtHeard)
 
 /// What the item means to the call. If it ends by it, its monitor is cancelled.
 fn heard(desk: &mut Desk, call: &mut PtCall, item: Item) -> Heard
-    ensures heard { result ≡ heard_by_call (call_in call.old) item }
+    ensures heard { result ≡ heard_by_call (pending_of call.old) item }
     ensures after { call.new ≡ call_after call.old item }
-    ensures closes { Closes (call_in call.old) item desk.old desk.new }
+    ensures closes { Closes (pending_of call.old) item desk.old desk.new }
     ensures goes_on { GoesOn desk.old desk.new }
 {
     let Some(said) = says(*call, item) else {
@@ -72,21 +72,21 @@ fn heard(desk: &mut Desk, call: &mut PtCall, item: Item) -> Heard
 }
 
 /// Reports the time, as `Pending::expire` does, and writes whether the call ends by its deadline now.
-pub fn expire(desk: &mut Desk, call: &mut PtCall, now: u64) -> bool
-    ensures does { ExpiresAt now result call.old call.new desk.old desk.new }
-    ensures goes_on { GoesOn desk.old desk.new }
+#[tactic(auto, unfolding(crate::specs::Calls::ExpiresCode))]
+pub fn expire(desk: &mut Desk, call: &mut PtCall, now: u64, out: &mut bool) -> u32
+    ensures { ExpiresCode now result call.old call.new out.new desk.old desk.new }
 {
-    if !call.waits || !is_due(*call, now) {
-        return false;
+    *out = call.waits && is_due(*call, now);
+    if *out {
+        close(desk, call);
     }
-    close(desk, call);
-    true
+    DONE
 }
 
 /// Ends the call, and cancels its monitor. If that fails, the failure is ignored.
 fn close(desk: &mut Desk, call: &mut PtCall)
     ensures after { call.new ≡ record call.old { waits = false } }
-    ensures closes { IsGivenUp (call_in call.old) desk.old desk.new }
+    ensures closes { IsGivenUp (pending_of call.old) desk.old desk.new }
     ensures goes_on { GoesOn desk.old desk.new }
 {
     call.waits = false;
@@ -95,14 +95,14 @@ fn close(desk: &mut Desk, call: &mut PtCall)
 
 /// Whether the deadline has come, if there is one.
 fn is_due(call: PtCall, now: u64) -> bool
-    ensures { result ≡ is_due (call_in call) now }
+    ensures { result ≡ is_due (pending_of call) now }
 {
     call.has_deadline && call.deadline <= now
 }
 
 /// What the item means to the call, while it is open.
 fn says(call: PtCall, item: Item) -> Option<Heard>
-    ensures { result ≡ says_to_call (call_in call) item }
+    ensures { result ≡ says_to_call (pending_of call) item }
 {
     match item {
         Item::User(from, body) => {
@@ -117,7 +117,7 @@ fn says(call: PtCall, item: Item) -> Option<Heard>
 
 /// Whether the message is an answer of its server, under its number.
 fn is_answer(call: PtCall, from: Pid, body: Body) -> bool
-    ensures { result ≡ is_answer_to_call (call_in call) from body }
+    ensures { result ≡ is_answer_to_call (pending_of call) from body }
 {
     from == pid_in(call.server)
         && speaks_of(body, pid_in(call.client))

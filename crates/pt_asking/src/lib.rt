@@ -9,14 +9,15 @@
 //!
 //! - **Asking.** `ask` does what `Pending::ask_until` does, and writes the call that it would return. (`AsksServer`)
 //! - **Hearing.** An item means to a call what it means to a `Pending`, and the call ends as that does. (`HearsItem`,
-//!   `ExpiresAt`)
+//!   `ExpiresCode`)
 //! - **Once.** A call ends once: by its answer, by the exit of its server or by its deadline. (`CallsEndOnce`)
 //! - **Replying.** A request is what `request_of` returns for the item, and a reply is that of `reply`. (`ReadsRequest`,
-//!   `Replies`)
-//! - **Items.** What `pt_receive` writes is read as the item that was received, and no other code is. (`ItemsCross`)
+//!   `RepliesCode`)
+//! - **Items.** What `item_out` makes of an item is read as that item, and no other code is. (`ItemsCross`)
 //! - **Refusals.** An item with a code that means nothing is refused, and nothing has changed.
 #![tactic(auto)]
 
+pub mod about;
 pub mod asking;
 pub mod hearing;
 pub mod items;

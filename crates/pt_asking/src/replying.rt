@@ -1,8 +1,7 @@
 //! The side that is asked.
 
 ghost use Rattle.std.specs.Prelude.{◌≡◌};
-ghost use Rattle.pt_desk.specs.DeskState.{GoesOn};
-ghost use Rattle.pt_asking.specs.Calls.{ReadsRequest, Replies, request_in, request_out, told_code};
+ghost use Rattle.pt_asking.specs.Calls.{ReadsRequest, RepliesCode, request_in, request_out, told_code};
 
 use crate::asking::fault_code;
 use crate::items::item_in;
@@ -34,6 +33,7 @@ fn request_in(request: PtRequest) -> Request
 }
 
 /// The request that the item is, as `request_of` returns it.
+#[tactic(auto, unfolding(crate::specs::Calls::ReadsRequest))]
 pub fn request_of(item: PtItem, out: &mut PtRequest) -> u32
     ensures { ReadsRequest item result out.old out.new }
 {
@@ -50,9 +50,9 @@ pub fn request_of(item: PtItem, out: &mut PtRequest) -> u32
 }
 
 /// Answers a request, as `reply` does.
+#[tactic(auto, unfolding(crate::specs::Calls::RepliesCode))]
 pub fn reply(desk: &mut Desk, me: Pid, request: PtRequest, n: u32) -> u32
-    ensures does { Replies me request n result desk.old desk.new }
-    ensures goes_on { GoesOn desk.old desk.new }
+    ensures { RepliesCode me request n result desk.old desk.new }
 {
     told_code(reply_to(desk, me, request_in(request), n))
 }

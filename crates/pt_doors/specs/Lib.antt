@@ -1,1 +1,3 @@
 pub mod Doors
+pub mod Crossing
+pub mod Letters

@@ -1,7 +1,10 @@
-//! The way in for C: messages from threads that have no desk.
+//! The way in for C: messages from threads that have no desk. And where the letters of a desk are, for threads that sleep.
 //!
-//! A way in has two ends. A thread without a desk holds its [`Door`], and the thread of a desk the [`WayIn`]. Each is in a
-//! handle of its own. `pt_c` exports them.
+//! A way in has two ends. A thread without a desk holds its [`Door`](door::Door), and the thread of a desk the
+//! [`WayIn`](door::WayIn). Each is in a handle of its own. `pt_c` exports them.
+//!
+//! Who sleeps, and who wakes whom, is outside: [`letters_out`](letters::letters_out) says to which desks the next turn may
+//! post, and [`has_letters`](letters::has_letters) whether a turn has something to do.
 //!
 //! Tests: `bindings/run.sh`.
 //!
@@ -10,10 +13,16 @@
 //! - **The way in.** What was taken out is what was handed in at the door, in order, each message once. (`PostsAtDoor`,
 //!   `TakesPost`)
 //! - **Refusals.** `post` fails only if the door knows of no free place, and nothing has changed then.
+//! - **Letters.** The desks for which letters wait are told, each by its bit, and a turn posts to no others.
+//!   (`desks_with`, `PostsWhereLettersWait`)
+//! - **Nothing to do.** A desk has no letters only if none waits in it, and no lane to it shows one. (`HasLetters`)
 //! - **Handles.** What is put into a handle is what is taken out of it. Each may go to another thread.
 #![tactic(auto)]
 
 pub mod door;
 pub mod door_handle;
 pub mod held;
+pub mod letters;
+pub mod through;
+pub mod types;
 pub mod way_in_handle;

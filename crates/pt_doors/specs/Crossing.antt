@@ -1,0 +1,60 @@
+-- What the calls of a way in answer C.
+use Rattle.std.specs.Prelude.{◌≡◌, ◌⊎◌, ℕ, pos, cond, ◌||◌, [], Bool, true, is_some, length, MatchBool, Option}
+use Rattle.pt_places.specs.Places.{HandlePlace, ShowsCode, full, value_behind}
+use Rattle.pt_structs.specs.Codes.{filled}
+use Rattle.pt_structs.specs.Crossing.{body_in, body_out, pid_crossed, pid_out}
+use Rattle.pt_doors.specs.declared.door.Door.{Door}
+use Rattle.pt_doors.specs.declared.door.Post.{Post}
+use Rattle.pt_doors.specs.declared.door.WayIn.{WayIn}
+use Rattle.pt_doors.specs.declared.types.PtPost.{PtPost}
+use Rattle.pt_doors.specs.Doors.{KeepsDoor, KeepsWayIn, IsWayIn, LooksIn, PostsAtDoor, TakesPost}
+use Rattle.pt_doors.specs.Doors.{places_of_door, posted_at, free_places, seen_to_wait, taken_from, places_of_way_in}
+
+abbrev pub post_in : PtPost → Post
+post_in p = record { to = pid_crossed p.to; body = body_in p.body }
+
+abbrev pub post_out : Post → PtPost
+post_out p = record { to = pid_out p.to; body = body_out p.body }
+
+-- the door knows of no free place
+abbrev pub no_free_place : ℕ
+no_free_place = 1
+
+-- a new way in, all of whose places are free
+pub record IsNewWayIn (places : ℕ) (d : Door) (w : WayIn) : Type 0 where
+  pub pair : IsWayIn d w
+  pub door : (posted_at d ≡ []) × (free_places d ≡ places) × (places_of_door d ≡ places)
+  pub way_in : (taken_from w ≡ []) × (seen_to_wait w ≡ []) × (places_of_way_in w ≡ places)
+
+-- each handle has its end; or there was no memory, and both are as they were
+abbrev pub OpensBoth : ℕ → ℕ → HandlePlace Door → HandlePlace Door → HandlePlace WayIn → HandlePlace WayIn → Type 0
+OpensBoth places code door opened way_in entered =
+    ((code ≡ 0) × (d : Door) × (w : WayIn) × IsNewWayIn places d w × (opened ≡ full d) × (entered ≡ full w))
+    ⊎ ((code ≡ 2) × (opened ≡ door) × (entered ≡ way_in))
+
+-- where both handles are empty; else both are as they were
+abbrev pub OpensWayIn : ℕ → ℕ → HandlePlace Door → HandlePlace Door → HandlePlace WayIn → HandlePlace WayIn → Type 0
+OpensWayIn places code door opened way_in entered =
+    MatchBool (is_some (value_behind door) || is_some (value_behind way_in))
+    ((code ≡ filled) × (opened ≡ door) × (entered ≡ way_in))
+    (OpensBoth places code door opened way_in entered)
+
+-- whether it was handed in
+abbrev pub PostsCode : Post → ℕ → Door → Door → Type 0
+PostsCode post code old new =
+    (is : Bool) × (code ≡ cond is 0 no_free_place) × PostsAtDoor post old is new × KeepsDoor old new
+
+abbrev pub TakesCode : ℕ → PtPost → PtPost → WayIn → WayIn → Type 0
+TakesCode code before after old new =
+    (p : Option Post) × ShowsCode code before after post_out p × TakesPost old p new × KeepsWayIn old new
+
+abbrev pub LooksInCode : ℕ → ℕ → WayIn → WayIn → Type 0
+LooksInCode code count old new =
+    (code ≡ 0) × (count ≡ length (seen_to_wait new)) × LooksIn old new × KeepsWayIn old new
+
+-- a message whose fields have the numbers 1, 2, 3 and so on, in order
+abbrev pub sample_post : PtPost
+sample_post = record {
+  to = record { shard = 1; slot = 2; version = 3 };
+  body = record { kind = 4; num = pos 5; has_who = true; who = record { shard = 7; slot = 8; version = 9 } };
+}
