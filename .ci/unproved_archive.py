@@ -29,7 +29,7 @@ ROOT = Path(__file__).resolve().parent.parent
 PROGRAM = "pt_c_unproved"
 EXPORT = re.compile(r'#\[unsafe\(no_mangle\)\]\n(?:#\[.*\]\n)*pub extern "C" fn (\w+)\(([^)]*)\)( -> u32)?')
 # How a struct that is passed by value crosses: by a pointer, or as its two fields.
-BY_POINTER = ("PtPid", "PtBody", "PtPick", "PtConfig", "PtNext")
+BY_POINTER = ("PtPid", "PtBody", "PtPick", "PtConfig", "PtNext", "PtItem", "PtRequest", "PtPost")
 BY_FIELDS = {"PtRef": ("desk", "number"), "PtReason": ("code", "number"), "PtTimer": ("at", "number")}
 FIELD_TYPES = {"PtRef": ["uint8_t", "uint64_t"], "PtReason": ["uint32_t", "uint32_t"], "PtTimer": ["uint64_t", "uint64_t"]}
 ROW = re.compile(r"(&(?:mut )?)\[(\w+)\]")
@@ -170,6 +170,9 @@ typedef struct { uint32_t kind; int64_t num; bool has_who; PtPid who; } PtBody;
 typedef struct { uint32_t code; uint32_t kind; PtPid pid; PtRef reference; } PtPick;
 typedef struct { uint32_t slots; uint32_t top_version; uint32_t lane; uint64_t start; } PtConfig;
 typedef struct { uint32_t code; PtReason reason; uint64_t until; PtPick pick; } PtNext;
+typedef struct { uint32_t code; bool alive; PtPid pid; PtRef reference; PtReason reason; PtBody body; } PtItem;
+typedef struct { PtPid from; uint32_t asks; int64_t number; } PtRequest;
+typedef struct { PtPid to; PtBody body; } PtPost;
 """
 
 

@@ -1,13 +1,13 @@
 //! The process table for C: a static library, whose header is `bindings/c/pundewo.h`.
 //!
 //! C keeps opaque handles of one pointer: for a desk, a gathered node, a settled one with and without the list of its
-//! pids, a history, a crew, timers, and names. An export takes the value out of the handle, makes the call of Rattle
+//! pids, a history, a crew, timers, names, and the two ends of a way in. An export takes the value out of the handle, makes the call of Rattle
 //! that has its name, and puts the value back. By its contract, its code and what it writes are that call's answer, and
 //! if it fails, all is as it was. An empty handle is a code, too.
 //!
 //! Values with an enum or an option in Rattle cross as plain structs with a code (`pt_structs::types`). `about` reports
-//! codes, sizes and fields, to be compared with a header. `pt_table` has what is not exported, and `pt_tools` that of
-//! timers.
+//! codes, sizes and fields, to be compared with a header. `pt_table` has what is not exported, `pt_tools` that of
+//! timers, `pt_asking` that of calls, and `pt_doors` that of a way in.
 //!
 //! Tests: `bindings/run.sh`.
 //!
@@ -23,6 +23,9 @@
 //!   answers each is taken, up to the first that is refused. (`CrewSteps`, `AnswersInOrder`)
 //! - **Timers and names.** Each call is that of `Timers` and of `Names`, with bytes for a name. (`StartsTimer`,
 //!   `RegistersName`)
+//! - **Calls.** Asking, hearing and replying are those of `pt_crew`, and a call ends once. (`AsksServer`, `HearsItem`)
+//! - **Letters and doors.** The next turn posts to no other desks than those told. What is taken out of a way in is what was
+//!   handed in, in order. (`PostsWhereLettersWait`, `TakesCode`)
 //! - **Nodes.** Opening, gathering, settling and resuming leave in the handles what `open`, `gather`, `settle` and
 //!   `resume` promise, or `settle_unlisted` and `resume_settled`.
 //! - **Going on.** A node and its crews go through the stages of a pause in one call. Whichever is refused, its code says
@@ -31,9 +34,11 @@
 #![tactic(auto)]
 
 mod about;
+mod asking;
 mod calls;
 mod crews;
 mod going_on;
+mod letters;
 mod losses;
 mod names;
 mod naming;
@@ -42,3 +47,4 @@ mod reads;
 mod resuming;
 mod settled;
 mod timers;
+mod ways_in;
