@@ -115,7 +115,7 @@ by_the_page() { # SED-SCRIPT
 mkdir -p "$work/page"
 ln -s "$here" "$work/page/bindings"
 by_the_page '' >"$work/printed"
-for example in about bad_codes crew crew_load losses no_memory refused refused_tools resumed ring supervisor tools; do
+for example in about asking bad_codes crew crew_load losses no_memory refused refused_tools resumed ring supervisor tools; do
     by_the_page "/^\.\//d; s/ping_pong/$example/g" >"$work/printed"
     [ -x "$work/page/$example" ] || { echo "bindings: the lines of docs/EMBEDDING.md do not build $example"; exit 1; }
 done
@@ -125,6 +125,7 @@ echo "c: the lines of docs/EMBEDDING.md build the examples"
 
 # C, and C++ for the header
 build about
+build asking
 build bad_codes
 build crew
 build crew_load
@@ -140,6 +141,7 @@ build refused_tools
 "$work/about"
 "$work/bad_codes"
 "$work/crew_load"
+"$work/asking" | diff "$here/c/asking.out" -
 "$work/crew" | diff "$here/c/crew.out" -
 "$work/rows" "$work/table"
 "$work/no_memory"
@@ -153,13 +155,14 @@ build refused_tools
 for standard in c++11 c++20; do
     echo '#include "pundewo_text.h"
         pt_desk desk = PT_NO_DESK; pt_gathered node = PT_NO_GATHERED; pt_quiet quiet = PT_NO_QUIET; pt_history all = PT_NO_HISTORY;
-        pt_crew crew = PT_NO_CREW; pt_timers timers = PT_NO_TIMERS; pt_names names = PT_NO_NAMES;' |
+        pt_crew crew = PT_NO_CREW; pt_timers timers = PT_NO_TIMERS; pt_names names = PT_NO_NAMES;
+        pt_door door = PT_NO_DOOR; pt_way_in way_in = PT_NO_WAY_IN;' |
         cc -x c++ -std=$standard -I "$here/c" -Wall -Wextra -Wpedantic -Werror -fsyntax-only -
 done
 if command -v valgrind >/dev/null; then
     # (fair: four threads that spin would else wait for each other for minutes)
     memory="valgrind -q --fair-sched=try --error-exitcode=9 --leak-check=full --show-leak-kinds=all --errors-for-leak-kinds=all"
-    for program in about bad_codes losses "rows $work/table" supervisor resumed tools "ring 20" crew "crew_load 3000"; do
+    for program in about asking bad_codes losses "rows $work/table" supervisor resumed tools "ring 20" crew "crew_load 3000"; do
         $memory "$work/"$program >"$work/printed" 2>&1 \
             || { cat "$work/printed"; echo "valgrind: $program is not clean"; exit 1; }
     done

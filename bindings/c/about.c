@@ -70,6 +70,26 @@ static void samples(void) {
     pid(b.pid); does(b.next);
 }
 
+/* The structs of calls, and a message from outside. */
+static void asking(void) {
+    size_t size;
+    pt_post post;
+    SAMPLE(pt_asking_about, s, pt_about_asking);
+    pid(s.call.client); pid(s.call.server); ref(s.call.monitor);
+    TRUE(s.call.has_deadline); TRUE(s.call.waits); NEXT(s.call.deadline);
+    next = 0;
+    pid(s.request.from); NEXT(s.request.asks); NEXT(s.request.number);
+    next = 0;
+    NEXT(s.heard.code); NEXT(s.heard.answer); reason(s.heard.reason);
+    is("pt_call", s.call_size, sizeof(pt_call));
+    is("pt_request", s.request_size, sizeof(pt_request));
+    is("pt_heard", s.heard_size, sizeof(pt_heard));
+    pt_about_post(&post, &size);
+    next = 0;
+    pid(post.to); body(post.body);
+    is("pt_post", size, sizeof(pt_post));
+}
+
 static void sizes(void) {
     pt_sizes s;
     pt_about_sizes(&s);
@@ -122,6 +142,7 @@ static void codes(void) {
 
 int main(void) {
     samples();
+    asking();
     sizes();
     codes();
     printf("c: about, %d wrong\n", wrong);

@@ -43,6 +43,8 @@ typedef struct { void *at; } pt_history;
 typedef struct { void *at; } pt_crew;
 typedef struct { void *at; } pt_timers;
 typedef struct { void *at; } pt_names;
+typedef struct { void *at; } pt_door;
+typedef struct { void *at; } pt_way_in;
 
 #ifdef __cplusplus
 #define PT_NO_DESK pt_desk{nullptr}
@@ -53,6 +55,8 @@ typedef struct { void *at; } pt_names;
 #define PT_NO_CREW pt_crew{nullptr}
 #define PT_NO_TIMERS pt_timers{nullptr}
 #define PT_NO_NAMES pt_names{nullptr}
+#define PT_NO_DOOR pt_door{nullptr}
+#define PT_NO_WAY_IN pt_way_in{nullptr}
 #else
 #define PT_NO_DESK ((pt_desk){0})
 #define PT_NO_GATHERED ((pt_gathered){0})
@@ -62,6 +66,8 @@ typedef struct { void *at; } pt_names;
 #define PT_NO_CREW ((pt_crew){0})
 #define PT_NO_TIMERS ((pt_timers){0})
 #define PT_NO_NAMES ((pt_names){0})
+#define PT_NO_DOOR ((pt_door){0})
+#define PT_NO_WAY_IN ((pt_way_in){0})
 #endif
 
 /* The name and the version of the library, and whether it was proved. */
@@ -70,7 +76,7 @@ extern const char pundewo_build[];
 /* What calls answer. */
 enum pt_code {
     PT_OK = 0,
-    PT_FULL = 1,            /* no slot is free */
+    PT_FULL = 1,            /* no slot is free, or no place of a door */
     PT_MEMORY = 2,          /* malloc or realloc refused; the call may be made again */
     PT_WORN = 3,            /* the clock stands at its limit, 2^62 */
     PT_GONE = 4,            /* the acting process does not live on this desk */
@@ -216,6 +222,26 @@ typedef struct { char letters[32]; } pt_name;
 /* The process that has a name, and the monitor that it was registered with. */
 typedef struct { pt_pid pid; pt_ref monitor; } pt_holder;
 
+/* A call that was made: the server that it waits for, until when (`deadline`, where `has_deadline`), and whether it still
+ * does. It is yours: keep it while it waits, and show it each item that its client gets (pt_hear). */
+typedef struct {
+    pt_pid client; pt_pid server; pt_ref monitor; bool has_deadline; bool waits; uint64_t deadline;
+} pt_call;
+
+/* A request that arrived: who asks, what, as a number of your own, and the number that its answer carries. */
+typedef struct { pt_pid from; uint32_t asks; int64_t number; } pt_request;
+
+/* What an item means to a call:
+ *  - ANSWER: it is its answer, `answer`, and the call has ended;
+ *  - SERVER_DOWN: its server has exited with `reason`, there is no answer, and the call has ended;
+ *  - LATE: it is its answer or its DOWN, after the call had ended: nothing is left to do with it;
+ *  - NOT_MINE: it is nothing of this call. */
+enum { PT_HEARD_ANSWER = 0, PT_HEARD_SERVER_DOWN = 1, PT_HEARD_LATE = 2, PT_HEARD_NOT_MINE = 3 };
+typedef struct { uint32_t code; uint32_t answer; pt_reason reason; } pt_heard;
+
+/* A message from a thread without a desk, to a process of any desk. */
+typedef struct { pt_pid to; pt_body body; } pt_post;
+
 /* ---- nodes */
 
 /* Opens a node: the `count` handles, all empty, get its desks, in order. PT_FILLED, PT_MEMORY, PT_BAD_.. */
@@ -256,6 +282,8 @@ uint32_t pt_history_give_up(pt_history *history);
 uint32_t pt_crew_give_up(pt_crew *crew);
 uint32_t pt_timers_give_up(pt_timers *timers);
 uint32_t pt_names_give_up(pt_names *names);
+uint32_t pt_door_give_up(pt_door *door);
+uint32_t pt_way_in_give_up(pt_way_in *way_in);   /* the messages that wait in it are dropped */
 
 /* ---- calls of a process on its desk. Each may answer PT_GONE, PT_WORN, PT_MEMORY and PT_EMPTY
  *
@@ -277,6 +305,60 @@ uint32_t pt_exit(pt_desk *desk, pt_pid p, pt_reason reason);                    
 
 /* Posts the letters that wait, and handles at most `budget`. PT_EMPTY; what stopped it stands in `out`. */
 uint32_t pt_turn(pt_desk *desk, uint32_t budget, pt_turned *out);
+
+/* The desks for which letters wait in the outbox, a bit for each, the lowest that of desk 0. A turn posts only to desks for
+ * which letters waited as it began (that is proved): so ask right before pt_turn or pt_crew_step, and wake the threads of
+ * these desks right after it. PT_EMPTY. */
+uint32_t pt_letters_out(pt_desk *desk, uint64_t *out);
+
+/* Whether a letter waits: in the outbox, or in front of the others since a turn stopped at it, or in a lane to the desk
+ * that shows one. If not, a turn does nothing until another desk posts to this one. It looks at the lanes, and nothing else
+ * of the desk changes. PT_EMPTY. */
+uint32_t pt_has_letters(pt_desk *desk, bool *out);
+
+/* ---- calls that are answered, as Erlang's gen_server:call. Each that gets a desk may answer PT_EMPTY, which comes first;
+ * each that gets an item answers PT_BAD_CODE next, if its code or that of its reason means nothing. No call takes an item
+ * out of a mailbox. */
+
+/* Asks a server: monitors it, and sends it the request under the number of the monitor. `out` gets the call. pt_ask_until
+ * makes a call that ends at the moment `deadline` if it is open then (pt_expire); the moment may have passed. As
+ * pt_monitor, and then nothing is asked; PT_WORN and PT_MEMORY too where the request was not sent, and then the monitor is
+ * cancelled. If the server is seen to have exited only as the request is sent, the call is made, and its DOWN ends it. */
+uint32_t pt_ask(pt_desk *desk, pt_pid me, pt_pid server, uint32_t asks, pt_call *out);
+uint32_t pt_ask_until(pt_desk *desk, pt_pid me, pt_pid server, uint32_t asks, uint64_t deadline, pt_call *out);
+
+/* Reads an item that the client got: `out` gets what it means to the call. If the call ends by it, its monitor is
+ * cancelled, and `waits` is false; a call ends once. PT_BAD_CODE. */
+uint32_t pt_hear(pt_desk *desk, pt_call *call, pt_item item, pt_heard *out);
+
+/* Reports the time: `out` gets whether the call ends by its deadline now, since it is open and the deadline is not above
+ * `now`. Its monitor is cancelled then, and an answer that arrives later is LATE. So show the call what waits in the mailbox
+ * first. */
+uint32_t pt_expire(pt_desk *desk, pt_call *call, uint64_t now, bool *out);
+
+/* The request that the item is: a message that names its own sender. PT_BAD_CODE; PT_NOTHING: it is none. */
+uint32_t pt_request_of(pt_item item, pt_request *out);
+
+/* Answers a request, at once or later. As pt_send; if the client has exited, there is nothing left to do. */
+uint32_t pt_reply(pt_desk *desk, pt_pid me, pt_request request, uint32_t answer);
+
+/* ---- the way in: messages from threads that have no desk. Each may answer PT_EMPTY
+ *
+ * A way in has two ends, each in a handle of its own: a thread without a desk holds the door, and the thread of a desk the
+ * way in. The two may be used at the same time. What is taken out is what was handed in, in order, each message once. Who
+ * sleeps, and who is woken, is yours: wake the thread of the desk after pt_door_post. */
+
+/* Makes a way in with so many places. PT_FILLED where either handle is not empty; PT_MEMORY. */
+uint32_t pt_door_open(pt_door *door, pt_way_in *way_in, uint32_t places);
+
+/* Hands in a message. PT_FULL: the door knows of no free place, and nothing has changed. */
+uint32_t pt_door_post(pt_door *door, pt_post post);
+
+/* Takes out the oldest message that waits: send it on with pt_send, as a process of the desk. PT_NOTHING: none waits. */
+uint32_t pt_way_in_take(pt_way_in *way_in, pt_post *out);
+
+/* The number of messages that wait. More may be handed in at any time. */
+uint32_t pt_way_in_len(pt_way_in *way_in, size_t *out);
 
 /* ---- what a desk lost. Each may answer PT_EMPTY
  *
@@ -528,6 +610,9 @@ typedef struct {
         pid, reference, ids, reason, body, item, pick, signal, event, left_over, turned, account, config, next, job,
         answer, loss, timer, fired, name, holder, codes;
 } pt_sizes;
+typedef struct {
+    pt_call call; pt_request request; pt_heard heard; size_t call_size, request_size, heard_size;
+} pt_asking_about;
 void pt_about_codes(pt_codes *out);
 void pt_about_sizes(pt_sizes *out);
 
@@ -542,6 +627,8 @@ void pt_about_holder(pt_holder *out);
 void pt_about_config(pt_config *out);
 void pt_about_job(pt_job *out);
 void pt_about_answer(pt_answer *out);
+void pt_about_asking(pt_asking_about *out);       /* samples, and their sizes */
+void pt_about_post(pt_post *out, size_t *size);   /* and its size */
 
 #ifdef __cplusplus
 }

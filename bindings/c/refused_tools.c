@@ -1,4 +1,4 @@
-/* Timers and names are refused memory at each piece that they take, once for each. The call says so and has changed nothing,
+/* Timers, names and a way in are refused memory at each piece that they take, once for each. The call says so and has changed nothing,
  * and the same call made again does it. No memory is kept in the end. */
 #include <assert.h>
 #include <stdio.h>
@@ -9,7 +9,7 @@
 
 enum { MANY = 60 };
 
-typedef struct { pt_timers timers; pt_names names; } tools;
+typedef struct { pt_timers timers; pt_names names; pt_door door; pt_way_in way_in; } tools;
 
 static pt_pid pid(uint32_t slot) { return (pt_pid){0, slot, 1}; }
 
@@ -62,6 +62,10 @@ static void play(tools *t) {
         assert(pt_names_register(&t->names, text, strlen(text), pid(k), (pt_ref){0, 1}) == PT_OK);
     }
     look(t, MANY, MANY);
+    if ((code = pt_door_open(&t->door, &t->way_in, 4)) != PT_OK) {
+        assert(code == PT_MEMORY && t->door.at == NULL && t->way_in.at == NULL);
+        assert(pt_door_open(&t->door, &t->way_in, 4) == PT_OK);
+    }
 }
 
 int main(void) {
@@ -69,14 +73,15 @@ int main(void) {
     long pieces = 0;
     setvbuf(stdout, buffer, _IOFBF, sizeof buffer);
     for (was_refused = true; was_refused; pieces++) {
-        tools t = {PT_NO_TIMERS, PT_NO_NAMES};
+        tools t = {PT_NO_TIMERS, PT_NO_NAMES, PT_NO_DOOR, PT_NO_WAY_IN};
         long before = taken;
         was_refused = false;
         refuse_in = pieces;
         play(&t);
         refuse_in = -1;
-        assert(pt_timers_give_up(&t.timers) == PT_OK && pt_names_give_up(&t.names) == PT_OK && taken == before);
+        assert(pt_timers_give_up(&t.timers) == PT_OK && pt_names_give_up(&t.names) == PT_OK);
+        assert(pt_door_give_up(&t.door) == PT_OK && pt_way_in_give_up(&t.way_in) == PT_OK && taken == before);
     }
-    printf("c: timers and names were refused memory %ld times, and nothing was lost\n", pieces - 1);
+    printf("c: timers, names and a way in were refused memory %ld times, and nothing was lost\n", pieces - 1);
     return pieces < 10;
 }

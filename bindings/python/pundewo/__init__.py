@@ -78,6 +78,7 @@ _CALLS = {
     "peek": "waiting", "loss_at": "next_loss", "loss_item": "next_loss", "quiet_pid_at": "Quiet.pids",
     "history_at": "History.events", "history_left_at": "History.left_over", "history_count": "History.__len__",
     "crew_len": "Crew.__len__", "crew_open": "Crew", "crew_note_loss": "Crew.next_loss",
+    "ask_until": "ask", "door_open": "way_in", "way_in_take": "WayIn.take", "way_in_len": "WayIn.__len__",
     "timers_open": "Timers", "timers_len": "Timers.__len__", "names_open": "Names", "names_len": "Names.__len__",
 }
 
@@ -86,7 +87,7 @@ def _called(call: Callable[..., int]) -> str:
     """The name of the call of this module that makes this one of the library."""
     name = getattr(call, "__name__", "").removeprefix("pt_")
     where, _, rest = name.partition("_")
-    is_of = where in ("crew", "gathered", "settled", "quiet", "history", "timers", "names")
+    is_of = where in ("crew", "gathered", "settled", "quiet", "history", "timers", "names", "door")
     return _CALLS.get(name) or (f"{where.capitalize()}.{rest}" if is_of else name)
 
 

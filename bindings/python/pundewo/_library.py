@@ -107,6 +107,28 @@ class CHolder(c.Structure):
     _fields_ = [("pid", CPid), ("monitor", CRef)]
 
 
+class CCall(c.Structure):
+    _fields_ = [("client", CPid), ("server", CPid), ("monitor", CRef), ("has_deadline", c.c_bool), ("waits", c.c_bool),
+                ("deadline", c.c_uint64)]
+
+
+class CRequest(c.Structure):
+    _fields_ = [("sender", CPid), ("asks", c.c_uint32), ("number", c.c_int64)]
+
+
+class CHeard(c.Structure):
+    _fields_ = [("code", c.c_uint32), ("answer", c.c_uint32), ("reason", CReason)]
+
+
+class CPost(c.Structure):
+    _fields_ = [("to", CPid), ("body", CBody)]
+
+
+class CAskingAbout(c.Structure):
+    _fields_ = [("call", CCall), ("request", CRequest), ("heard", CHeard), ("call_size", c.c_size_t),
+                ("request_size", c.c_size_t), ("heard_size", c.c_size_t)]
+
+
 class CHandle(c.Structure):
     _fields_ = [("at", c.c_void_p)]
 
@@ -202,13 +224,18 @@ def _declare() -> None:
         "names_check": [c.c_char_p, size, CPid], "names_whereis": [c.c_char_p, size, p(CPid)],
         "names_unregister": [c.c_char_p, size, p(CHolder)], "names_forget": [CPid, p(CName)],
         "names_name_of": [CPid, p(CName)], "names_len": [p(size)],
+        "ask": [CPid, CPid, c.c_uint32, p(CCall)], "ask_until": [CPid, CPid, c.c_uint32, c.c_uint64, p(CCall)],
+        "hear": [p(CCall), CItem, p(CHeard)], "expire": [p(CCall), c.c_uint64, p(flag)], "request_of": [CItem, p(CRequest)],
+        "reply": [CPid, CRequest, c.c_uint32], "letters_out": [p(c.c_uint64)], "has_letters": [p(flag)],
+        "door_open": [p(CHandle), c.c_uint32], "door_give_up": [], "way_in_give_up": [], "door_post": [CPost],
+        "way_in_take": [p(CPost)], "way_in_len": [p(size)],
         "quiet_desks": [p(c.c_uint8)], "history_left_count": [p(size)], "history_left_at": [size, p(CLeftOver)],
     }
     for name, words in calls.items():
         call = getattr(lib, "pt_" + name, None)
         if call is None:
             raise other(f"is {BUILD}, and has no call pt_{name}")
-        call.argtypes = words if name in ("open", "gather", "crews_go_on") else [p(CHandle), *words]
+        call.argtypes = words if name in ("open", "gather", "crews_go_on", "request_of") else [p(CHandle), *words]
         call.restype = c.c_uint32
 
 
@@ -346,6 +373,18 @@ def c_reason(field: str, reason: Reason) -> CReason:
 def c_body(field: str, body: Body) -> CBody:
     kind, num, who = body if type(body) is Body else own(field, body, Body)
     return CBody(kind, num) if who is None else CBody(kind, num, True, c_pid(f"{field}.who", who))
+
+
+def c_item(field: str, item: Item) -> CItem:
+    name, pid, reference, reason, body, alive = own(field, item, Item)
+    crossing = CItem(code=ITEMS.index(name), pid=c_pid(f"{field}.pid", pid), alive=bool(alive))
+    if reference is not None:
+        crossing.reference = c_ref(f"{field}.reference", reference)
+    if reason is not None:
+        crossing.reason = c_reason(f"{field}.reason", reason)
+    if body is not None:
+        crossing.body = c_body(f"{field}.body", body)
+    return crossing
 
 
 def c_pick(field: str, pick: Pick) -> CPick:

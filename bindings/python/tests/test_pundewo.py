@@ -10,8 +10,8 @@ import pundewo.values as v
 from crew_rows import OnCrew
 from pundewo import Code, Config, Fault, Pick, Pid, Reason, Ref
 from pundewo._library import (
-    CAccount, CAnswer, CBody, CConfig, CEvent, CFired, CHolder, CIds, CItem, CJob, CLeftOver, CLoss, CName, CNext, CPick,
-    CPid, CReason, CRef, CSignal, CTimer, CTurned, lib,
+    CAccount, CAnswer, CAskingAbout, CBody, CCall, CConfig, CEvent, CFired, CHeard, CHolder, CIds, CItem, CJob, CLeftOver,
+    CLoss, CName, CNext, CPick, CPid, CPost, CReason, CRef, CRequest, CSignal, CTimer, CTurned, lib,
 )
 
 
@@ -268,6 +268,16 @@ class About(unittest.TestCase):
             getattr(lib, f"pt_about_{name}")(c.byref(sample))
             told = self.numbers(sample, [])
             self.assertEqual(told, list(range(1, len(told) + 1)), name)
+
+    def test_structs_of_calls(self) -> None:
+        about, post, size = CAskingAbout(), CPost(), c.c_size_t()
+        lib.pt_about_asking(c.byref(about))
+        lib.pt_about_post(c.byref(post), c.byref(size))
+        for sample in (about.call, about.request, about.heard, post):
+            told = self.numbers(sample, [])
+            self.assertEqual(told, list(range(1, len(told) + 1)), sample)
+        self.assertEqual((about.call_size, about.request_size, about.heard_size, size.value),
+                         (c.sizeof(CCall), c.sizeof(CRequest), c.sizeof(CHeard), c.sizeof(CPost)))
 
     def test_sizes_and_codes(self) -> None:
         kinds = [CPid, CRef, CIds, CReason, CBody, CItem, CPick, CSignal, CEvent, CLeftOver,

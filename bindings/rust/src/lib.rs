@@ -63,6 +63,7 @@ struct Readme;
 #[doc = include_str!("../../../docs/RUNTIME_RUST.md")]
 struct Page;
 
+mod asking;
 mod crew;
 mod iterators;
 #[doc(hidden)]
@@ -73,6 +74,7 @@ pub mod runtime;
 mod tools;
 mod values;
 
+pub use asking::{Call, Door, Heard, Post, Request, WayIn, way_in};
 pub use crew::{Crew, Job, Next, Node, NodeBack, NotTaken, What, go_on};
 pub use iterators::{Events, Journal, LeftOvers, Links, Living, Monitors, Pids, Waiting, Watchers};
 pub use reading::NotRead;

@@ -183,6 +183,51 @@ pub struct RawHolder {
     pub monitor: RawRef,
 }
 
+#[repr(C)]
+#[derive(Clone, Copy, Debug, Default)]
+pub struct RawCall {
+    pub client: Pid,
+    pub server: Pid,
+    pub monitor: RawRef,
+    pub has_deadline: bool,
+    pub waits: bool,
+    pub deadline: u64,
+}
+
+#[repr(C)]
+#[derive(Clone, Copy, Debug, Default)]
+pub struct RawRequest {
+    pub from: Pid,
+    pub asks: u32,
+    pub number: i64,
+}
+
+#[repr(C)]
+#[derive(Clone, Copy, Debug, Default)]
+pub struct RawHeard {
+    pub code: u32,
+    pub answer: u32,
+    pub reason: RawReason,
+}
+
+#[repr(C)]
+#[derive(Clone, Copy, Debug, Default)]
+pub struct RawPost {
+    pub to: Pid,
+    pub body: RawBody,
+}
+
+#[repr(C)]
+#[derive(Clone, Copy, Debug, Default)]
+pub struct RawAskingAbout {
+    pub call: RawCall,
+    pub request: RawRequest,
+    pub heard: RawHeard,
+    pub call_size: usize,
+    pub request_size: usize,
+    pub heard_size: usize,
+}
+
 unsafe extern "C" {
     /// The first byte of a text that ends with a zero.
     pub static pundewo_build: std::ffi::c_char;
@@ -297,6 +342,20 @@ unsafe extern "C" {
     pub fn pt_names_forget(names: &mut Handle, p: Pid, out: &mut RawName) -> u32;
     pub fn pt_names_name_of(names: &mut Handle, p: Pid, out: &mut RawName) -> u32;
     pub fn pt_names_len(names: &mut Handle, out: &mut usize) -> u32;
+    pub fn pt_ask(h: &mut Handle, me: Pid, server: Pid, asks: u32, out: &mut RawCall) -> u32;
+    pub fn pt_ask_until(h: &mut Handle, me: Pid, server: Pid, asks: u32, deadline: u64, out: &mut RawCall) -> u32;
+    pub fn pt_hear(h: &mut Handle, call: &mut RawCall, item: RawItem, out: &mut RawHeard) -> u32;
+    pub fn pt_expire(h: &mut Handle, call: &mut RawCall, now: u64, out: &mut bool) -> u32;
+    pub fn pt_request_of(item: RawItem, out: &mut RawRequest) -> u32;
+    pub fn pt_reply(h: &mut Handle, me: Pid, request: RawRequest, answer: u32) -> u32;
+    pub fn pt_letters_out(h: &mut Handle, out: &mut u64) -> u32;
+    pub fn pt_has_letters(h: &mut Handle, out: &mut bool) -> u32;
+    pub fn pt_door_open(door: &mut Handle, way_in: &mut Handle, places: u32) -> u32;
+    pub fn pt_door_give_up(door: &mut Handle) -> u32;
+    pub fn pt_way_in_give_up(way_in: &mut Handle) -> u32;
+    pub fn pt_door_post(door: &mut Handle, post: RawPost) -> u32;
+    pub fn pt_way_in_take(way_in: &mut Handle, out: &mut RawPost) -> u32;
+    pub fn pt_way_in_len(way_in: &mut Handle, out: &mut usize) -> u32;
     pub fn pt_about_codes(out: *mut u32);
     pub fn pt_about_sizes(out: *mut usize);
     pub fn pt_about_event(out: &mut RawEvent);
@@ -309,4 +368,6 @@ unsafe extern "C" {
     pub fn pt_about_holder(out: &mut RawHolder);
     pub fn pt_about_job(out: &mut RawJob);
     pub fn pt_about_answer(out: &mut RawAnswer);
+    pub fn pt_about_asking(out: &mut RawAskingAbout);
+    pub fn pt_about_post(out: &mut RawPost, size: &mut usize);
 }

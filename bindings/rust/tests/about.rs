@@ -59,6 +59,10 @@ fields!(RawAnswer: pid next);
 fields!(RawTimer: at number);
 fields!(RawFired: timer body);
 fields!(RawHolder: pid monitor);
+fields!(RawCall: client server monitor has_deadline waits deadline);
+fields!(RawRequest: from asks number);
+fields!(RawHeard: code answer reason);
+fields!(RawPost: to body);
 
 fn in_order(sample: &impl Fields) {
     let mut told = Vec::new();
@@ -100,6 +104,21 @@ fn each_field_stands_where_the_library_has_it() {
     in_order(&answer);
     in_order(&fired);
     in_order(&holder);
+}
+
+#[test]
+fn the_structs_of_calls_are_the_librarys() {
+    let (mut about, mut post, mut size) = (RawAskingAbout::default(), RawPost::default(), 0);
+    unsafe {
+        pt_about_asking(&mut about);
+        pt_about_post(&mut post, &mut size);
+    }
+    in_order(&about.call);
+    in_order(&about.request);
+    in_order(&about.heard);
+    in_order(&post);
+    let told = [about.call_size, about.request_size, about.heard_size, size];
+    assert_eq!(told, [size_of::<RawCall>(), size_of::<RawRequest>(), size_of::<RawHeard>(), size_of::<RawPost>()]);
 }
 
 #[test]

@@ -1,0 +1,202 @@
+"""Calls that are answered, where the letters of a desk are, and the way in for threads without a desk.
+
+    call = ask(desk, client, server, 21)
+    desk.turn()
+    request = request_of(desk.receive(server))
+    reply(desk, server, request, 2 * request.asks)
+    desk.turn()
+    call.hear(desk, desk.receive(client))       # Heard("answer", 42)
+
+    door, entry = way_in(8)
+    door.post(Post(line, Body(1, 7)))           # on a thread without a desk
+    entry.take()                                # on the thread of the desk
+"""
+
+from __future__ import annotations
+
+import ctypes as c
+from typing import NamedTuple, Optional
+
+from . import Desk, _fault, _Held
+from ._library import (
+    CCall, CHandle, CHeard, CItem, CPost, CRequest, body_of, c_body, c_item, c_pid, lib, pid_of, reason_of, ref_of,
+)
+from .values import I64, U32, U64, Body, Code, Item, Pid, Reason, Ref, number, of_type
+
+__all__ = [
+    "Call", "Door", "HEARD", "Heard", "Post", "Request", "WayIn", "ask", "has_letters", "letters_out", "reply", "request_of",
+    "way_in",
+]
+
+# What an item means to a call.
+HEARD = ("answer", "server-down", "late", "not-mine")
+
+
+class Request(NamedTuple):
+    """A request that arrived: who asks, what, as a number of the program's own, and the number that its answer carries."""
+
+    sender: Pid
+    asks: int
+    number: int
+
+
+class Heard(NamedTuple):
+    """What an item means to a call, by a name of `HEARD`: "answer" with `answer`, "server-down" with `reason`, "late" after
+    the call had ended, or "not-mine"."""
+
+    name: str
+    answer: Optional[int] = None
+    reason: Optional[Reason] = None
+
+
+class Call:
+    """A call that was made, of one process to another: Erlang's `gen_server:call` without its `receive`.
+
+    It ends once: by its answer or by the exit of its server, which `hear` reports, or by its deadline, which `expire` reports.
+    Both get the desk of its client.
+    """
+
+    def __init__(self, crossing: CCall):
+        self._call = of_type("crossing", crossing, CCall)
+
+    def __repr__(self) -> str:
+        return f"<Call of {self.client} to {self.server}, {'open' if self.is_open else 'ended'}>"
+
+    @property
+    def client(self) -> Pid:
+        """The process that asked."""
+        return pid_of(self._call.client)
+
+    @property
+    def server(self) -> Pid:
+        """The process that was asked."""
+        return pid_of(self._call.server)
+
+    @property
+    def monitor(self) -> Ref:
+        """The monitor of the server."""
+        return ref_of(self._call.monitor)
+
+    @property
+    def is_open(self) -> bool:
+        """Whether it still waits for its answer, or for the exit of its server."""
+        return bool(self._call.waits)
+
+    @property
+    def deadline(self) -> Optional[int]:
+        """The moment at which its client has to call `expire`: the deadline, if it has one and is open."""
+        return self._call.deadline if self._call.waits and self._call.has_deadline else None
+
+    def hear(self, desk: Desk, item: Item) -> Heard:
+        """Reads an item that the client got, and returns what it means to this call. If the call ends by it, its monitor is
+        cancelled. Fault: EMPTY."""
+        words = c_item("item", item)
+        out = of_type("desk", desk, Desk)._give(lib.pt_hear, CHeard(), c.byref(self._call), words)
+        name = HEARD[out.code]
+        return Heard(name, out.answer if name == "answer" else None, reason_of(out.reason) if name == "server-down" else None)
+
+    def expire(self, desk: Desk, now: int) -> bool:
+        """Reports the time, and returns whether the call ends by its deadline now: it is open, and the deadline is not above
+        `now`. Its monitor is cancelled then. Show the call first what waits in the mailbox. Fault: EMPTY."""
+        moment = number("now", now, 0, U64)
+        return of_type("desk", desk, Desk)._give(lib.pt_expire, c.c_bool(), c.byref(self._call), moment).value
+
+
+def ask(desk: Desk, me: Pid, server: Pid, asks: int, until: Optional[int] = None) -> Call:
+    """Asks a server: monitors it, and sends it the request. With `until` the call ends at that moment if it is open then.
+
+    Fault: as `Desk.monitor`, and nothing is asked then; WORN and MEMORY too if the request was not sent, and the monitor is
+    cancelled then.
+    """
+    words = c_pid("me", me), c_pid("server", server), number("asks", asks, 0, U32)
+    if until is None:
+        return Call(of_type("desk", desk, Desk)._give(lib.pt_ask, CCall(), *words))
+    moment = number("until", until, 0, U64)
+    return Call(of_type("desk", desk, Desk)._give(lib.pt_ask_until, CCall(), *words, moment))
+
+
+def request_of(item: Item) -> Optional[Request]:
+    """The request that the item is, or None if it is none. A request is a message that names its own sender."""
+    out = CRequest()
+    code = lib.pt_request_of(c_item("item", item), c.byref(out))
+    if code not in (Code.OK, Code.NOTHING):
+        raise _fault(lib.pt_request_of, (), code)
+    return Request(pid_of(out.sender), out.asks, out.number) if code == Code.OK else None
+
+
+def reply(desk: Desk, me: Pid, request: Request, answer: int) -> None:
+    """Answers a request: Erlang's `gen_server:reply`, at once or later. Fault: as `Desk.send`."""
+    sender, asks, place = of_type("request", request, Request)
+    crossing = CRequest(c_pid("request.sender", sender), number("request.asks", asks, 0, U32),
+                        number("request.number", place, -I64 - 1, I64))
+    of_type("desk", desk, Desk)._must(lib.pt_reply, c_pid("me", me), crossing, number("answer", answer, 0, U32))
+
+
+def letters_out(desk: Desk) -> int:
+    """The desks for which letters wait in the outbox, a bit for each, the lowest that of desk 0. A turn posts to no others:
+    ask right before a turn, and wake the threads of these desks right after it. Fault: EMPTY."""
+    return of_type("desk", desk, Desk)._give(lib.pt_letters_out, c.c_uint64()).value
+
+
+def has_letters(desk: Desk) -> bool:
+    """Whether a letter waits in the desk, or in a lane to it that shows one. If not, a turn does nothing until another desk
+    posts to this one. Fault: EMPTY."""
+    return of_type("desk", desk, Desk)._give(lib.pt_has_letters, c.c_bool()).value
+
+
+class Post(NamedTuple):
+    """A message from a thread without a desk, to a process of any desk."""
+
+    to: Pid
+    body: Body
+
+
+class Door(_Held):
+    """The end of a way in that a thread without a desk holds. What is taken out at the other end is what was handed in here,
+    in order, each message once. No call waits, and none wakes another thread."""
+
+    _give_up = "pt_door_give_up"
+
+    def __init__(self, handle: CHandle):
+        super().__init__()
+        self._handle.at = of_type("handle", handle, CHandle).at
+
+    def post(self, post: Post) -> bool:
+        """Hands in a message, and returns whether the door knew of a free place. If not, nothing has changed. Fault: EMPTY."""
+        to, body = of_type("post", post, Post)
+        code = self._call(lib.pt_door_post, CPost(c_pid("post.to", to), c_body("post.body", body)))
+        if code not in (Code.OK, Code.FULL):
+            raise _fault(lib.pt_door_post, (), code)
+        return code == Code.OK
+
+
+class WayIn(_Held):
+    """The end of a way in that the thread of a desk holds."""
+
+    _give_up = "pt_way_in_give_up"
+
+    def __init__(self, handle: CHandle):
+        super().__init__()
+        self._handle.at = of_type("handle", handle, CHandle).at
+
+    def take(self) -> Optional[Post]:
+        """Takes out the oldest message that waits, or returns None if none does. Send it on as a process of the desk. Fault:
+        EMPTY."""
+        out = self._find(lib.pt_way_in_take, CPost())
+        return None if out is None else Post(pid_of(out.to), body_of(out.body))
+
+    def __len__(self) -> int:
+        """The number of messages that wait. More may be handed in at any time."""
+        return self._give(lib.pt_way_in_len, c.c_size_t()).value
+
+    def __bool__(self) -> bool:
+        return True
+
+
+def way_in(places: int) -> tuple[Door, WayIn]:
+    """Makes a way in with so many places. Fault: MEMORY."""
+    door, entry = CHandle(), CHandle()
+    code = lib.pt_door_open(c.byref(door), c.byref(entry), number("places", places, 0, U32))
+    if code:
+        raise _fault(lib.pt_door_open, (), code)
+    return Door(door), WayIn(entry)

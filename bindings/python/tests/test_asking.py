@@ -1,0 +1,117 @@
+"""Calls that are answered, where letters are, and the way in."""
+
+from __future__ import annotations
+
+import threading
+import unittest
+from typing import Any
+
+import pundewo as p
+from pundewo.asking import Call, Heard, Post, Request, ask, has_letters, letters_out, reply, request_of, way_in
+
+
+class CallsTest(unittest.TestCase):
+    def setUp(self) -> None:
+        self.desk, = p.open_node(1)
+        self.client, self.server = self.desk.spawn(), self.desk.spawn()
+
+    def receive(self, process: p.Pid) -> p.Item:
+        self.desk.turn()
+        item = self.desk.receive(process)
+        assert item is not None
+        return item
+
+    def fails(self, code: p.Code, call: Any, *words: Any) -> None:
+        with self.assertRaises(p.Fault) as caught:
+            call(*words)
+        self.assertEqual(caught.exception.code, code)
+
+    def test_a_call_ends_once(self) -> None:
+        desk, client, server = self.desk, self.client, self.server
+        first, second = ask(desk, client, server, 21), ask(desk, client, server, 1, until=5)
+        self.assertEqual((first.client, first.server, first.deadline, second.deadline), (client, server, None, 5))
+        request = request_of(self.receive(server))
+        self.assertEqual(request, Request(client, 21, first.monitor.number))
+        assert request is not None
+        reply(desk, server, request, 42)
+        answer = self.receive(client)
+        self.assertIsNone(request_of(answer))
+        self.assertEqual((second.hear(desk, answer), first.hear(desk, answer)), (Heard("not-mine"), Heard("answer", 42)))
+        self.assertEqual((first.hear(desk, answer), first.is_open, first.expire(desk, 2**64 - 1)), (Heard("late"), False, False))
+        self.assertEqual([second.expire(desk, now) for now in (4, 5, 5)], [False, True, False])
+        self.assertEqual((second.deadline, second.is_open), (None, False))
+        third = ask(desk, client, server, 1)
+        desk.turn()
+        desk.exit(server, p.Reason("other", 7))
+        down = self.receive(client)
+        self.assertEqual((second.hear(desk, down), third.hear(desk, down)), (
+            Heard("not-mine"), Heard("server-down", None, p.Reason("other", 7))))
+        self.assertEqual(third.hear(desk, down), Heard("late"))
+        self.assertEqual(repr(third), f"<Call of {client} to {server}, ended>")
+
+    def test_refusals(self) -> None:
+        desk, client, server = self.desk, self.client, self.server
+        self.fails(p.Code.MYSELF, ask, desk, client, client, 1)
+        self.fails(p.Code.UNKNOWN, ask, desk, client, p.Pid(1, 0, 1), 1)
+        self.fails(p.Code.GONE, ask, desk, p.Pid(0, 9, 1), client, 1, 2)
+        desk.exit(server)
+        self.fails(p.Code.NOPROC, ask, desk, client, server, 1)
+        self.fails(p.Code.UNKNOWN, reply, desk, client, Request(p.Pid(1, 0, 1), 1, 1), 1)
+        call = Call.__new__(Call)
+        self.assertRaises(TypeError, ask, None, client, server, 1)
+        self.assertRaises(TypeError, call.hear, desk, None)
+        for bad in (-1, 2**32, True, 1.0, None):
+            self.assertRaises((TypeError, ValueError), ask, desk, client, server, bad)
+            self.assertRaises((TypeError, ValueError), reply, desk, client, Request(server, 1, 1), bad)
+            self.assertRaises((TypeError, ValueError), way_in, bad)
+        desk.close()
+        self.fails(p.Code.EMPTY, ask, desk, client, server, 1)
+        self.fails(p.Code.EMPTY, letters_out, desk)
+        self.fails(p.Code.EMPTY, has_letters, desk)
+
+
+class LettersTest(unittest.TestCase):
+    def test_they_say_whom_to_wake(self) -> None:
+        desks = p.open_node(3)
+        here, there = desks[0].spawn(), desks[2].spawn()
+        self.assertEqual((letters_out(desks[0]), has_letters(desks[0])), (0, False))
+        for to in (here, there):
+            desks[0].send(here, to, p.Body(1, 2))
+        self.assertEqual((letters_out(desks[0]), has_letters(desks[2])), (0b101, False))
+        self.assertEqual(desks[0].turn().posted, 2)
+        self.assertEqual((letters_out(desks[0]), has_letters(desks[0]), has_letters(desks[2])), (0, False, True))
+        desks[2].turn()
+        self.assertEqual((has_letters(desks[2]), has_letters(desks[1])), (False, False))
+
+
+class WayInTest(unittest.TestCase):
+    def test_what_is_handed_in_is_taken_out_in_order(self) -> None:
+        door, entry = way_in(2)
+        posts = [Post(p.Pid(0, 1, 1), p.Body(3, num)) for num in range(200)]
+        self.assertEqual((entry.take(), len(entry), bool(entry)), (None, 0, True))
+        self.assertEqual([door.post(post) for post in posts[:3]], [True, True, False])
+        self.assertEqual((len(entry), entry.take(), entry.take(), entry.take()), (2, posts[0], posts[1], None))
+
+        def hand_in() -> None:
+            for post in posts:
+                while not door.post(post):
+                    pass
+
+        outside = threading.Thread(target=hand_in)
+        outside.start()
+        taken: list[Post] = []
+        while len(taken) < len(posts):
+            post = entry.take()
+            if post is not None:
+                taken.append(post)
+        outside.join()
+        self.assertEqual(taken, posts)
+        for end, call in ((door, lambda: door.post(posts[0])), (entry, entry.take), (entry, entry.__len__)):
+            end.close()
+            with self.assertRaises(p.Fault) as caught:
+                call()
+            self.assertEqual(caught.exception.code, p.Code.EMPTY)
+
+
+if __name__ == "__main__":
+    unittest.main()
