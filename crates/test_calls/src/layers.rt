@@ -1,7 +1,6 @@
-//! The layers below a node, each called by itself: `pt_slots`, `pt_process`, `pt_carrier`, `pt_history`, `pt_texts`,
-//! `pt_auditor` and `pt_script`, a module a layer; and the timers and names beside a node.
+//! The layers below a node, each called by itself: `pt_slots`, `pt_process`, `pt_carrier`, `pt_history`, `pt_texts` and
+//! `pt_script`, a module a layer; and the timers and names beside a node.
 
-mod auditor;
 mod entries;
 mod lanes;
 mod names;

@@ -1,8 +1,6 @@
 //! The texts of the refusals that no program prints.
 
-use example_uses::RecipeError;
 use pt_carrier::{Cause, PostCause};
-use pt_node::{OpenError, Setting};
 use pt_slots::InsertError;
 use std::alloc::Global;
 use std::fmt::Display;
@@ -24,11 +22,5 @@ fn refusals_say_why(rt: HostRuntime) {
         rt.alloc(),
         &Cause::Memory,
         "no memory for the letters left over",
-    );
-    says(
-        &rt,
-        rt.alloc(),
-        &RecipeError::Open(OpenError::Bounds(Setting::Desks)),
-        "the node does not open: a setting is out of its range: desks",
     );
 }

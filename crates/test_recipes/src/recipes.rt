@@ -2,6 +2,7 @@
 
 ghost use Rattle.example_uses.specs.Quiet.{EndsQuietly};
 
+use crate::compared::{holds, same};
 use example_uses::desks_on_threads::{Sender, ring};
 use example_uses::epochs::{Lines, Plan, epochs};
 use example_uses::two_processes::two_processes;
@@ -36,7 +37,7 @@ const SENDER: Sender = Sender {
 /// The node's history has so many events.
 fn happened(rt: &impl Abort, node: &Gathered, events: usize) {
     let history = node.history().expect(rt, "memory");
-    assert_eq!(rt; history.len(), events);
+    same(rt, history.len(), events);
 }
 
 #[test]
@@ -55,7 +56,7 @@ fn desks_send_round(rt: HostRuntime) {
 /// A node with one process.
 fn of_one(rt: &impl Abort, alloc: Global) -> Node {
     let mut node = Node::open(alloc, ONE_DESK).ok().expect(rt, "a node");
-    assert_eq!(rt; node.spawn(0), Ok(A));
+    same(rt, node.spawn(0), Ok(A));
     node
 }
 
@@ -83,7 +84,7 @@ fn goes_on<R: Abort + Threads + Sync>(
     let node = epochs(rt, alloc, node, works, plan, archive)
         .ok()
         .expect(rt, "memory");
-    assert!(rt; node.alive(A));
+    holds(rt, node.alive(A));
     assert_eq!(rt; archive.out.as_slice(), TWO_EPOCHS);
 }
 
@@ -103,10 +104,10 @@ fn ends(rt: &impl Abort, node: &mut Node, works: &mut Vec<UntilQuiet<Sender>>)
     ensures { EndsQuietly (⟦<Sender as Work>⟧.does, ⟦<Sender as Work>⟧.hears) }
 {
     ends_behind_quiet_turns(&SENDER);
-    assert!(rt; node.run_single(works, 4, 16, &FreeGate).is_ok());
+    holds(rt, node.run_single(works, 4, 16, &FreeGate).is_ok());
     for work in works.as_slice() {
-        assert!(rt; work.standing() == Standing::Going && work.quiet() == 0);
-        assert_eq!(rt; work.work().sent, 4);
+        holds(rt, work.standing() == Standing::Going && work.quiet() == 0);
+        same(rt, work.work().sent, 4);
     }
 }
 

@@ -2,6 +2,7 @@
 
 ghost use Rattle.std.specs.Prelude.{◌≡◌, length};
 
+use crate::compared::same;
 use pt_carrier::{Ins, Outs, open};
 use pt_signal::{Body, Letter, Pid, Signal};
 use std::process::Abort;
@@ -28,10 +29,10 @@ fn passes(rt: &impl Abort, outs: &mut Outs, ins: &mut Ins)
     requires posting { (outs.old.place.number ≡ 0) × (length outs.old.place.rings ≡ 1) }
     requires collecting { length ins.old.place.rings ≡ 1 }
 {
-    assert_eq!(rt; outs.post(0, LETTER), Ok(()));
-    assert_eq!(rt; ins.collected(0), 0);
-    assert_eq!(rt; ins.collect(), Some((0, LETTER)));
-    assert_eq!(rt; ins.collected(0), 1);
+    same(rt, outs.post(0, LETTER), Ok(()));
+    same(rt, ins.collected(0), 0);
+    same(rt, ins.collect(), Some((0, LETTER)));
+    same(rt, ins.collected(0), 1);
 }
 
 #[test]

@@ -1,5 +1,6 @@
 //! `pt_names`: a name that is given, found and forgotten.
 
+use crate::compared::same;
 use pt_names::{Name, Names};
 use pt_signal::{Pid, Ref};
 
@@ -13,10 +14,10 @@ fn a_name_is_given_and_forgotten(rt: HostRuntime) {
     };
     let monitor = Ref { desk: 0, number: 1 };
     let mut names = Names::new(rt.alloc());
-    assert_eq!(rt; names.register(line, pid, monitor), Ok(()));
-    assert_eq!(rt; names.whereis(line), Some(pid));
-    assert_eq!(rt; names.name_of(pid), Some(line));
-    assert_eq!(rt; names.forget(pid), Some(line));
-    assert_eq!(rt; names.unregister(line), None);
-    assert_eq!(rt; names.len(), 0);
+    same(&rt, names.register(line, pid, monitor), Ok(()));
+    same(&rt, names.whereis(line), Some(pid));
+    same(&rt, names.name_of(pid), Some(line));
+    same(&rt, names.forget(pid), Some(line));
+    same(&rt, names.unregister(line), None);
+    same(&rt, names.len(), 0);
 }

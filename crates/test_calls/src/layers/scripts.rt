@@ -1,22 +1,14 @@
-//! `pt_script`: a script that is read from a text.
+//! `pt_script`: the limits of scripts, as `docs/SCRIPTS.md` has them. What is read of a text is in
+//! `checks/tried/pt_scripts/scripts.rt.txt`.
 
-use pt_script::{Script, Settings};
-
-/// One process on desk 2 of three, and defaults.
-const TEXT: &str =
-    "{\"format\":2,\"desks\":3,\"processes\":[{\"name\":\"a\",\"desk\":2,\"trap\":true,\"ops\":[]}]}";
-
-const SETTINGS: Settings = Settings {
-    format: 2,
-    desks: 3,
-    slots: 1024,
-    top_version: 4_294_967_295,
-    lane: 64,
-    budget: 16,
-};
+use crate::compared::same;
+use pt_script::limits::{MAX_BYTES, MAX_DEPTH, MAX_NAME, MAX_OPERATIONS, MAX_PROCESSES};
 
 #[test]
-fn settings_are_read(rt: HostRuntime) {
-    let script = Script::read(rt.alloc(), TEXT).ok().expect(&rt, "a script");
-    assert_eq!(rt; script.settings(), SETTINGS);
+fn the_limits_are_those_of_the_format(rt: HostRuntime) {
+    same(&rt, MAX_BYTES, 1_048_576);
+    same(&rt, MAX_PROCESSES, 4_096);
+    same(&rt, MAX_OPERATIONS, 65_536);
+    same(&rt, MAX_DEPTH, 8);
+    same(&rt, MAX_NAME, 32);
 }

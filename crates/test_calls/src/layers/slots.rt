@@ -1,5 +1,6 @@
 //! `pt_slots`: a slot that is retired, and the order of keys.
 
+use crate::compared::{holds, same};
 use pt_slots::{Key, Slots};
 
 /// The first key of the only slot.
@@ -11,10 +12,10 @@ const FIRST: Key = Key {
 #[test]
 fn a_slot_is_retired(rt: HostRuntime) {
     let mut slots: Slots<u32> = Slots::new(rt.alloc(), 1, 1).expect(&rt, "memory");
-    assert_eq!(rt; slots.insert(7), Ok(FIRST));
-    assert_eq!(rt; slots.retired(), 0);
-    assert_eq!(rt; slots.remove(FIRST), Some(7));
-    assert_eq!(rt; slots.retired(), 1);
+    same(&rt, slots.insert(7).ok(), Some(FIRST));
+    same(&rt, slots.retired(), 0);
+    same(&rt, slots.remove(FIRST), Some(7));
+    same(&rt, slots.retired(), 1);
 }
 
 #[test]
@@ -23,6 +24,6 @@ fn keys_are_ordered_by_slot(rt: HostRuntime) {
         version: 9,
         ..FIRST
     };
-    assert!(rt; FIRST < later);
-    assert!(rt; later < Key { slot: 1, ..FIRST });
+    holds(&rt, FIRST < later);
+    holds(&rt, later < Key { slot: 1, ..FIRST });
 }

@@ -1,5 +1,6 @@
 //! `pt_history`: what the judge's state reports about processes, and a history that is judged over a state.
 
+use crate::compared::{holds, same};
 use pt_history::{Event, State, replay, replay_from};
 use pt_signal::{Ids, LinkId, Pid, Reason, Ref, Signal};
 use std::process::Abort;
@@ -33,18 +34,18 @@ const LATER: &[Event] = &[Event::Left(B, Reason::Shutdown)];
 
 /// Both live, and each has what it holds.
 fn look_first(rt: &impl Abort, state: &State) {
-    assert!(rt; state.alive(A) && state.traps(B));
-    assert_eq!(rt; state.linked(B, A), Some(Ids::of(LINK)));
-    assert!(rt; state.watching(A, MONITOR) && state.kept(B, MONITOR));
-    assert_eq!(rt; state.in_flight(), 0);
+    holds(rt, state.alive(A) && state.traps(B));
+    same(rt, state.linked(B, A), Some(Ids::of(LINK)));
+    holds(rt, state.watching(A, MONITOR) && state.kept(B, MONITOR));
+    same(rt, state.in_flight(), 0);
 }
 
 /// The second has ended, and its link and the `DOWN` are on their way.
 fn look_later(rt: &impl Abort, state: &State) {
-    assert!(rt; !state.alive(B));
-    assert_eq!(rt; state.ended(B), Some(Reason::Shutdown));
-    assert_eq!(rt; state.waiting(A).expect(rt, "alive").len(), 0);
-    assert_eq!(rt; state.in_flight(), 2);
+    holds(rt, !state.alive(B));
+    same(rt, state.ended(B), Some(Reason::Shutdown));
+    same(rt, state.waiting(A).expect(rt, "alive").len(), 0);
+    same(rt, state.in_flight(), 2);
 }
 
 #[test]
