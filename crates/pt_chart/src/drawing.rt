@@ -59,10 +59,35 @@ fn drawing_of(
 {
     let page = page_of(alloc, events, layout)?;
     let names = names_of(alloc, called, layout.columns.as_slice())?;
+    drawing_with(alloc, events, &page, names.as_slice(), layout)
+}
+
+/// The drawing of a layout on this page, if the processes of its columns have these names.
+fn drawing_with(
+    alloc: Global,
+    events: &[Stamped],
+    page: &Page,
+    names: &[&str],
+    layout: &Layout,
+) -> Result<String, AllocError>
+    requires { length layout.now.rows.items ≡ length events.now }
+    ensures { IfOk result (λ text. string_bytes text
+        ≡ drawing_text page.now (map (λ n. n.now) names.now) (drawn events.now layout.now)) }
+{
     let parts = parts_of(alloc, events, layout)?;
+    text_of(alloc, page, names, parts.as_slice())
+}
+
+/// The text of a drawing.
+fn text_of(alloc: Global, page: &Page, names: &[&str], parts: &[Part]) -> Result<String, AllocError>
+    ensures { IfOk result (λ text. string_bytes text
+        ≡ drawing_text page.now (map (λ n. n.now) names.now) parts.now) }
+{
     let mut text = String::new(alloc);
-    write_drawing(alloc, &page, names.as_slice(), parts.as_slice(), &mut text)?;
-    Ok(text)
+    match write_drawing(alloc, page, names, parts, &mut text) {
+        Ok(()) => Ok(text),
+        Err(error) => Err(error),
+    }
 }
 
 /// Writes the whole text of a drawing.
@@ -131,18 +156,34 @@ fn parts_of(alloc: Global, events: &[Stamped], layout: &Layout) -> Result<Vec<Pa
     requires { length layout.now.rows.items ≡ length events.now }
     ensures { IfOk result (λ parts. parts.items ≡ drawn events.now layout.now) }
 {
+    let mut parts = Vec::new(alloc);
+    match list_parts(alloc, events, layout, &mut parts) {
+        Ok(()) => Ok(parts),
+        Err(error) => Err(error),
+    }
+}
+
+/// Lists the parts of the chart, where none is listed yet.
+fn list_parts(
+    alloc: Global,
+    events: &[Stamped],
+    layout: &Layout,
+    parts: &mut Vec<Part>,
+) -> Result<(), AllocError>
+    requires rows { length layout.now.rows.items ≡ length events.now }
+    requires empty { parts.old.items ≡ [] }
+    ensures { OnOk result (parts.new.items ≡ drawn events.now layout.now) }
+{
     let columns = layout.columns.as_slice();
     let rows = layout.rows.as_slice();
-    let mut parts = Vec::new(alloc);
-    list_grounds(columns, &mut parts)?;
-    list_columns(rows, columns, &mut parts)?;
-    list_letters(rows, columns, &mut parts)?;
-    list_sayings(rows, columns, &mut parts)?;
-    list_bearings(rows, events, columns, &mut parts)?;
-    list_marks(rows, events, columns, &mut parts)?;
-    list_ends(rows, columns, &mut parts)?;
-    list_lines(alloc, rows, events, columns, &mut parts)?;
-    Ok(parts)
+    list_grounds(columns, parts)?;
+    list_columns(rows, columns, parts)?;
+    list_letters(rows, columns, parts)?;
+    list_sayings(rows, columns, parts)?;
+    list_bearings(rows, events, columns, parts)?;
+    list_marks(rows, events, columns, parts)?;
+    list_ends(rows, columns, parts)?;
+    list_lines(alloc, rows, events, columns, parts)
 }
 
 /// The row of an event.

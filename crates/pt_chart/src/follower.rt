@@ -2,7 +2,7 @@
 
 ghost use Rattle.std.specs.Prelude.{◌≡◌, ◌++◌, cond, map, Some, None, IfOk, IfSome, OnOk};
 ghost use Rattle.pt_signal.specs.Values.{same_pid, fits, without_first};
-ghost use Rattle.pt_signal.specs.Process.{fresh, handle, say};
+ghost use Rattle.pt_signal.specs.Process.{handle, say};
 ghost use Rattle.pt_events.specs.declared.event.Event.TheVariants.{Born, Said, Came, Flag, Left};
 ghost use Rattle.pt_events.specs.History.{unborn, linked};
 ghost use Rattle.pt_process.specs.Outcome.{IsAnew};
@@ -196,21 +196,23 @@ impl Follower {
         if self.born {
             return Ok(());
         }
-        let process = newborn(alloc, self.me, parent, link)?;
         self.born = true;
-        self.process = Some(process);
-        Ok(())
+        self.process = Some(Process::new(alloc, self.me));
+        match parent {
+            Some(parent) => self.join(parent, link),
+            None => Ok(()),
+        }
     }
 
-    /// Enters the link with its child.
-    fn join(&mut self, child: Pid, link: Option<LinkId>) -> Result<(), AllocError>
-        ensures { OnOk result (self.new ≡ changes (linked (Some child) link) self.old) }
+    /// Enters the link with its parent or its child.
+    fn join(&mut self, other: Pid, link: Option<LinkId>) -> Result<(), AllocError>
+        ensures { OnOk result (self.new ≡ changes (linked (Some other) link) self.old) }
     {
         let Some(process) = &mut self.process else {
             return Ok(());
         };
         match link {
-            Some(link) => process.add_link(child, link),
+            Some(link) => process.add_link(other, link),
             None => Ok(()),
         }
     }
@@ -297,23 +299,6 @@ impl Follower {
         pay(at, &process.estate(reason), sent)?;
         Ok(Some(reason))
     }
-}
-
-/// A new process, with the link to its parent, if there is one.
-fn newborn(
-    alloc: Global,
-    me: Pid,
-    parent: Option<Pid>,
-    link: Option<LinkId>,
-) -> Result<Process, AllocError>
-    ensures me { IfOk result (λ p. p.me ≡ me) }
-    ensures state { IfOk result (λ p. p.state ≡ linked parent link fresh) }
-{
-    let mut process = Process::new(alloc, me);
-    if let (Some(parent), Some(link)) = (parent, link) {
-        process.add_link(parent, link)?;
-    }
-    Ok(process)
 }
 
 /// What a live process does when a signal arrives.

@@ -4,11 +4,11 @@
 ghost use Rattle.std.specs.Prelude.{All, map, ◌≡◌, ◌<◌, ◌≤◌, ◌++◌, [], IfOk, IfSome, OnOk, length, nat_lt, position};
 ghost use Rattle.std.specs.List.{list_any};
 ghost use Rattle.pt_signal.specs.Values.{same_pid};
-ghost use Rattle.pt_events.specs.History.{is_birth};
+ghost use Rattle.pt_events.specs.History.{is_birth, unborn};
 ghost use Rattle.pt_chart.specs.Chart.{IsLayout, IsColumn, IsLegalHistory, ShowsHistory, MonitorsAnew, arrows};
 ghost use Rattle.pt_chart.specs.Chart.{end_of, everyone, join, joined_columns, named_columns, past_of, column_place, place_behind};
 ghost use Rattle.pt_chart.specs.Chart.{sent_of};
-ghost use Rattle.pt_chart.specs.Following.{noted};
+ghost use Rattle.pt_chart.specs.Following.{followed, noted};
 ghost use Rattle.pt_chart.specs.Mentioning.{AreMentions, mentions};
 
 use crate::follower::Follower;
@@ -85,8 +85,21 @@ fn columns_of(alloc: Global, events: &[Stamped]) -> Result<Vec<Column>, AllocErr
     ensures columns { IfOk result (λ v. All (λ c. IsColumn events.now c) v.items) }
 {
     let mentions = mentions_of(alloc, events)?;
-    let pids = pids_of(alloc, events, &mentions)?;
-    columns_with(alloc, events, &mentions, pids.as_slice())
+    columns_by(alloc, events, &mentions)
+}
+
+/// The columns of a history, if these are the events that name each process.
+fn columns_by(
+    alloc: Global,
+    events: &[Stamped],
+    mentions: &Mentions,
+) -> Result<Vec<Column>, AllocError>
+    requires { AreMentions events.now mentions.now }
+    ensures pids { IfOk result (λ v. map (λ c. c.pid) v.items ≡ everyone events.now) }
+    ensures columns { IfOk result (λ v. All (λ c. IsColumn events.now c) v.items) }
+{
+    let pids = pids_of(alloc, events, mentions)?;
+    columns_with(alloc, events, mentions, pids.as_slice())
 }
 
 /// The columns of these processes, if these are the events that name each.
@@ -220,6 +233,25 @@ fn follow(
         → IfOk result (λ ended. ended ≡ end_of (past_of events.now) pid) }
 {
     let mut follower = Follower::new(pid);
+    follow_on(alloc, events, own, pid, &mut follower, sent)
+}
+
+/// The same, with a follower that has seen no event yet.
+fn follow_on(
+    alloc: Global,
+    events: &[Stamped],
+    own: &[usize],
+    pid: Pid,
+    follower: &mut Follower,
+    sent: &mut Vec<Sending>,
+) -> Result<Option<(usize, Reason)>, AllocError>
+    requires own { own.now ≡ mentions pid events.now }
+    requires unborn { follower.old ≡ followed pid unborn }
+    ensures sent { MonitorsAnew (past_of events.now) pid
+        → OnOk result (sent.new.items ≡ sent.old.items ++ sent_of (past_of events.now) pid) }
+    ensures ending { MonitorsAnew (past_of events.now) pid
+        → IfOk result (λ ended. ended ≡ end_of (past_of events.now) pid) }
+{
     let mut ended = None;
     for k in 0..own.len() {
         let at = own[k];

@@ -1,8 +1,9 @@
 //! The text of the drawing, as SVG.
 
-ghost use Rattle.std.specs.Prelude.{◌≡◌, [], ◌++◌, IfOk, OnOk, map, slice_index_or, string_bytes};
+ghost use Rattle.std.specs.Prelude.{◌≡◌, [], ◌++◌, IfOk, IfSome, OnOk, map, slice_index_or, string_bytes};
 ghost use Rattle.std.specs.List.{flat_map};
 ghost use Rattle.pt_events.specs.Text.{stamped_text};
+ghost use Rattle.pt_signal.specs.Text.{pid_text};
 ghost use Rattle.pt_chart.specs.Points.{bend, sag, spot};
 ghost use Rattle.pt_chart.specs.Text.{arrow_text, bearing_class, bearing_label, born_text, birth_text};
 ghost use Rattle.pt_chart.specs.Text.{closing_text, end_text, escape, escape_one, fit_text, ground_text};
@@ -27,6 +28,7 @@ use crate::style::STYLE;
 use pt_events::Stamped;
 use pt_signal::{Pid, Reason};
 use std::alloc::{AllocError, Global};
+use std::fmt::Display;
 
 /// The beginning of the drawing: the size of the page, and the style of its parts.
 pub(crate) fn write_head(page: &Page, text: &mut String) -> Result<(), AllocError>
@@ -132,18 +134,19 @@ fn write_mark(alloc: Global, row: usize, mark: Mark, text: &mut String) -> Resul
 fn write_opening(row: usize, stamp: u64, first: bool, text: &mut String) -> Result<(), AllocError>
     ensures { OnOk result (string_bytes text.new ≡ string_bytes text.old ++ opening_text row stamp first) }
 {
-    if !first {
-        return text.push_str("\n");
+    if first {
+        write_number(number_spot(row), stamp, text)?;
+        text.push_str("<g class=\"row\"><title>")
+    } else {
+        text.push_str("\n")
     }
-    write_number(number_spot(row), stamp, text)?;
-    text.push_str("<g class=\"row\"><title>")
 }
 
 /// The line of an event.
 fn write_said(alloc: Global, event: Stamped, text: &mut String) -> Result<(), AllocError>
     ensures { OnOk result (string_bytes text.new ≡ string_bytes text.old ++ escape (stamped_text event)) }
 {
-    let said = escaped(alloc, format!(in alloc; "{event}")?.as_str())?;
+    let said = said_of(alloc, event)?;
     text.push_str(said.as_str())
 }
 
@@ -205,23 +208,25 @@ fn write_head_above(
     ensures { OnOk result (string_bytes text.new ≡ string_bytes text.old ++ head_above_text row column name.now pid) }
 {
     write_name_above(alloc, row, column, name, text)?;
-    let said = escaped(alloc, format!(in alloc; "{pid}")?.as_str())?;
-    write_pid_above(row, column, said.as_str(), text)
+    write_pid_above(alloc, row, column, pid, text)
 }
 
 fn write_pid_above(
+    alloc: Global,
     row: usize,
     column: usize,
-    said: &str,
+    pid: Pid,
     text: &mut String,
 ) -> Result<(), AllocError>
-    ensures { OnOk result (string_bytes text.new ≡ string_bytes text.old ++ pid_above_text row column said.now) }
+    ensures { OnOk result
+        (string_bytes text.new ≡ string_bytes text.old ++ pid_above_text row column (escape (pid_text pid))) }
 {
+    let said = said_of(alloc, pid)?;
     let at = Point {
         x: x(column),
         y: above(y(row), 26),
     };
-    write_name(at, "", said, text)
+    write_name(at, "", said.as_str(), text)
 }
 
 fn write_name_above(
@@ -317,7 +322,7 @@ fn write_saying(
     ensures { OnOk result (string_bytes text.new ≡ string_bytes text.old ++ saying_text page.now column arrow) }
 {
     let signal = arrow.signal;
-    let said = escaped(alloc, format!(in alloc; "{signal}")?.as_str())?;
+    let said = said_of(alloc, signal)?;
     write_letter_label(page, column, arrow, is_owed(&signal), said.as_str(), text)
 }
 
@@ -489,7 +494,7 @@ fn write_birth(
 ) -> Result<(), AllocError>
     ensures { OnOk result (string_bytes text.new ≡ string_bytes text.old ++ birth_text row column pid) }
 {
-    let name = escaped(alloc, format!(in alloc; "{pid}")?.as_str())?;
+    let name = said_of(alloc, pid)?;
     write_named_birth(spot(column, row), name.as_str(), text)
 }
 
@@ -565,7 +570,7 @@ fn write_end(
 ) -> Result<(), AllocError>
     ensures { OnOk result (string_bytes text.new ≡ string_bytes text.old ++ end_text row column reason) }
 {
-    let said = escaped(alloc, format!(in alloc; "{reason}")?.as_str())?;
+    let said = said_of(alloc, reason)?;
     write_said_end(spot(column, row), said.as_str(), text)
 }
 
@@ -574,6 +579,14 @@ fn write_said_end(at: Point, said: &str, text: &mut String) -> Result<(), AllocE
 {
     write_shape("end", at, text)?;
     write_label(Stroke::Exit, at, " dx=\"10\" dy=\"12\"", said, text)
+}
+
+/// What a value prints, with XML's own characters escaped.
+fn said_of<T: Display + Copy>(alloc: Global, value: T) -> Result<String, AllocError>
+    ensures { IfSome (T.output value) (λ said. IfOk result (λ t. string_bytes t ≡ escape said)) }
+{
+    let plain = format!(in alloc; "{value}")?;
+    escaped(alloc, plain.as_str())
 }
 
 /// The text with XML's own characters escaped. A character that is not ASCII, which no text of a history has, becomes a
