@@ -14,7 +14,6 @@ use std::alloc::{AllocError, Global};
 use std::marker::Model;
 
 /// The stamp of each desk's newest event.
-#[derive(Drop)]
 pub(crate) struct Clocks {
     stamps: IndexMap<u8, u64>,
 }
@@ -25,6 +24,13 @@ impl Model for Clocks {
     ghost Value = { List (ℕ × ℕ) };
 
     ghost view = { λ c. c.stamps.entries };
+}
+
+// By hand, so that each drop of it is a call: a derived drop is proved field by field at each place that drops a value.
+impl Drop for Clocks {
+    fn drop(self) {
+        let Clocks { stamps: _ } = self;
+    }
 }
 
 impl Clocks {

@@ -14,7 +14,6 @@ use pt_signal::{Letter, Pid};
 use std::alloc::{AllocError, Global};
 
 /// What the desks of the node that prints a history have at a point of it: the letters between them, and their clocks.
-#[derive(Drop)]
 pub(crate) struct Desks {
     lanes: Lanes,
     clocks: Clocks,
@@ -22,6 +21,18 @@ pub(crate) struct Desks {
     newest: u64,
     /// Whether all clocks may have stood just below that stamp before its first event.
     begun: bool,
+}
+
+// By hand, so that each drop of it is a call: a derived drop is proved field by field at each place that drops a value.
+impl Drop for Desks {
+    fn drop(self) {
+        let Desks {
+            lanes: _,
+            clocks: _,
+            newest: _,
+            begun: _,
+        } = self;
+    }
 }
 
 impl Desks {
@@ -50,14 +61,16 @@ impl Desks {
         }
     }
 
-    /// Drops them. What a drop does is so proved once, and not at each place that drops desks.
-    pub(crate) fn let_go(self) {}
-
     /// The clocks, and whether all of them may have stood just below the newest stamp.
     pub(crate) fn at_rest(self) -> (Clocks, bool)
         ensures { result ≡ (self.clocks, self.begun) }
     {
-        let Desks { clocks, begun, .. } = self;
+        let Desks {
+            lanes: _,
+            clocks,
+            newest: _,
+            begun,
+        } = self;
         (clocks, begun)
     }
 
@@ -110,7 +123,8 @@ impl Desks {
         let Desks {
             mut lanes,
             mut clocks,
-            ..
+            newest: _,
+            begun: _,
         } = self;
         carry(alloc, &mut lanes, state, lived, stamped)?;
         clocks.set(stamped.desk, stamped.stamp)?;

@@ -23,7 +23,6 @@ use std::alloc::{AllocError, Global};
 ///
 /// Contracts speak by `Heard` of all that was read, which no hearing keeps. So a caller names what it has passed to a
 /// hearing, and each call says what was read after it.
-#[derive(Drop)]
 pub struct Hearing {
     pub(crate) state: State,
     /// The event read last.
@@ -39,6 +38,26 @@ pub struct Hearing {
     /// The last event of the rest from which the hearing went on, if it did.
     pub(crate) since: Option<Stamped>,
 }
+
+// By hand, so that each drop of it is a call: a derived drop is proved field by field at each place that drops a value.
+impl Drop for Hearing {
+    fn drop(self) {
+        let Hearing {
+            state,
+            last: _,
+            events: _,
+            desks: _,
+            letters: _,
+            node: _,
+            foreign: _,
+            since: _,
+        } = self;
+        let_go(state);
+    }
+}
+
+/// Drops the state. What its drop does is so proved once, and not at each place that drops a state.
+pub(crate) fn let_go(_state: State) {}
 
 /// The verdict on a legal history. Counts stop at the greatest number of 64 bits.
 #[derive(Clone, Copy, Debug, PartialEq, Eq)]
@@ -175,8 +194,13 @@ fn move_on(
     if !is_of_node {
         return Ok((state, node));
     }
-    let node = node.after(alloc, &state, lived, begun, stamped)?;
-    Ok((state, node))
+    match node.after(alloc, &state, lived, begun, stamped) {
+        Ok(node) => Ok((state, node)),
+        Err(error) => {
+            let_go(state);
+            Err(error)
+        }
+    }
 }
 
 impl Hearing {
@@ -196,8 +220,22 @@ impl Hearing {
         }
     }
 
-    /// Drops it. What a drop does is so proved once, and not at each place that drops a hearing.
-    pub(crate) fn let_go(self) {}
+    /// The state, and what the desks of a node have.
+    pub(crate) fn into_parts(self) -> (State, Desks)
+        ensures { result ≡ (self.state, self.node) }
+    {
+        let Hearing {
+            state,
+            last: _,
+            events: _,
+            desks: _,
+            letters: _,
+            node,
+            foreign: _,
+            since: _,
+        } = self;
+        (state, node)
+    }
 
     /// Reads the next event. Fails with the first of these that holds:
     ///
@@ -212,17 +250,18 @@ impl Hearing {
         ensures { (heard : Heard) → IsHeard heard self → Hears heard stamped result }
     {
         if let Some(objection) = objection(&self, stamped) {
-            self.let_go();
             return Err(objection);
         }
         let foreign = foreign_with(&self, stamped);
         let Hearing {
             state,
+            last: _,
             events,
             desks,
+            letters: _,
             node,
+            foreign: _,
             since,
-            ..
         } = self;
         match move_on(alloc, state, node, stamped, foreign.is_none()) {
             Ok((state, node)) => Ok(Hearing {
@@ -252,15 +291,10 @@ impl Hearing {
             ..
         } = left.letter;
         if left.from_desk != from.shard || left.to_desk != to.shard {
-            self.let_go();
             return Err(Objection::OtherDesks);
         }
         match self.state.cause(Event::Came(from, to, signal)) {
-            Some(_) => {
-                let refused = Err(Objection::OtherLetter(self.state.oldest(from, to)));
-                self.let_go();
-                refused
-            }
+            Some(_) => Err(Objection::OtherLetter(self.state.oldest(from, to))),
             None => Ok(self.without(left)),
         }
     }
@@ -278,8 +312,8 @@ impl Hearing {
             desks,
             letters,
             mut node,
+            foreign: _,
             since,
-            ..
         } = self;
         node.drop_first(from, to);
         Hearing {

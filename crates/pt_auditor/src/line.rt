@@ -42,10 +42,7 @@ pub(crate) fn hear_line(alloc: Global, hearing: Hearing, line: &[u8]) -> Result<
                 Ok(hearing) => Ok(hearing),
                 Err(objection) => Err(Why::Letter(left, objection)),
             },
-            Err(no_letter) => {
-                hearing.let_go();
-                Err(Why::Unread(further(no_event.column, no_letter.column)))
-            }
+            Err(no_letter) => Err(Why::Unread(further(no_event.column, no_letter.column))),
         },
     }
 }

@@ -13,6 +13,7 @@ ghost use Rattle.pt_auditor.specs.Rests.{stamp_of};
 
 use crate::clocks::Clocks;
 use crate::desks::Desks;
+use crate::hearing::let_go;
 use crate::{Foreign, Hearing};
 use pt_events::{Event, Stamped};
 use pt_judge::{Holding, State};
@@ -33,7 +34,6 @@ pub enum Resident {
 /// clocks of its desks.
 ///
 /// It knows no ids of links and no references. A node never makes one again.
-#[derive(Drop)]
 pub struct Rest {
     /// The number of events, up to the greatest number of 64 bits.
     pub(crate) events: u64,
@@ -47,6 +47,20 @@ pub struct Rest {
     pub(crate) clocks: Clocks,
     /// The processes, in the order of their pids.
     pub(crate) residents: VecDeque<Resident>,
+}
+
+// By hand, so that each drop of it is a call: a derived drop is proved field by field at each place that drops a value.
+impl Drop for Rest {
+    fn drop(self) {
+        let Rest {
+            events: _,
+            desks: _,
+            last: _,
+            begun: _,
+            clocks: _,
+            residents: _,
+        } = self;
+    }
 }
 
 /// Why nothing can go on from a history.
@@ -97,11 +111,21 @@ fn copied(alloc: Global, items: &[Item]) -> Result<Vec<Item>, AllocError>
 }
 
 /// What a process that ends now would leave to others: its links, the watches that it keeps, and its own monitors.
-#[derive(Drop)]
 struct Estate {
     links: Vec<(Pid, Ids)>,
     kept: Vec<(Ref, Pid)>,
     watching: Vec<(Ref, Pid)>,
+}
+
+// By hand, so that each drop of it is a call: a derived drop is proved field by field at each place that drops a value.
+impl Drop for Estate {
+    fn drop(self) {
+        let Estate {
+            links: _,
+            kept: _,
+            watching: _,
+        } = self;
+    }
 }
 
 impl Estate {
@@ -129,6 +153,30 @@ impl Estate {
         }
         Ok(())
     }
+
+    /// What a process holds that leaves this, where these items wait.
+    fn held(self, waiting: Vec<Item>, traps: bool) -> Holding
+        ensures { holds_so result ≡ record {
+          waiting = waiting.items;
+          links = self.links.items;
+          watching = self.watching.items;
+          kept = self.kept.items;
+          traps = traps;
+        } }
+    {
+        let Estate {
+            links,
+            kept,
+            watching,
+        } = self;
+        Holding {
+            waiting,
+            links,
+            watching,
+            kept,
+            traps,
+        }
+    }
 }
 
 /// Collects all that is on its way, and takes it off.
@@ -138,7 +186,10 @@ fn drained(alloc: Global, state: State) -> Result<(State, Estate), AllocError>
     let mut state = state;
     let mut estate = Estate::new(alloc);
     while let Some((from, to, signal)) = state.front() {
-        estate.add(to, signal)?;
+        let Ok(()) = estate.add(to, signal) else {
+            let_go(state);
+            return Err(AllocError);
+        };
         state = state.without_oldest(from, to);
     }
     Ok((state, estate))
@@ -161,23 +212,14 @@ fn take_out(alloc: Global, state: State, pid: Pid) -> Result<(State, Holding), A
     requires still { state.flights ≡ [] }
     ensures { IfOk result (λ new. IsTakenOut pid state new.0 new.1) }
 {
-    let waiting = waiting(alloc, &state, pid)?;
+    let Ok(waiting) = waiting(alloc, &state, pid) else {
+        let_go(state);
+        return Err(AllocError);
+    };
     let traps = state.traps(pid);
     let state = state.after(alloc, Event::Left(pid, Reason::Normal))?;
     let (state, estate) = drained(alloc, state)?;
-    let Estate {
-        links,
-        kept,
-        watching,
-    } = estate;
-    let holding = Holding {
-        waiting,
-        links,
-        watching,
-        kept,
-        traps,
-    };
-    Ok((state, holding))
+    Ok((state, estate.held(waiting, traps)))
 }
 
 /// The run with the process behind it, if that is the next of the slot and ended alike.
@@ -199,20 +241,28 @@ fn run_with(run: &Resident, pid: Pid, reason: Reason) -> Option<Resident>
     }
 }
 
+/// Puts what became of a process, or of several, behind the others.
+pub(crate) fn put(residents: &mut VecDeque<Resident>, resident: Resident) -> Result<(), AllocError>
+    ensures { OnOk result (residents.new.items ≡ residents.old.items ++ resident ∷ []) }
+{
+    residents.push_back(resident)?;
+    Ok(())
+}
+
 /// Adds a process that ended for this reason.
 fn add_end(residents: &mut VecDeque<Resident>, pid: Pid, reason: Reason) -> Result<(), AllocError>
     ensures { OnOk result
         (lives_in residents.new.items ≡ lives_in residents.old.items ++ (pid, ended reason fresh) ∷ []) }
 {
     let Some(last) = residents.pop_back() else {
-        residents.push_back(Resident::Ended(pid, pid.version, reason))?;
+        put(residents, Resident::Ended(pid, pid.version, reason))?;
         return Ok(());
     };
     match run_with(&last, pid, reason) {
-        Some(run) => residents.push_back(run)?,
+        Some(run) => put(residents, run)?,
         None => {
-            residents.push_back(last)?;
-            residents.push_back(Resident::Ended(pid, pid.version, reason))?;
+            put(residents, last)?;
+            put(residents, Resident::Ended(pid, pid.version, reason))?;
         }
     }
     Ok(())
@@ -222,23 +272,47 @@ fn add_end(residents: &mut VecDeque<Resident>, pid: Pid, reason: Reason) -> Resu
 fn list(
     alloc: Global,
     state: State,
-    residents: VecDeque<Resident>,
+    residents: &mut VecDeque<Resident>,
     pid: Pid,
-) -> Result<(State, VecDeque<Resident>), AllocError>
+) -> Result<State, AllocError>
     requires { state.flights ≡ [] }
-    ensures { IfOk result (λ new. IsListed pid state residents.items new.0 new.1.items) }
+    ensures { IfOk result (λ new. IsListed pid state residents.old.items new residents.new.items) }
 {
-    let mut residents = residents;
     if let Some(reason) = state.ended(pid) {
-        add_end(&mut residents, pid, reason)?;
-        return Ok((state, residents));
+        let Ok(()) = add_end(residents, pid, reason) else {
+            let_go(state);
+            return Err(AllocError);
+        };
+        return Ok(state);
     }
     if !state.alive(pid) {
-        return Ok((state, residents));
+        return Ok(state);
     }
     let (state, holding) = take_out(alloc, state, pid)?;
-    residents.push_back(Resident::Lives(pid, holding))?;
-    Ok((state, residents))
+    let Ok(()) = put(residents, Resident::Lives(pid, holding)) else {
+        let_go(state);
+        return Err(AllocError);
+    };
+    Ok(state)
+}
+
+/// Adds what became of these processes, and takes those that live out of the state.
+fn list_all(
+    alloc: Global,
+    state: State,
+    pids: &mut VecDeque<Pid>,
+    residents: &mut VecDeque<Resident>,
+) -> Result<State, AllocError>
+    requires still { state.flights ≡ [] }
+    requires none { residents.old.items ≡ [] }
+    requires all { IsPermutation (keys_of state.lives) pids.old.items }
+    ensures { OnOk result (AreResidents state residents.new.items) }
+{
+    let mut state = state;
+    while let Some(pid) = pids.pop_front() {
+        state = list(alloc, state, residents, pid)?;
+    }
+    Ok(state)
 }
 
 /// What became of all processes of a state at rest, in the order of their pids.
@@ -246,14 +320,12 @@ fn residents_of(alloc: Global, state: State) -> Result<VecDeque<Resident>, Alloc
     requires { state.flights ≡ [] }
     ensures { IfOk result (λ residents. AreResidents state residents.items) }
 {
-    let mut pids = sorted(alloc, &state)?;
-    let mut state = state;
+    let Ok(mut pids) = sorted(alloc, &state) else {
+        let_go(state);
+        return Err(AllocError);
+    };
     let mut residents = VecDeque::new(alloc);
-    while let Some(pid) = pids.pop_front() {
-        let next = list(alloc, state, residents, pid)?;
-        state = next.0;
-        residents = next.1;
-    }
+    let_go(list_all(alloc, state, &mut pids, &mut residents)?);
     Ok(residents)
 }
 
@@ -283,17 +355,12 @@ impl Hearing {
         ensures { (heard : Heard) → IsHeard heard self → LeavesRest heard result }
     {
         if let Some(why) = hindrance(&self) {
-            self.let_go();
             return Err(why);
         }
-        let Hearing {
-            state,
-            last,
-            events,
-            desks,
-            node,
-            ..
-        } = self;
+        let last = self.last;
+        let events = self.events;
+        let desks = self.desks;
+        let (state, node) = self.into_parts();
         match residents_of(alloc, state) {
             Ok(residents) => {
                 let (clocks, begun) = node.at_rest();
@@ -306,10 +373,7 @@ impl Hearing {
                     residents,
                 })
             }
-            Err(_) => {
-                node.let_go();
-                Err(Restless::Memory)
-            }
+            Err(_) => Err(Restless::Memory),
         }
     }
 
@@ -319,6 +383,16 @@ impl Hearing {
         ensures { (past : List Stamped) → IsRestOf past rest
             → IfOk result (λ hearing. IsHeard (record { events = past; left = []; since = rest.last }) hearing) }
     {
+        rest.gone_on(alloc)
+    }
+}
+
+impl Rest {
+    /// A hearing that goes on from it.
+    fn gone_on(self, alloc: Global) -> Result<Hearing, Unfit>
+        ensures { (past : List Stamped) → IsRestOf past self
+            → IfOk result (λ hearing. IsHeard (record { events = past; left = []; since = self.last }) hearing) }
+    {
         let Rest {
             events,
             desks,
@@ -326,7 +400,7 @@ impl Hearing {
             begun,
             clocks,
             residents,
-        } = rest;
+        } = self;
         let state = rebuilt(alloc, residents)?;
         Ok(Hearing {
             state,
@@ -360,8 +434,8 @@ pub enum Unfit {
     Memory,
 }
 
-/// Drops both. What a drop does is so proved once.
-fn let_go(_state: State, _holding: Holding) {}
+/// Drops what a process held. What its drop does is so proved once.
+fn drop_holding(_holding: Holding) {}
 
 /// The state with one process more, which lives.
 fn with_living(state: State, pid: Pid, holding: Holding) -> Result<State, Unfit>
@@ -369,7 +443,8 @@ fn with_living(state: State, pid: Pid, holding: Holding) -> Result<State, Unfit>
         (λ new. new ≡ record state { lives = state.lives ++ (pid, living (holds_so holding)) ∷ [] }) }
 {
     if state.alive(pid) || state.ended(pid).is_some() {
-        let_go(state, holding);
+        let_go(state);
+        drop_holding(holding);
         return Err(Unfit::Twice(pid));
     }
     match state.with_living(pid, holding) {
@@ -383,6 +458,7 @@ fn with_ended(alloc: Global, state: State, pid: Pid, reason: Reason) -> Result<S
     ensures { IfOk result (λ new. new ≡ record state { lives = state.lives ++ (pid, ended reason fresh) ∷ [] }) }
 {
     if state.alive(pid) || state.ended(pid).is_some() {
+        let_go(state);
         return Err(Unfit::Twice(pid));
     }
     match state.with_ended(alloc, pid, reason) {

@@ -14,6 +14,7 @@ ghost use Rattle.pt_auditor.specs.Saving.{link_record, no_holding, rest_text, su
 ghost use Rattle.pt_auditor.specs.Saving.{told_with, watch_record};
 
 use crate::clocks::Clocks;
+use crate::rest::put;
 use crate::{Resident, Rest};
 use pt_events::Stamped;
 use pt_judge::Holding;
@@ -273,11 +274,9 @@ fn close(
         return Err(misplaced(line, Flaw::Misplaced));
     };
     if sum != sum_of(lines) {
-        rest.let_go();
         return Err(misplaced(line, Flaw::Sum));
     }
     if behind.len() > 0 {
-        rest.let_go();
         return Err(misplaced(line, Flaw::Behind));
     }
     Ok(rest)
@@ -332,15 +331,12 @@ impl Rest {
         read_lines(alloc, text)
     }
 
-    /// Drops it. What a drop does is so proved once, and not at each place that drops a rest.
-    pub(crate) fn let_go(self) {}
-
     /// The state with a process more, or several that ended alike.
     fn with_resident(self, resident: Resident) -> Result<Rest, Flaw>
         ensures { IsToldSo (Some (record (told_of self) { entries = entry_of resident ∷ (told_of self).entries })) result }
     {
         let mut rest = self;
-        match rest.residents.push_back(resident) {
+        match put(&mut rest.residents, resident) {
             Ok(()) => Ok(rest),
             Err(_) => Err(Flaw::Memory),
         }
@@ -354,19 +350,10 @@ impl Rest {
         match rest.residents.pop_back() {
             Some(Resident::Lives(pid, holding)) => match hold(holding, line) {
                 Ok(holding) => rest.with_resident(Resident::Lives(pid, holding)),
-                Err(flaw) => {
-                    rest.let_go();
-                    Err(flaw)
-                }
+                Err(flaw) => Err(flaw),
             },
-            Some(Resident::Ended(_, _, _)) => {
-                rest.let_go();
-                Err(Flaw::Misplaced)
-            }
-            None => {
-                rest.let_go();
-                Err(Flaw::Misplaced)
-            }
+            Some(Resident::Ended(_, _, _)) => Err(Flaw::Misplaced),
+            None => Err(Flaw::Misplaced),
         }
     }
 
@@ -397,27 +384,23 @@ impl Rest {
         ensures { IsToldSo (told_with (told_of self) (Last stamped)) result }
     {
         if !self.is_bare() {
-            self.let_go();
             return Err(Flaw::Misplaced);
         }
-        let last = Some(stamped);
-        Ok(Rest { last, ..self })
+        let mut rest = self;
+        rest.last = Some(stamped);
+        Ok(rest)
     }
 
     fn with_clock(self, desk: u8, stamp: u64) -> Result<Rest, Flaw>
         ensures { IsToldSo (told_with (told_of self) (Clock desk stamp)) result }
     {
         if !self.takes_clock(desk) {
-            self.let_go();
             return Err(Flaw::Misplaced);
         }
         let mut rest = self;
         match rest.clocks.add(desk, stamp) {
             Ok(()) => Ok(rest),
-            Err(_) => {
-                rest.let_go();
-                Err(Flaw::Memory)
-            }
+            Err(_) => Err(Flaw::Memory),
         }
     }
 
@@ -426,10 +409,7 @@ impl Rest {
         ensures { IsToldSo (told_with (told_of self) line) result }
     {
         match line {
-            Record::Head(_, _, _) => {
-                self.let_go();
-                Err(Flaw::Misplaced)
-            }
+            Record::Head(_, _, _) => Err(Flaw::Misplaced),
             Record::Last(stamped) => self.with_last(stamped),
             Record::Clock(desk, stamp) => self.with_clock(desk, stamp),
             Record::Lives(pid, traps) => {
@@ -438,10 +418,7 @@ impl Rest {
             Record::Ended(pid, last, reason) => {
                 self.with_resident(Resident::Ended(pid, last, reason))
             }
-            Record::End(_) => {
-                self.let_go();
-                Err(Flaw::Misplaced)
-            }
+            Record::End(_) => Err(Flaw::Misplaced),
             _ => self.with_held(line),
         }
     }

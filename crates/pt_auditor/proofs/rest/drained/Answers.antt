@@ -23,7 +23,7 @@ loop-from-preserved c =
     let gone = front_gone a b now.flights x c.in-Some.ensures (own a b c.in-Some.signal) ∙ ap (λ z. x ∷ z) (sym less) in
     draining_one c.args.state now c.without_oldest-state.result c.loop-from.estate c.add.new.self x c.loop-from.invariant gone
     (c.without_oldest-state.ensures ∙ ap (λ z. record now { flights = z }) (sym less))
-    c.in_ok-add.ensures.links c.in_ok-add.ensures.kept c.in_ok-add.ensures.watching
+    c.in-Ok.ensures.links c.in-Ok.ensures.kept c.in-Ok.ensures.watching
 
 pub loop-from-smaller : goal.loop-from-smaller
 loop-from-smaller c =

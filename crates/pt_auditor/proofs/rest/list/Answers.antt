@@ -15,19 +15,19 @@ returns-in-Some c =
     let p = c.args.pid in
     let s = c.args.state in
     let r = c.in-Some.reason in
-    listed p (ended r fresh) s s c.args.residents.items _ c.in_ok-add_end.ensures (reason_outcome (now_is s p) r c.in-Some.ensures) refl (λ q a. refl) c.requires
+    listed p (ended r fresh) s s c.args.residents.now.items _ c.in-Ok.ensures (reason_outcome (now_is s p) r c.in-Some.ensures) refl (λ q a. refl) c.requires
 
 pub returns-then-not-alive : goal.returns-then-not-alive
 returns-then-not-alive c =
-    not_listed c.args.pid c.args.state c.args.residents.items (sym c.alive.ensures ∙ c.if-not-alive.true) c.in_default.ensures c.requires
+    not_listed c.args.pid c.args.state c.args.residents.now.items (sym c.alive.ensures ∙ c.if-not-alive.true) c.in_default.ensures c.requires
 
 pub returns : goal.returns
 returns c =
     let p = c.args.pid in
     let s = c.args.state in
-    let rs = c.args.residents.items in
+    let rs = c.args.residents.now.items in
     let new = c.in_ok-state.state in
     let h = c.in_ok-state.holding in
     let out = c.in_ok-state.ensures in
-    subst (IsListed p s rs new) (sym c.in_ok-push_back.ensures.items)
+    subst (IsListed p s rs new) (sym c.in-Ok-put.ensures)
     (listed p (living (holds_so h)) s new rs (rs ++ Lives p h ∷ []) (flat_map-append resident_lives rs (Lives p h ∷ [])) (ap outcome out.held) refl out.others out.still)

@@ -7,4 +7,4 @@ use Rattle.pt_auditor.proofs.rest.Rest.with_resident.Goals as goal
 pub returns-in-Ok : goal.returns-in-Ok
 returns-in-Ok c =
     ap (λ es. Some (record (told_of c.args.self) { entries = es }))
-    (sym (last_entry c.push_back.new.self.items c.args.self.residents.items c.args.resident c.in-Ok.ensures.items))
+    (sym (last_entry c.put.new.residents.items c.args.self.residents.items c.args.resident c.in-Ok.ensures))
