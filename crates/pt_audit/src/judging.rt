@@ -4,7 +4,6 @@ use crate::asked::{Asked, Print};
 use crate::output::Output;
 use crate::refusal::{Refusal, faulty, unread, wants_memory};
 use crate::source::{PIECE, Source};
-use crate::state::let_go;
 use pt_auditor::{Audit, Fault, Foreign, Hearing, Verdict};
 use pt_chart::chart;
 use pt_events::{Event, Stamped};
@@ -18,7 +17,7 @@ use std::mem;
 fn feed(alloc: Global, audit: &mut Audit, bytes: &[u8]) -> Result<(), Fault> {
     match mem::replace(audit, Audit::new(alloc)).read(alloc, bytes) {
         Ok(next) => {
-            let_go(mem::replace(audit, next));
+            *audit = next;
             Ok(())
         }
         Err(fault) => Err(fault),

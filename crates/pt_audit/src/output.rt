@@ -5,7 +5,6 @@ use std::alloc::Global;
 use std::io::Write;
 
 /// A writer, the events that are to be drawn, and what was noted while reading.
-#[derive(Drop)]
 pub struct Output<W> {
     pub writer: W,
     pub drawn: Vec<Stamped>,
@@ -15,6 +14,19 @@ pub struct Output<W> {
     pub met: bool,
     /// The number of events before the history that is read.
     pub before: u64,
+}
+
+// By hand, so that each drop of it is a call.
+impl<W: Drop> Drop for Output<W> {
+    fn drop(self) {
+        let Output {
+            writer: _,
+            drawn: _,
+            foreign: _,
+            met: _,
+            before: _,
+        } = self;
+    }
 }
 
 impl<W: Write + Drop> Output<W> {

@@ -11,7 +11,6 @@ use std::io::Read;
 pub const PIECE: usize = 65_536;
 
 /// A file, and its next line.
-#[derive(Drop)]
 pub struct Source<R> {
     reader: R,
     /// Its place among the files.
@@ -26,6 +25,24 @@ pub struct Source<R> {
     /// Whether the line has no line feed, as the file is over.
     is_torn: bool,
     event: Option<Stamped>,
+}
+
+// By hand, so that each drop of it is a call.
+impl<R: Drop> Drop for Source<R> {
+    fn drop(self) {
+        let Source {
+            reader: _,
+            file: _,
+            piece: _,
+            filled: _,
+            place: _,
+            line: _,
+            number: _,
+            is_open: _,
+            is_torn: _,
+            event: _,
+        } = self;
+    }
 }
 
 impl<R: Read + Drop> Source<R> {

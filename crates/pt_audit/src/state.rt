@@ -6,9 +6,6 @@ use std::alloc::Global;
 use std::rt::Runtime;
 use std::{fs, io};
 
-/// Drops it. What a drop does is so proved once, and not at each place that drops an audit.
-pub fn let_go(_audit: Audit) {}
-
 /// An audit that goes on from the state in the file, or that has read nothing, and the number of events before it.
 pub fn start<R: Runtime + AllocGlobal>(
     rt: &R,
