@@ -1,0 +1,2 @@
+-- The lemmas that more than one function of the crate uses.
+pub mod InTeam

@@ -1,0 +1,4 @@
+pub mod Crossing
+pub mod Owning
+pub mod Teaming
+pub mod Through
