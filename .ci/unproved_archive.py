@@ -29,7 +29,8 @@ ROOT = Path(__file__).resolve().parent.parent
 PROGRAM = "pt_c_unproved"
 EXPORT = re.compile(r'#\[unsafe\(no_mangle\)\]\n(?:#\[.*\]\n)*pub extern "C" fn (\w+)\(([^)]*)\)( -> u32)?')
 # How a struct that is passed by value crosses: by a pointer, or as its two fields.
-BY_POINTER = ("PtPid", "PtBody", "PtPick", "PtConfig", "PtNext", "PtItem", "PtRequest", "PtPost")
+BY_POINTER = ("PtPid", "PtBody", "PtPick", "PtConfig", "PtNext", "PtItem", "PtRequest", "PtPost",
+              "PtSupervisorSpec")
 BY_FIELDS = {"PtRef": ("desk", "number"), "PtReason": ("code", "number"), "PtTimer": ("at", "number")}
 FIELD_TYPES = {"PtRef": ["uint8_t", "uint64_t"], "PtReason": ["uint32_t", "uint32_t"], "PtTimer": ["uint64_t", "uint64_t"]}
 ROW = re.compile(r"(&(?:mut )?)\[(\w+)\]")
@@ -65,7 +66,8 @@ def argument(kind: str) -> str:
     if kind == "Global":
         return "rt.alloc()"
     if row := ROW.fullmatch(kind):
-        handle = {"DeskHandle": "pt_table::desk_handle", "CrewHandle": "pt_table::crew_handle"}.get(row[2])
+        handle = {"DeskHandle": "pt_table::desk_handle", "CrewHandle": "pt_table::crew_handle",
+                  "PtNotice": "pt_team_handles::types", "PtChildSpec": "pt_team_handles::types"}.get(row[2])
         item = row[2] if row[2] in PLAIN else f"{handle or 'pt_structs::types'}::{row[2]}"
         return f"{row[1]}any::<[{item}; 1]>(&rt)"
     return "&mut any(&rt)" if kind.startswith("&mut ") else "any(&rt)"
@@ -173,6 +175,9 @@ typedef struct { uint32_t code; PtReason reason; uint64_t until; PtPick pick; } 
 typedef struct { uint32_t code; bool alive; PtPid pid; PtRef reference; PtReason reason; PtBody body; } PtItem;
 typedef struct { PtPid from; uint32_t asks; int64_t number; } PtRequest;
 typedef struct { PtPid to; PtBody body; } PtPost;
+typedef struct {
+    uint32_t strategy; bool timed; bool has_parent; PtPid parent; size_t most; uint64_t span;
+} PtSupervisorSpec;
 """
 
 

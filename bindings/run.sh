@@ -115,7 +115,8 @@ by_the_page() { # SED-SCRIPT
 mkdir -p "$work/page"
 ln -s "$here" "$work/page/bindings"
 by_the_page '' >"$work/printed"
-for example in about asking bad_codes crew crew_load losses no_memory refused refused_tools resumed ring supervisor tools; do
+for example in about asking bad_codes crew crew_load losses no_memory refused refused_team refused_tools resumed ring \
+    supervisor team tools; do
     by_the_page "/^\.\//d; s/ping_pong/$example/g" >"$work/printed"
     [ -x "$work/page/$example" ] || { echo "bindings: the lines of docs/EMBEDDING.md do not build $example"; exit 1; }
 done
@@ -137,7 +138,9 @@ build resumed
 build no_memory
 build losses
 build refused
+build refused_team
 build refused_tools
+build team
 "$work/about"
 "$work/bad_codes"
 "$work/crew_load"
@@ -147,22 +150,24 @@ build refused_tools
 "$work/no_memory"
 "$work/losses"
 "$work/refused"
+"$work/refused_team"
 "$work/refused_tools"
 "$work/supervisor" | diff "$here/c/supervisor.out" -
 "$work/resumed" | diff "$here/c/resumed.out" -
+"$work/team" | diff "$here/c/team.out" -
 "$work/tools" | diff "$here/c/tools.out" -
 "$work/ring" >"$work/printed"
 for standard in c++11 c++20; do
     echo '#include "pundewo_text.h"
         pt_desk desk = PT_NO_DESK; pt_gathered node = PT_NO_GATHERED; pt_quiet quiet = PT_NO_QUIET; pt_history all = PT_NO_HISTORY;
-        pt_crew crew = PT_NO_CREW; pt_timers timers = PT_NO_TIMERS; pt_names names = PT_NO_NAMES;
+        pt_crew crew = PT_NO_CREW; pt_team team = PT_NO_TEAM; pt_timers timers = PT_NO_TIMERS; pt_names names = PT_NO_NAMES;
         pt_door door = PT_NO_DOOR; pt_way_in way_in = PT_NO_WAY_IN;' |
         cc -x c++ -std=$standard -I "$here/c" -Wall -Wextra -Wpedantic -Werror -fsyntax-only -
 done
 if command -v valgrind >/dev/null; then
     # (fair: four threads that spin would else wait for each other for minutes)
     memory="valgrind -q --fair-sched=try --error-exitcode=9 --leak-check=full --show-leak-kinds=all --errors-for-leak-kinds=all"
-    for program in about asking bad_codes losses "rows $work/table" supervisor resumed tools "ring 20" crew "crew_load 3000"; do
+    for program in about asking bad_codes losses "rows $work/table" supervisor resumed team tools "ring 20" crew "crew_load 3000"; do
         $memory "$work/"$program >"$work/printed" 2>&1 \
             || { cat "$work/printed"; echo "valgrind: $program is not clean"; exit 1; }
     done

@@ -90,6 +90,28 @@ static void asking(void) {
     is("pt_post", size, sizeof(pt_post));
 }
 
+/* The structs of teams. */
+static void teams(void) {
+    pt_team_codes told;
+    SAMPLE(pt_supervisor_spec, s, pt_about_supervisor_spec);
+    NEXT(s.strategy); TRUE(s.timed); TRUE(s.has_parent); pid(s.parent); NEXT(s.most); NEXT(s.span);
+    SAMPLE(pt_child_spec, c, pt_about_child_spec);
+    NEXT(c.tag); NEXT(c.restart); NEXT(c.shutdown); NEXT(c.time);
+    SAMPLE(pt_child, d, pt_about_child);
+    TRUE(d.has_pid); TRUE(d.wanted); pid(d.pid); NEXT(d.restart); NEXT(d.shutdown); NEXT(d.time);
+    SAMPLE(pt_notice, n, pt_about_notice);
+    NEXT(n.job.code); pid(n.job.pid); NEXT(n.job.tag); item(n.job.item); reason(n.job.reason); does(n.job.was);
+    TRUE(n.has_supervisor); TRUE(n.again); pid(n.supervisor);
+    pt_about_teams(&told);
+    const uint64_t written[] = {told.one_for_one, told.one_for_all, told.rest_for_one, told.permanent, told.transient,
+        told.temporary, told.infinity, told.after, told.brutal_kill, told.supervisor_spec, told.child_spec, told.child,
+        told.notice};
+    const uint64_t all[] = {PT_ONE_FOR_ONE, PT_ONE_FOR_ALL, PT_REST_FOR_ONE, PT_PERMANENT, PT_TRANSIENT, PT_TEMPORARY,
+        PT_SHUTDOWN_INFINITY, PT_SHUTDOWN_AFTER, PT_BRUTAL_KILL, sizeof(pt_supervisor_spec), sizeof(pt_child_spec),
+        sizeof(pt_child), sizeof(pt_notice)};
+    for (size_t k = 0; k < sizeof all / sizeof *all; k++) is("a code or a size of teams", written[k], all[k]);
+}
+
 static void sizes(void) {
     pt_sizes s;
     pt_about_sizes(&s);
@@ -145,6 +167,7 @@ int main(void) {
     asking();
     sizes();
     codes();
+    teams();
     printf("c: about, %d wrong\n", wrong);
     return wrong != 0;
 }

@@ -17,7 +17,7 @@
  *    nothing;
  *  - a crew is used with one desk alone: that of its first call, or, after pt_crews_go_on or pt_crew_begin_again, the
  *    desk of the same number in the node that was resumed. A desk of another number is refused by PT_WRONG_DESK, but
- *    one of the same number in another node is not seen to be another;
+ *    one of the same number in another node is not seen to be another. So it is with a team;
  *  - pt_gather and pt_crews_go_on get desks of one pt_open or of one resumption: they see whether these are all, and in
  *    order, but not whether they are of one node;
  *  - malloc, realloc and free come from one allocator, with malloc's usual alignment; no call is made from a signal
@@ -41,6 +41,7 @@ typedef struct { void *at; } pt_quiet;
 typedef struct { void *at; } pt_settled;
 typedef struct { void *at; } pt_history;
 typedef struct { void *at; } pt_crew;
+typedef struct { void *at; } pt_team;
 typedef struct { void *at; } pt_timers;
 typedef struct { void *at; } pt_names;
 typedef struct { void *at; } pt_door;
@@ -53,6 +54,7 @@ typedef struct { void *at; } pt_way_in;
 #define PT_NO_SETTLED pt_settled{nullptr}
 #define PT_NO_HISTORY pt_history{nullptr}
 #define PT_NO_CREW pt_crew{nullptr}
+#define PT_NO_TEAM pt_team{nullptr}
 #define PT_NO_TIMERS pt_timers{nullptr}
 #define PT_NO_NAMES pt_names{nullptr}
 #define PT_NO_DOOR pt_door{nullptr}
@@ -64,6 +66,7 @@ typedef struct { void *at; } pt_way_in;
 #define PT_NO_SETTLED ((pt_settled){0})
 #define PT_NO_HISTORY ((pt_history){0})
 #define PT_NO_CREW ((pt_crew){0})
+#define PT_NO_TEAM ((pt_team){0})
 #define PT_NO_TIMERS ((pt_timers){0})
 #define PT_NO_NAMES ((pt_names){0})
 #define PT_NO_DOOR ((pt_door){0})
@@ -93,7 +96,7 @@ enum pt_code {
     PT_BAD_START = 15,      /* at most 2^62 */
     PT_BAD_CODE = 16,       /* a code in a struct that was passed in means nothing */
     PT_NOT_RUNNING = 17,    /* an answer for a process that was told nothing, or has been answered */
-    PT_WRONG_DESK = 18,     /* the crew is that of a desk with another number */
+    PT_WRONG_DESK = 18,     /* the crew or team is that of a desk with another number */
     PT_BAD_NAME = 19,       /* the bytes are no name */
     PT_TAKEN = 20,          /* a process has the name */
     PT_HAS_NAME = 21        /* the process has a name */
@@ -208,6 +211,32 @@ typedef struct {
 
 /* What a running process does next. */
 typedef struct { pt_pid pid; pt_next next; } pt_answer;
+
+/* A supervisor without its children. `strategy` says which others it ends and starts again with a child that has exited:
+ * no other, all others, or those that were listed after it. It makes `most` restarts within `span`, counted in time
+ * (pt_team_set_time) where `timed`, and else in stamps of its desk. Where `has_parent` it exits with `parent`. A call that
+ * gets any other code answers PT_BAD_CODE. */
+enum { PT_ONE_FOR_ONE = 0, PT_ONE_FOR_ALL = 1, PT_REST_FOR_ONE = 2 };
+typedef struct {
+    uint32_t strategy; bool timed; bool has_parent; pt_pid parent; size_t most; uint64_t span;
+} pt_supervisor_spec;
+
+/* What a supervisor knows of a child: the tag that it is started with, whether it is started again when it has exited
+ * (always; unless it exited with `normal` or `shutdown`; never), and how it is ended (by `shutdown`, however long that
+ * takes; by `shutdown`, and after `time` by `kill`; by `kill`). A call that gets any other code answers PT_BAD_CODE. */
+enum { PT_PERMANENT = 0, PT_TRANSIENT = 1, PT_TEMPORARY = 2 };
+enum { PT_SHUTDOWN_INFINITY = 0, PT_SHUTDOWN_AFTER = 1, PT_BRUTAL_KILL = 2 };
+typedef struct { uint64_t tag; uint32_t restart; uint32_t shutdown; uint64_t time; } pt_child_spec;
+
+/* A child in its place. It has a pid from its start until its supervisor gets its exit. `wanted` is whether the supervisor
+ * wants it alive. */
+typedef struct {
+    bool has_pid; bool wanted; pt_pid pid; uint32_t restart; uint32_t shutdown; uint64_t time;
+} pt_child;
+
+/* What the handler of a process of a team is told. Where `job` is PT_JOB_START and a supervisor started the process,
+ * `has_supervisor` is true, and `again` is whether a child in the same place had exited before. */
+typedef struct { pt_job job; bool has_supervisor; bool again; pt_pid supervisor; } pt_notice;
 
 /* A timer: when it is due, and the number of timers that were started before it. No two timers of one pt_timers have the
  * same. */
@@ -467,6 +496,68 @@ uint32_t pt_crew_is_idle(pt_crew *crew, pt_desk *desk, bool *out);
 /* Whether a process was refused memory or a stamp in the last step. */
 uint32_t pt_crew_refused(pt_crew *crew, bool *out);
 
+/* ---- teams: crews with supervisors in them. Each may answer PT_EMPTY, which comes first. Each that gets a desk answers
+ * PT_WRONG_DESK if the team is that of a desk with another number; PT_BAD_CODE alone comes before that, and nothing has
+ * changed.
+ *
+ * A process of a team is one with a tag, whose handler is yours, or a supervisor, which handles what it gets itself: it
+ * starts its children, and starts them again when they exit. The loop is that of a crew. Each child is told PT_JOB_START
+ * first: then make its state, and answer for it. A call that has the name of one of crews does what that one does. */
+
+/* Begins a team, with no process and at the time 0. PT_FILLED, PT_MEMORY. */
+uint32_t pt_team_open(pt_team *team);
+
+/* Gives up a team and its memory: the handle is empty. Its processes stay on their desk. */
+uint32_t pt_team_give_up(pt_team *team);
+
+/* Spawns a process as pt_crew_spawn and pt_crew_spawn_child do. PT_BAD_CODE, and then as there. The parent is no
+ * supervisor of the team: a supervisor starts its children itself. */
+uint32_t pt_team_spawn(pt_team *team, pt_desk *desk, uint64_t tag, pt_next first, pt_pid *out);
+uint32_t pt_team_spawn_child(pt_team *team, pt_desk *desk, pt_pid parent, bool linked, uint64_t tag, pt_next first,
+    pt_pid *out);
+
+/* Spawns a supervisor with this tag, which starts its children in the next step, in order. PT_BAD_CODE: a code of it or of
+ * a child means nothing. Then as pt_spawn; PT_MEMORY, too, where there is none for `most` restarts. */
+uint32_t pt_team_spawn_supervisor(pt_team *team, pt_desk *desk, uint64_t tag, pt_supervisor_spec spec,
+    const pt_child_spec *children, size_t count, pt_pid *out);
+
+/* Answers for a running process, as for a child that was told PT_JOB_START, that it is a supervisor: so a child may have
+ * children. Name its supervisor as the `parent`, with which it exits then. Do so each time it is started. PT_BAD_CODE;
+ * PT_NOT_RUNNING; PT_MEMORY, and then it is running still. */
+uint32_t pt_team_supervise(pt_team *team, pt_pid p, pt_supervisor_spec spec, const pt_child_spec *children, size_t count);
+
+/* Does a step as pt_crew_step does. Supervisors in the queue handle what they get, and are in no notice. A child that a
+ * supervisor starts in a step enters the team as it ends, and is told so in the next. */
+uint32_t pt_team_step(pt_team *team, pt_desk *desk, uint32_t budget, pt_notice *notices, size_t most, size_t *count,
+    pt_turned *turned);
+
+/* As pt_crew_answer, pt_crew_note_loss, pt_crew_set_time and pt_crew_begin_again. */
+uint32_t pt_team_answer(pt_team *team, const pt_answer *answers, size_t count, size_t *taken);
+uint32_t pt_team_note_loss(pt_team *team, pt_desk *desk, size_t place);
+uint32_t pt_team_set_time(pt_team *team, uint64_t now);
+uint32_t pt_team_begin_again(pt_team *team);
+
+/* For a node that was resumed: goes on over its desk of the same number, with the history of the node before. Each process
+ * is in the queue then, supervisors too, and does next what it was to do. Each exit need not have been told: its reason is
+ * kept from the history. A pause of a node with teams, at any time between two steps: pt_gather, pt_settle_unlisted,
+ * pt_settled_history, pt_resume_settled, and this for each team. */
+uint32_t pt_team_go_on(pt_team *team, pt_history *history);
+
+/* As pt_crew_next_time, pt_crew_tag, pt_crew_next, pt_crew_len, pt_crew_queued, pt_crew_is_idle and pt_crew_refused.
+ * Supervisors count. */
+uint32_t pt_team_next_time(pt_team *team, uint64_t *out);
+uint32_t pt_team_tag(pt_team *team, pt_pid p, uint64_t *out);
+uint32_t pt_team_next(pt_team *team, pt_pid p, pt_next *out);
+uint32_t pt_team_len(pt_team *team, size_t *out);
+uint32_t pt_team_queued(pt_team *team, size_t *out);
+uint32_t pt_team_is_idle(pt_team *team, pt_desk *desk, bool *out);
+uint32_t pt_team_refused(pt_team *team, bool *out);
+
+/* How many children a supervisor has, and the one at a place. PT_NOTHING: p is no supervisor of the team; the place has no
+ * child. */
+uint32_t pt_team_children(pt_team *team, pt_pid p, size_t *out);
+uint32_t pt_team_child(pt_team *team, pt_pid p, size_t place, pt_child *out);
+
 /* ---- timers: numbers of your own, each due at a time, as Erlang's send_after and cancel_timer keep them. Each may answer
  * PT_EMPTY
  *
@@ -629,6 +720,17 @@ void pt_about_job(pt_job *out);
 void pt_about_answer(pt_answer *out);
 void pt_about_asking(pt_asking_about *out);       /* samples, and their sizes */
 void pt_about_post(pt_post *out, size_t *size);   /* and its size */
+
+/* The codes of supervisors, the sizes of what crosses of teams, and samples. */
+typedef struct {
+    uint32_t one_for_one, one_for_all, rest_for_one, permanent, transient, temporary, infinity, after, brutal_kill;
+    size_t supervisor_spec, child_spec, child, notice;
+} pt_team_codes;
+void pt_about_teams(pt_team_codes *out);
+void pt_about_supervisor_spec(pt_supervisor_spec *out);
+void pt_about_child_spec(pt_child_spec *out);
+void pt_about_child(pt_child *out);
+void pt_about_notice(pt_notice *out);
 
 #ifdef __cplusplus
 }

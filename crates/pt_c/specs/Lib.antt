@@ -1,5 +1,6 @@
 pub mod Nodes
 pub mod About
+pub mod AboutTeams
 pub mod Crews
 pub mod GoingOn
 pub mod Naming

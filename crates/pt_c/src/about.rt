@@ -362,7 +362,7 @@ pub extern "C" fn pt_about_left_over(out: &mut PtLeftOver)
 }
 
 /// A pid whose fields have the numbers from this one on.
-fn sample_pid(first: u8) -> PtPid
+pub(crate) fn sample_pid(first: u8) -> PtPid
     ensures { result ≡ sample_pid first }
 {
     let slot = first as u32 + 1;

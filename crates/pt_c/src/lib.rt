@@ -1,13 +1,13 @@
 //! The process table for C: a static library, whose header is `bindings/c/pundewo.h`.
 //!
 //! C keeps opaque handles of one pointer: for a desk, a gathered node, a settled one with and without the list of its
-//! pids, a history, a crew, timers, names, and the two ends of a way in. An export takes the value out of the handle, makes the call of Rattle
-//! that has its name, and puts the value back. By its contract, its code and what it writes are that call's answer, and
-//! if it fails, all is as it was. An empty handle is a code, too.
+//! pids, a history, a crew, a team, timers, names, and the two ends of a way in. An export takes the value out of the
+//! handle, makes the call of Rattle that has its name, and puts the value back. By its contract, its code and what it
+//! writes are that call's answer, and if it fails, all is as it was. An empty handle is a code, too.
 //!
 //! Values with an enum or an option in Rattle cross as plain structs with a code (`pt_structs::types`). `about` reports
 //! codes, sizes and fields, to be compared with a header. `pt_table` has what is not exported, `pt_tools` that of
-//! timers, `pt_asking` that of calls, and `pt_doors` that of a way in.
+//! timers, `pt_asking` that of calls, `pt_doors` that of a way in, and `pt_team_handles` that of teams.
 //!
 //! Tests: `bindings/run.sh`.
 //!
@@ -18,9 +18,12 @@
 //! - **Failures.** If a function fails, each handle and each struct passed in is as it was, also if there is no memory.
 //! - **Handles.** An empty handle, a full one that must be empty, and a wrong number or order of desks are codes.
 //! - **Bad codes.** So is a pick, a reason, or what a process does next, whose own code means nothing.
-//! - **Other desks.** So is a crew over a desk of another number, also in a row of crews that go on. (`IfOwn`, `NodeGoesOn`)
+//! - **Other desks.** So is a crew or a team over a desk of another number, also in a row of crews that go on. (`IfOwn`,
+//!   `NodeGoesOn`)
 //! - **Crews.** A step hands out what `Hands` hands out, in order, no process twice, and no wake-up is lost. Of a row of
 //!   answers each is taken, up to the first that is refused. (`CrewSteps`, `AnswersInOrder`)
+//! - **Teams.** Each call is that of `Team`. A start is told with its supervisor, and whether it is one again. (`TeamSteps`,
+//!   `SpawnsBossInTeam`)
 //! - **Timers and names.** Each call is that of `Timers` and of `Names`, with bytes for a name. (`StartsTimer`,
 //!   `RegistersName`)
 //! - **Calls.** Asking, hearing and replying are those of `pt_crew`, and a call ends once. (`AsksServer`, `HearsItem`)
@@ -34,6 +37,7 @@
 #![tactic(auto)]
 
 mod about;
+mod about_teams;
 mod asking;
 mod calls;
 mod crews;
@@ -46,5 +50,6 @@ mod node;
 mod reads;
 mod resuming;
 mod settled;
+mod teams;
 mod timers;
 mod ways_in;
