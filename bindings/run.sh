@@ -181,6 +181,7 @@ echo "c: examples passed"
     cargo test -q --offline
     RUSTDOCFLAGS="-D warnings" cargo doc -q --offline --no-deps
     cargo run -q --offline --example supervisor | diff "$here/c/supervisor.out" -
+    cargo run -q --offline --example team | diff "$here/c/team.out" -
     cargo run -q --offline --example ring >"$work/printed"
     cargo run -q --offline --example ping_pong 200 >"$work/printed"
     if cargo clippy --version >/dev/null 2>&1; then

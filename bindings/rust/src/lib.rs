@@ -26,7 +26,8 @@
 //! ```
 //!
 //! A program whose processes run code takes [`runtime`]: typed messages, and a thread for each desk. A program with threads
-//! of its own takes a [`Crew`] for each desk, which says which process is told what.
+//! of its own takes a [`Crew`] for each desk, which says which process is told what, or a [`Team`](team::Team), which has
+//! supervisors too.
 //!
 //! # Errors
 //!
@@ -71,6 +72,7 @@ pub mod raw;
 mod reading;
 #[forbid(unsafe_code)]
 pub mod runtime;
+pub mod team;
 mod tools;
 mod values;
 

@@ -371,3 +371,96 @@ unsafe extern "C" {
     pub fn pt_about_asking(out: &mut RawAskingAbout);
     pub fn pt_about_post(out: &mut RawPost, size: &mut usize);
 }
+
+// ---- teams
+
+#[repr(C)]
+#[derive(Clone, Copy, Debug, Default)]
+pub struct RawSupervisorSpec {
+    pub strategy: u32,
+    pub timed: bool,
+    pub has_parent: bool,
+    pub parent: Pid,
+    pub most: usize,
+    pub span: u64,
+}
+
+#[repr(C)]
+#[derive(Clone, Copy, Debug, Default)]
+pub struct RawChildSpec {
+    pub tag: u64,
+    pub restart: u32,
+    pub shutdown: u32,
+    pub time: u64,
+}
+
+#[repr(C)]
+#[derive(Clone, Copy, Debug, Default)]
+pub struct RawChild {
+    pub has_pid: bool,
+    pub wanted: bool,
+    pub pid: Pid,
+    pub restart: u32,
+    pub shutdown: u32,
+    pub time: u64,
+}
+
+#[repr(C)]
+#[derive(Clone, Copy, Debug, Default)]
+pub struct RawNotice {
+    pub job: RawJob,
+    pub has_supervisor: bool,
+    pub again: bool,
+    pub supervisor: Pid,
+}
+
+#[repr(C)]
+#[derive(Clone, Copy, Debug, Default, PartialEq, Eq)]
+pub struct RawTeamCodes {
+    pub strategies: [u32; 3],
+    pub restarts: [u32; 3],
+    pub shutdowns: [u32; 3],
+    pub supervisor_spec: usize,
+    pub child_spec: usize,
+    pub child: usize,
+    pub notice: usize,
+}
+
+unsafe extern "C" {
+    pub fn pt_team_open(team: &mut Handle) -> u32;
+    pub fn pt_team_give_up(team: &mut Handle) -> u32;
+    pub fn pt_team_spawn(team: &mut Handle, h: &mut Handle, tag: u64, first: RawNext, out: &mut Pid) -> u32;
+    pub fn pt_team_spawn_child(
+        team: &mut Handle, h: &mut Handle, parent: Pid, linked: bool, tag: u64, first: RawNext, out: &mut Pid,
+    ) -> u32;
+    pub fn pt_team_spawn_supervisor(
+        team: &mut Handle, h: &mut Handle, tag: u64, spec: RawSupervisorSpec, children: *const RawChildSpec, count: usize,
+        out: &mut Pid,
+    ) -> u32;
+    pub fn pt_team_supervise(
+        team: &mut Handle, p: Pid, spec: RawSupervisorSpec, children: *const RawChildSpec, count: usize,
+    ) -> u32;
+    pub fn pt_team_step(
+        team: &mut Handle, h: &mut Handle, budget: u32, notices: *mut RawNotice, most: usize, count: &mut usize,
+        turned: &mut RawTurned,
+    ) -> u32;
+    pub fn pt_team_answer(team: &mut Handle, answers: *const RawAnswer, count: usize, taken: &mut usize) -> u32;
+    pub fn pt_team_note_loss(team: &mut Handle, h: &mut Handle, place: usize) -> u32;
+    pub fn pt_team_set_time(team: &mut Handle, now: u64) -> u32;
+    pub fn pt_team_begin_again(team: &mut Handle) -> u32;
+    pub fn pt_team_go_on(team: &mut Handle, history: &mut Handle) -> u32;
+    pub fn pt_team_next_time(team: &mut Handle, out: &mut u64) -> u32;
+    pub fn pt_team_tag(team: &mut Handle, p: Pid, out: &mut u64) -> u32;
+    pub fn pt_team_next(team: &mut Handle, p: Pid, out: &mut RawNext) -> u32;
+    pub fn pt_team_len(team: &mut Handle, out: &mut usize) -> u32;
+    pub fn pt_team_queued(team: &mut Handle, out: &mut usize) -> u32;
+    pub fn pt_team_is_idle(team: &mut Handle, h: &mut Handle, out: &mut bool) -> u32;
+    pub fn pt_team_refused(team: &mut Handle, out: &mut bool) -> u32;
+    pub fn pt_team_children(team: &mut Handle, p: Pid, out: &mut usize) -> u32;
+    pub fn pt_team_child(team: &mut Handle, p: Pid, place: usize, out: &mut RawChild) -> u32;
+    pub fn pt_about_teams(out: &mut RawTeamCodes);
+    pub fn pt_about_supervisor_spec(out: &mut RawSupervisorSpec);
+    pub fn pt_about_child_spec(out: &mut RawChildSpec);
+    pub fn pt_about_child(out: &mut RawChild);
+    pub fn pt_about_notice(out: &mut RawNotice);
+}
