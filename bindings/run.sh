@@ -216,6 +216,7 @@ echo "rust: the telephone exchange passed"
     python3 -m unittest discover -q -s tests
     PYTHONPATH=. python3 examples/supervisor.py | diff "$here/c/supervisor.out" -
     PYTHONPATH=. python3 examples/crew.py | diff "$here/c/crew.out" -
+    PYTHONPATH=. python3 examples/team.py | diff "$here/c/team.out" -
     if command -v mypy >/dev/null; then
         for level in 3.9 "$(python3 -c 'import sys; print("%d.%d" % sys.version_info[:2])')"; do
             mypy --strict --cache-dir=/dev/null --python-version "$level" pundewo build_wheel.py examples tests

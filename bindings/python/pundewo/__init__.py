@@ -79,6 +79,7 @@ _CALLS = {
     "history_at": "History.events", "history_left_at": "History.left_over", "history_count": "History.__len__",
     "crew_len": "Crew.__len__", "crew_open": "Crew", "crew_note_loss": "Crew.next_loss",
     "ask_until": "ask", "door_open": "way_in", "way_in_take": "WayIn.take", "way_in_len": "WayIn.__len__",
+    "team_len": "Team.__len__", "team_open": "Team", "team_note_loss": "Team.next_loss", "team_child": "Team.children",
     "timers_open": "Timers", "timers_len": "Timers.__len__", "names_open": "Names", "names_len": "Names.__len__",
 }
 
@@ -87,7 +88,7 @@ def _called(call: Callable[..., int]) -> str:
     """The name of the call of this module that makes this one of the library."""
     name = getattr(call, "__name__", "").removeprefix("pt_")
     where, _, rest = name.partition("_")
-    is_of = where in ("crew", "gathered", "settled", "quiet", "history", "timers", "names", "door")
+    is_of = where in ("crew", "team", "gathered", "settled", "quiet", "history", "timers", "names", "door")
     return _CALLS.get(name) or (f"{where.capitalize()}.{rest}" if is_of else name)
 
 
@@ -431,7 +432,66 @@ class Desk(_Held):
         return pids, at.value
 
 
-class Crew(_Held):
+class _OfDesk(_Held):
+    """A handle of the library that is used with one desk."""
+
+    def _begin(self, desk: Desk, call: Callable[..., int]) -> None:
+        self._node, self._number = of_type("desk", desk, Desk)._node, desk.number
+        self._from(desk)._must(call)
+
+    def _called(self) -> str:
+        return f"{type(self).__name__} of desk {self._number}"
+
+    def _own(self, desk: Desk) -> Desk:
+        """The desk, which is its own."""
+        if of_type("desk", desk, Desk)._node is not self._node or desk.number != self._number:
+            raise ValueError(f"desk is {shown(desk)} of a node, and must be that of the {type(self).__name__.lower()}")
+        return desk
+
+    @contextmanager
+    def _over(self, desk: Desk) -> Iterator[Any]:
+        """The handle of its own desk, for one call."""
+        with self._own(desk)._held_alone():
+            yield desk._at
+
+    def _call_over(self, desk: Desk, call: Callable[..., int], *words: Any) -> int:
+        """The code that a call over its own desk returns. (in less time than by `_over`)"""
+        if not self._own(desk)._lock.acquire(False):
+            raise desk._busy()
+        try:
+            return self._call(call, desk._at, *words)
+        finally:
+            desk._lock.release()
+
+    def _again(self, desk: Desk) -> object:
+        """The node of the desk, which is that of its number in a node that was resumed."""
+        if of_type("desk", desk, Desk)._opened is not self._opened or desk.number != self._number:
+            raise ValueError(f"desk is {shown(desk)} of a node, and must be that of the {type(self).__name__.lower()} in a "
+                             "node that was resumed")
+        return desk._node
+
+    def _note_loss(self, desk: Desk, call: Callable[..., int]) -> Optional[Loss]:
+        """The oldest loss of the desk that was not told, once this call has noted it."""
+        code = self._call_over(desk, call, 0)
+        if code == Code.NOTHING:
+            return None
+        if code:
+            raise _fault(call, (), code)
+        return desk.next_loss()
+
+
+def answers_of(answers: Sequence[tuple[Pid, Next]]) -> c.Array[CAnswer]:
+    """The answers as they cross."""
+    try:
+        given = [(pid, does) for pid, does in answers]
+    except (TypeError, ValueError):
+        raise TypeError(f"answers is {shown(answers)}, and must be a sequence of pairs of Pid and Next") from None
+    crossing = [CAnswer(c_pid(f"answers[{place}].pid", pid), c_next(f"answers[{place}].next", does))
+                for place, (pid, does) in enumerate(given)]
+    return (CAnswer * len(crossing))(*crossing)
+
+
+class Crew(_OfDesk):
     """The processes of one desk whose handlers are Python's. Use it, and its desk, on one thread at a time.
 
     A loop is: `step`; for each job its handler, which makes calls of the desk as it likes; and for each job but "exit" an
@@ -450,32 +510,7 @@ class Crew(_Held):
     def __init__(self, desk: Desk):
         """The crew of this desk, with no process and at the time 0. Fault: MEMORY."""
         super().__init__()
-        self._node, self._number = of_type("desk", desk, Desk)._node, desk.number
-        self._from(desk)._must(lib.pt_crew_open)
-
-    def _called(self) -> str:
-        return f"Crew of desk {self._number}"
-
-    def _own(self, desk: Desk) -> Desk:
-        """The desk, which is the crew's own."""
-        if of_type("desk", desk, Desk)._node is not self._node or desk.number != self._number:
-            raise ValueError(f"desk is {shown(desk)} of a node, and must be that of the crew")
-        return desk
-
-    @contextmanager
-    def _over(self, desk: Desk) -> Iterator[Any]:
-        """The handle of the crew's own desk, for one call."""
-        with self._own(desk)._held_alone():
-            yield desk._at
-
-    def _call_over(self, desk: Desk, call: Callable[..., int], *words: Any) -> int:
-        """The code that a call over the crew's own desk returns. (in less time than by `_over`)"""
-        if not self._own(desk)._lock.acquire(False):
-            raise desk._busy()
-        try:
-            return self._call(call, desk._at, *words)
-        finally:
-            desk._lock.release()
+        self._begin(desk, lib.pt_crew_open)
 
     def spawn(self, desk: Desk, tag: int, first: Next = PROCEED) -> Pid:
         """Spawns a process, as `Desk.spawn` does. It is of the crew, with this tag, and does `first` next: if that is
@@ -523,13 +558,7 @@ class Crew(_Held):
 
     def answer_all(self, answers: Sequence[tuple[Pid, Next]]) -> int:
         """Takes the answers in order, up to the first of a process that is not running. Returns how many were taken."""
-        try:
-            given = [(pid, does) for pid, does in answers]
-        except (TypeError, ValueError):
-            raise TypeError(f"answers is {shown(answers)}, and must be a sequence of pairs of Pid and Next") from None
-        crossing = [CAnswer(c_pid(f"answers[{place}].pid", pid), c_next(f"answers[{place}].next", does))
-                    for place, (pid, does) in enumerate(given)]
-        return self._answer((CAnswer * len(crossing))(*crossing))
+        return self._answer(answers_of(answers))
 
     def _answer(self, answers: c.Array[CAnswer]) -> int:
         taken = c.c_size_t()
@@ -543,12 +572,7 @@ class Crew(_Held):
         exit that it tells. So a crew knows each reason if each loss is taken here before the step that tells of the exit:
         a `Desk.turn`, then this for each loss, and then a `step` with the budget 0.
         """
-        code = self._call_over(desk, lib.pt_crew_note_loss, 0)
-        if code == Code.NOTHING:
-            return None
-        if code:
-            raise _fault(lib.pt_crew_note_loss, (), code)
-        return desk.next_loss()
+        return self._note_loss(desk, lib.pt_crew_note_loss)
 
     def set_time(self, now: int) -> None:
         """Says what time it is in the calls that follow, in a unit of your own."""
@@ -558,9 +582,7 @@ class Crew(_Held):
         """Goes on over the desk of the same number in the node that was resumed. Each process is in the queue, and does next
         what it was to do. Each exit has to be told before the node is gathered, as it is where the crew is idle: `go_on`
         does not ask for that. Fault: MEMORY, and then it may be called again."""
-        node = of_type("desk", desk, Desk)._node
-        if desk._opened is not self._opened or desk.number != self._number:
-            raise ValueError(f"desk is {shown(desk)} of a node, and must be that of the crew in a node that was resumed")
+        node = self._again(desk)
         self._must(lib.pt_crew_begin_again)
         self._node = node
 

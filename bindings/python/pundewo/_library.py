@@ -91,6 +91,24 @@ class CAnswer(c.Structure):
     _fields_ = [("pid", CPid), ("next", CNext)]
 
 
+class CSupervisorSpec(c.Structure):
+    _fields_ = [("strategy", c.c_uint32), ("timed", c.c_bool), ("has_parent", c.c_bool), ("parent", CPid),
+                ("most", c.c_size_t), ("span", c.c_uint64)]
+
+
+class CChildSpec(c.Structure):
+    _fields_ = [("tag", c.c_uint64), ("restart", c.c_uint32), ("shutdown", c.c_uint32), ("time", c.c_uint64)]
+
+
+class CChild(c.Structure):
+    _fields_ = [("has_pid", c.c_bool), ("wanted", c.c_bool), ("pid", CPid), ("restart", c.c_uint32),
+                ("shutdown", c.c_uint32), ("time", c.c_uint64)]
+
+
+class CNotice(c.Structure):
+    _fields_ = [("job", CJob), ("has_supervisor", c.c_bool), ("again", c.c_bool), ("supervisor", CPid)]
+
+
 class CTimer(c.Structure):
     _fields_ = [("at", c.c_uint64), ("number", c.c_uint64)]
 
@@ -217,6 +235,16 @@ def _declare() -> None:
         "crew_next_time": [p(c.c_uint64)], "crew_tag": [CPid, p(c.c_uint64)], "crew_next": [CPid, p(CNext)],
         "crews_go_on": [p(CHandle), size, p(CHandle), size, p(CHandle), p(CHandle), p(CHandle)],
         "crew_len": [p(size)], "crew_queued": [p(size)], "crew_is_idle": [p(CHandle), p(flag)], "crew_refused": [p(flag)],
+        "team_open": [], "team_give_up": [], "team_spawn": [p(CHandle), c.c_uint64, CNext, p(CPid)],
+        "team_spawn_child": [p(CHandle), CPid, flag, c.c_uint64, CNext, p(CPid)],
+        "team_spawn_supervisor": [p(CHandle), c.c_uint64, CSupervisorSpec, p(CChildSpec), size, p(CPid)],
+        "team_supervise": [CPid, CSupervisorSpec, p(CChildSpec), size],
+        "team_step": [p(CHandle), c.c_uint32, p(CNotice), size, p(size), p(CTurned)],
+        "team_answer": [p(CAnswer), size, p(size)], "team_note_loss": [p(CHandle), size], "team_set_time": [c.c_uint64],
+        "team_begin_again": [], "team_go_on": [p(CHandle)], "team_next_time": [p(c.c_uint64)],
+        "team_tag": [CPid, p(c.c_uint64)], "team_next": [CPid, p(CNext)], "team_len": [p(size)], "team_queued": [p(size)],
+        "team_is_idle": [p(CHandle), p(flag)], "team_refused": [p(flag)], "team_children": [CPid, p(size)],
+        "team_child": [CPid, size, p(CChild)],
         "timers_open": [], "timers_give_up": [], "timers_start": [c.c_uint64, c.c_uint64, p(CTimer)],
         "timers_cancel": [CTimer], "timers_pop_due": [c.c_uint64, p(CFired)], "timers_peek_due": [c.c_uint64, p(CFired)],
         "timers_next": [p(c.c_uint64)], "timers_get": [CTimer, p(c.c_uint64)], "timers_len": [p(size)],
