@@ -44,7 +44,7 @@ pub extern "C" fn pt_team_give_up(alloc: Global, t: &mut TeamHandle) -> u32
     calls::give_up(alloc, t)
 }
 
-/// SpawnsAs a process on the desk with this tag, which does `first` next, as `Team::spawn` does. It writes the pid to
+/// Spawns a process on the desk with this tag, which does `first` next, as `Team::spawn` does. It writes the pid to
 /// `out` if it returns 0. It returns 16 if a code in `first` is none of its enumeration.
 #[unsafe(no_mangle)]
 pub extern "C" fn pt_team_spawn(
@@ -70,7 +70,7 @@ pub extern "C" fn pt_team_spawn(
     code
 }
 
-/// SpawnsAs a child of the parent with this tag, linked with it if `linked` is true, as `Team::spawn_child` does. It writes
+/// Spawns a child of the parent with this tag, linked with it if `linked` is true, as `Team::spawn_child` does. It writes
 /// the pid to `out` if it returns 0. It returns 16 if a code in `first` is none of its enumeration.
 #[unsafe(no_mangle)]
 pub extern "C" fn pt_team_spawn_child(
@@ -98,7 +98,7 @@ pub extern "C" fn pt_team_spawn_child(
     code
 }
 
-/// SpawnsAs a supervisor on the desk with this tag, which starts its children when it runs, as `Team::spawn_supervisor`
+/// Spawns a supervisor on the desk with this tag, which starts its children when it runs, as `Team::spawn_supervisor`
 /// does. It writes the pid to `out` if it returns 0. It returns 16 if a code of it or of a child is none of its enumeration.
 #[unsafe(no_mangle)]
 pub extern "C" fn pt_team_spawn_supervisor(

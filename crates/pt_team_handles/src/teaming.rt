@@ -77,7 +77,7 @@ pub fn spawn_child(
     }
 }
 
-/// SpawnsAs a supervisor, which starts its children when it runs.
+/// Spawns a supervisor, which starts its children when it runs.
 pub fn spawn_supervisor(
     alloc: Global,
     t: &mut DeskTeam,
