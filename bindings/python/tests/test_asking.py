@@ -4,6 +4,7 @@ from __future__ import annotations
 
 import threading
 import unittest
+from collections.abc import Callable
 from typing import Any
 
 import pundewo as p
@@ -106,8 +107,10 @@ class WayInTest(unittest.TestCase):
                 taken.append(post)
         outside.join()
         self.assertEqual(taken, posts)
-        for end, call in ((door, lambda: door.post(posts[0])), (entry, entry.take), (entry, entry.__len__)):
-            end.close()
+        calls: list[Callable[[], object]] = [lambda: door.post(posts[0]), entry.take, entry.__len__]
+        door.close()
+        entry.close()
+        for call in calls:
             with self.assertRaises(p.Fault) as caught:
                 call()
             self.assertEqual(caught.exception.code, p.Code.EMPTY)

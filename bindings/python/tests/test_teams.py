@@ -135,10 +135,11 @@ class Teams(unittest.TestCase):
         self.assertEqual((self.run_all(), self.pids(boss)), ([], [again]))
 
     def test_arguments_are_checked(self) -> None:
+        no_pid: Any = 7
         wrong: list[tuple[type[Exception], str, Any]] = [
             (ValueError, "spec.strategy is 'all'", (SPEC._replace(strategy="all"), [])),
             (ValueError, "spec.most is -1", (SPEC._replace(most=-1), [])),
-            (TypeError, "spec.parent is 7", (SPEC._replace(parent=7), [])),
+            (TypeError, "spec.parent is 7", (SPEC._replace(parent=no_pid), [])),
             (TypeError, "spec is 7, and must be of type SupervisorSpec", (7, [])),
             (ValueError, r"children\[1\].restart is 'never'", (SPEC, [ChildSpec(1), ChildSpec(1, "never")])),
             (ValueError, r"children\[0\].shutdown is 'soon'", (SPEC, [ChildSpec(1, shutdown="soon")])),
