@@ -1,4 +1,5 @@
 pub mod Crossing
+pub mod GoingOn
 pub mod Owning
 pub mod Teaming
 pub mod Through

@@ -12,11 +12,12 @@
 //! - **Bad codes.** A supervisor or a child with a code that means nothing is refused, before all else, and nothing has
 //!   changed. So is what a process does next. (`IfCodesFit`)
 //! - **One desk.** A call over a desk with another number than that of the team's own is refused, and nothing has changed.
-//!   (`IfTeamsDesk`)
+//!   (`IfTeamsDesk`, `are_teams_own`)
 //! - **Steps.** A step hands out what `Team` hands out, each notice as its struct. A start is told with the tag of its
 //!   place, its supervisor, and whether a child in that place had exited. (`TeamSteps`, `HandsOutNotices`)
 //! - **Answers.** Of a row of answers each is taken up to the first that is refused. A running process may be answered
 //!   that it is a supervisor. (`TeamTakesAnswers`, `TeamSupervises`)
+//! - **Going on.** Each team of a row goes on with the history, as `Team` does. (`AllTeamsGoOn`)
 //! - **Children live.** Each call keeps what both theorems on the children of a team need. (`StillUpholds`, `KeepsTeam`)
 #![tactic(auto)]
 
@@ -24,6 +25,7 @@ pub mod calls;
 pub mod crossing;
 pub mod desk_team;
 pub mod held;
+pub mod rows;
 pub mod team_handle;
 pub mod teaming;
 pub mod types;
