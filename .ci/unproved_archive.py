@@ -67,7 +67,8 @@ def argument(kind: str) -> str:
         return "rt.alloc()"
     if row := ROW.fullmatch(kind):
         handle = {"DeskHandle": "pt_table::desk_handle", "CrewHandle": "pt_table::crew_handle",
-                  "PtNotice": "pt_team_handles::types", "PtChildSpec": "pt_team_handles::types"}.get(row[2])
+                  "TeamHandle": "pt_team_handles::team_handle", "PtNotice": "pt_team_handles::types",
+                  "PtChildSpec": "pt_team_handles::types"}.get(row[2])
         item = row[2] if row[2] in PLAIN else f"{handle or 'pt_structs::types'}::{row[2]}"
         return f"{row[1]}any::<[{item}; 1]>(&rt)"
     return "&mut any(&rt)" if kind.startswith("&mut ") else "any(&rt)"

@@ -3,9 +3,10 @@
 ghost use Rattle.std.specs.Prelude.{◌≡◌, map};
 ghost use Rattle.pt_workers.specs.Desks.{AreDesks};
 ghost use Rattle.pt_table.specs.Answers.{values};
+ghost use Rattle.pt_table.specs.GoingOn.{AllCrewsGoOn};
 ghost use Rattle.pt_structs.specs.Codes.{filled};
 ghost use Rattle.pt_c.specs.Nodes.{IfNone, IsWholeNode};
-ghost use Rattle.pt_c.specs.GoingOn.{GathersFirst, GoOnWith, NodeGoesOn, ResumesWithCrews, SettlesFirst};
+ghost use Rattle.pt_c.specs.GoingOn.{GathersFirst, GoOnWith, NodeGoesOn, ResumesWith, SettlesFirst};
 
 use crate::node::{pt_gather, pt_history_give_up};
 use crate::settled::{pt_resume_settled, pt_settle_unlisted, pt_settled_history};
@@ -83,7 +84,7 @@ pub extern "C" fn pt_crews_go_on(
 }
 
 /// Gathers the desks, if neither of the two handles has a node.
-fn gather_first(
+pub(crate) fn gather_first(
     alloc: Global,
     desks: &mut [DeskHandle],
     gathered: &mut GatheredHandle,
@@ -117,7 +118,11 @@ fn passed_over(alloc: Global, desks: &mut [DeskHandle]) -> u32
 }
 
 /// Settles the node, if it is not settled.
-fn settle_first(alloc: Global, gathered: &mut GatheredHandle, settled: &mut SettledHandle) -> u32
+pub(crate) fn settle_first(
+    alloc: Global,
+    gathered: &mut GatheredHandle,
+    settled: &mut SettledHandle,
+) -> u32
     ensures { SettlesFirst result gathered.old.state gathered.new.state settled.old.state settled.new.state }
 {
     let is_settled = has_settled(alloc, settled);
@@ -139,7 +144,7 @@ fn resume_crews(
     settled: &mut SettledHandle,
     history: &mut HistoryHandle,
 ) -> u32
-    ensures { ResumesWithCrews result (map (λ h. h.state) crews.old) (map (λ h. h.state) crews.new)
+    ensures { ResumesWith AllCrewsGoOn result (map (λ h. h.state) crews.old) (map (λ h. h.state) crews.new)
         (map (λ h. h.state) desks.old) (map (λ h. h.state) desks.new) settled.old.state settled.new.state
         history.old.state history.new.state }
 {
@@ -161,7 +166,7 @@ fn resume_crews(
 
 /// The crews go on with the history of the handle, if there is one.
 fn go_on_with(alloc: Global, crews: &mut [CrewHandle], told: &mut HistoryHandle)
-    ensures crews { GoOnWith told.old.state (map (λ h. h.state) crews.old) (map (λ h. h.state) crews.new) }
+    ensures crews { GoOnWith AllCrewsGoOn told.old.state (map (λ h. h.state) crews.old) (map (λ h. h.state) crews.new) }
     ensures same { told.new.state ≡ told.old.state }
 {
     let Some(place) = claim(alloc, told) else {

@@ -18,8 +18,8 @@
 //! - **Failures.** If a function fails, each handle and each struct passed in is as it was, also if there is no memory.
 //! - **Handles.** An empty handle, a full one that must be empty, and a wrong number or order of desks are codes.
 //! - **Bad codes.** So is a pick, a reason, or what a process does next, whose own code means nothing.
-//! - **Other desks.** So is a crew or a team over a desk of another number, also in a row of crews that go on. (`IfOwn`,
-//!   `NodeGoesOn`)
+//! - **Other desks.** So is a crew or a team over a desk of another number, also in a row of crews or teams that go on.
+//!   (`IfOwn`, `NodeGoesOn`, `TeamsNodeGoesOn`)
 //! - **Crews.** A step hands out what `Hands` hands out, in order, no process twice, and no wake-up is lost. Of a row of
 //!   answers each is taken, up to the first that is refused. (`CrewSteps`, `AnswersInOrder`)
 //! - **Teams.** Each call is that of `Team`. A start is told with its supervisor, and whether it is one again. (`TeamSteps`,
@@ -31,8 +31,8 @@
 //!   handed in, in order. (`PostsWhereLettersWait`, `TakesCode`)
 //! - **Nodes.** Opening, gathering, settling and resuming leave in the handles what `open`, `gather`, `settle` and
 //!   `resume` promise, or `settle_unlisted` and `resume_settled`.
-//! - **Going on.** A node and its crews go through the stages of a pause in one call. Whichever is refused, its code says
-//!   so, and the node is in the handle where that stage leaves it. (`NodeGoesOn`)
+//! - **Going on.** A node and its crews, or its teams, go through the stages of a pause in one call. Whichever is refused,
+//!   its code says so, and the node is in the handle where that stage leaves it. (`NodeGoesOn`, `TeamsNodeGoesOn`)
 //! - **Threads.** Each handle may go to another thread.
 #![tactic(auto)]
 
@@ -42,6 +42,7 @@ mod asking;
 mod calls;
 mod crews;
 mod going_on;
+mod going_on_teams;
 mod letters;
 mod losses;
 mod names;
