@@ -18,8 +18,8 @@
  *  - a crew is used with one desk alone: that of its first call, or, after pt_crews_go_on or pt_crew_begin_again, the
  *    desk of the same number in the node that was resumed. A desk of another number is refused by PT_WRONG_DESK, but
  *    one of the same number in another node is not seen to be another. So it is with a team;
- *  - pt_gather and pt_crews_go_on get desks of one pt_open or of one resumption: they see whether these are all, and in
- *    order, but not whether they are of one node;
+ *  - pt_gather, pt_crews_go_on and pt_teams_go_on get desks of one pt_open or of one resumption: they see whether these
+ *    are all, and in order, but not whether they are of one node;
  *  - malloc, realloc and free come from one allocator, with malloc's usual alignment; no call is made from a signal
  *    handler, nor in the forked child of a process with threads.
  */
@@ -539,9 +539,15 @@ uint32_t pt_team_begin_again(pt_team *team);
 
 /* For a node that was resumed: goes on over its desk of the same number, with the history of the node before. Each process
  * is in the queue then, supervisors too, and does next what it was to do. Each exit need not have been told: its reason is
- * kept from the history. A pause of a node with teams, at any time between two steps: pt_gather, pt_settle_unlisted,
- * pt_settled_history, pt_resume_settled, and this for each team. */
+ * kept from the history. For a node that the caller gathers, settles and resumes by calls of its own: pt_gather,
+ * pt_settle_unlisted, pt_settled_history, pt_resume_settled, and this for each team. */
 uint32_t pt_team_go_on(pt_team *team, pt_history *history);
+
+/* Goes on with a whole node, at any time between two steps, as pt_crews_go_on does: teams[k] is the team of desks[k], and
+ * goes on as by pt_team_go_on with the history of the node. So a supervisor whose child has exited starts it again behind
+ * the pause. What is refused, in which order, and where the node is then, is as there, with teams for crews. */
+uint32_t pt_teams_go_on(pt_team *teams, size_t team_count, pt_desk *desks, size_t desk_count, pt_gathered *gathered,
+    pt_settled *settled, pt_history *history);
 
 /* As pt_crew_next_time, pt_crew_tag, pt_crew_next, pt_crew_len, pt_crew_queued, pt_crew_is_idle and pt_crew_refused.
  * Supervisors count. */

@@ -1,6 +1,7 @@
 /* Calls of a team that are refused. A code that means nothing, in each field of each call that gets one; a desk that is
- * another's; a handle without a team or a desk; and memory, at each piece that is taken, once for each. The call says so,
- * and nothing has changed: the same call made again, with what is right, is done. No memory is kept in the end. */
+ * another's; a handle without a team or a desk; a node that does not go on; and memory, at each piece that is taken, once
+ * for each. The call says so, and nothing has changed: the same call made again, with what is right, is done. No memory is
+ * kept in the end. */
 #include <assert.h>
 #include <stdio.h>
 #include <string.h>
@@ -165,6 +166,53 @@ static int wrong_desk(void) {
     return tried;
 }
 
+/* A node and its teams go on, each refusal in its order: nothing has changed, and the same call goes on once all is right. */
+static int going_on(void) {
+    pt_desk desks[2] = {PT_NO_DESK, PT_NO_DESK};
+    pt_team teams[2] = {PT_NO_TEAM, PT_NO_TEAM};
+    pt_gathered gathered = PT_NO_GATHERED;
+    pt_settled settled = PT_NO_SETTLED;
+    pt_history history = PT_NO_HISTORY, told = PT_NO_HISTORY;
+    pt_pid p[2], boss[2];
+    state before[2];
+    int tried = 0;
+    assert(pt_open(desks, 2, (pt_config){.slots = 8, .top_version = 9, .lane = 8}) == PT_OK);
+    for (int k = 0; k < 2; k++) {
+        assert(pt_team_open(&teams[k]) == PT_OK && pt_team_spawn(&teams[k], &desks[k], 7, first, &p[k]) == PT_OK);
+        assert(pt_team_spawn_supervisor(&teams[k], &desks[k], 5, spec, kids, 2, &boss[k]) == PT_OK);
+        before[k] = state_of(&teams[k], &desks[k], p[k], boss[k]);
+    }
+#define REFUSED(team_count, desk_count, history, code)                                                               \
+    assert(pt_teams_go_on(teams, team_count, desks, desk_count, &gathered, &settled, history) == code), tried++
+    /* a history that is there: that of a node without events */
+    pt_desk other = PT_NO_DESK;
+    assert(pt_open(&other, 1, (pt_config){.slots = 8, .top_version = 9, .lane = 8}) == PT_OK);
+    assert(pt_gather(&other, 1, &gathered) == PT_OK && pt_settle_unlisted(&gathered, &settled) == PT_OK);
+    assert(pt_settled_history(&settled, &told) == PT_OK && pt_settled_give_up(&settled) == PT_OK);
+    pt_team second = teams[1];
+    teams[1] = (pt_team)PT_NO_TEAM;
+    REFUSED(2, 1, &told, PT_EMPTY);
+    teams[1] = teams[0], teams[0] = second;
+    REFUSED(2, 1, &told, PT_BAD_DESKS);
+    REFUSED(1, 2, &told, PT_BAD_DESKS);
+    REFUSED(2, 2, &told, PT_FILLED);
+    REFUSED(2, 2, &history, PT_WRONG_DESK);
+    second = teams[0], teams[0] = teams[1], teams[1] = second;
+    REFUSED(1, 1, &history, PT_BAD_DESKS);
+    for (int k = 0; k < 2; k++) assert(is_same(before[k], state_of(&teams[k], &desks[k], p[k], boss[k])));
+    /* a node that the caller has gathered goes on, once the history is given up */
+    assert(pt_gather(desks, 2, &gathered) == PT_OK);
+    REFUSED(2, 2, &told, PT_FILLED);
+    assert(pt_history_give_up(&told) == PT_OK && gathered.at != NULL);
+    assert(pt_teams_go_on(teams, 2, desks, 2, &gathered, &settled, &history) == PT_OK);
+    assert(gathered.at == NULL && settled.at == NULL && pt_history_give_up(&history) == PT_OK);
+    for (int k = 0; k < 2; k++) {
+        assert(pt_team_tag(&teams[k], p[k], &before[k].tag) == PT_OK && before[k].tag == 7);
+        assert(pt_team_give_up(&teams[k]) == PT_OK && pt_give_up(&desks[k]) == PT_OK);
+    }
+    return tried;
+}
+
 /* A call that may be refused memory: if it is, nothing has changed, and it is made again. */
 #define AGAIN(call)                                                                                                  \
     do {                                                                                                             \
@@ -172,7 +220,7 @@ static int wrong_desk(void) {
         assert(code == PT_OK || (code == PT_MEMORY && (call) == PT_OK));                                             \
     } while (0)
 
-/* Two children start, one breaks down, and both wait in the end. */
+/* Two children start, one breaks down, the node goes on, and both wait in the end. */
 static void play(pt_team *team, pt_desk *desk) {
     pt_pid boss, runs;
     pt_notice notices[4];
@@ -180,6 +228,9 @@ static void play(pt_team *team, pt_desk *desk) {
     pt_child child;
     size_t count, taken, starts = 0, again = 0;
     bool is_idle = false, broke = false;
+    pt_gathered gathered = PT_NO_GATHERED;
+    pt_settled settled = PT_NO_SETTLED;
+    pt_history history = PT_NO_HISTORY;
     AGAIN(pt_team_open(team));
     AGAIN(pt_team_spawn_supervisor(team, desk, 5, spec, kids, 2, &boss));
     AGAIN(pt_team_spawn(team, desk, 7, first, &runs));
@@ -200,6 +251,8 @@ static void play(pt_team *team, pt_desk *desk) {
         if (is_idle && !broke) {
             assert(pt_team_child(team, boss, 0, &child) == PT_OK && child.has_pid);
             AGAIN(pt_exit(desk, child.pid, (pt_reason){PT_OTHER, 1}));
+            AGAIN(pt_teams_go_on(team, 1, desk, 1, &gathered, &settled, &history));
+            assert(pt_history_give_up(&history) == PT_OK);
             broke = true;
         }
     }
@@ -210,9 +263,9 @@ int main(void) {
     static char buffer[BUFSIZ];
     long pieces = 0;
     setvbuf(stdout, buffer, _IOFBF, sizeof buffer);
-    int codes = bad_codes(), without = empty(), wrong = wrong_desk();
-    printf("c: %d bad codes in calls of a team, %d calls without a handle, %d over the desk of another, each refused\n", codes,
-        without, wrong);
+    int codes = bad_codes(), without = empty(), wrong = wrong_desk(), nodes = going_on();
+    printf("c: %d bad codes in calls of a team, %d calls without a handle, %d over the desk of another, %d nodes that do not "
+        "go on, each refused\n", codes, without, wrong, nodes);
     for (was_refused = true; was_refused; pieces++) {
         pt_desk desk = PT_NO_DESK;
         pt_team team = PT_NO_TEAM;

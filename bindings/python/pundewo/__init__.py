@@ -47,6 +47,7 @@ __all__ = [
 T = TypeVar("T")
 V = TypeVar("V")
 H = TypeVar("H", bound="_Held")
+D = TypeVar("D", bound="_OfDesk")
 
 
 class Fault(Exception):
@@ -847,23 +848,23 @@ def gather(desks: Sequence[Desk]) -> Gathered:
 
 
 class NotGoneOn(Fault):
-    """A node that has not gone on. Nothing is lost: `go_on` with its `node` and the same crews does the rest."""
+    """A node that has not gone on. Nothing is lost: `go_on` with its `node` and the same crews, or teams, does the rest."""
 
     # the desks, or the gathered or the settled node, with what was done
     node: Union[list[Desk], Gathered, Settled]
 
 
-def _crews_of(crews: Sequence[Crew], node: Union[list[Desk], Gathered, Settled]) -> list[Crew]:
-    """The crews, if they are those of the desks of the node, in order."""
-    crews = _all_of("crews", crews, Crew)
+def _each_of(name: str, each: Sequence[D], kind: type[D], node: Union[list[Desk], Gathered, Settled]) -> list[D]:
+    """The crews or teams, if they are those of the desks of the node, in order."""
+    each = _all_of(name, each, kind)
     count = len(node) if isinstance(node, list) else node.desks()
     opened = node[0]._opened if isinstance(node, list) else node._opened
-    fit = len(crews) == count and all(
-        crew._number == number and crew._opened is opened and (not isinstance(node, list) or crew._node is node[0]._node)
-        for number, crew in enumerate(crews))
+    fit = len(each) == count and all(
+        it._number == number and it._opened is opened and (not isinstance(node, list) or it._node is node[0]._node)
+        for number, it in enumerate(each))
     if not fit:
-        raise ValueError("crews are not those of all desks of the node in order")
-    return crews
+        raise ValueError(f"{name} are not those of all desks of the node in order")
+    return each
 
 
 def go_on(node: Union[Sequence[Desk], Gathered, Settled], crews: Sequence[Crew]) -> tuple[list[Desk], History]:
@@ -879,32 +880,39 @@ def go_on(node: Union[Sequence[Desk], Gathered, Settled], crews: Sequence[Crew])
     one: nothing has changed then. NotGoneOn: MEMORY, or WORN if a clock is at its limit. It has the node, with what was
     done, and the crews are as they were.
     """
+    return goes_on(lib.pt_crews_go_on, "crews", Crew, node, crews)
+
+
+def goes_on(call: Callable[..., int], name: str, kind: type[D], node: Union[Sequence[Desk], Gathered, Settled],
+            each: Sequence[D]) -> tuple[list[Desk], History]:
+    """Goes on with a whole node by this call, and with its crews or teams."""
     if not isinstance(node, (Gathered, Settled)):
         node = _whole("node", node)
-    crews = _crews_of(crews, node)
+    each = _each_of(name, each, kind, node)
     held: list[_Held] = [*node] if isinstance(node, list) else [node]
     gathered, settled, history = Gathered()._from(held[0]), Settled()._from(held[0]), History()
+    alone: list[_Held] = [*held, *each]
     with ExitStack() as locks:
-        for it in [*held, *crews]:
+        for it in alone:
             locks.enter_context(it._held_alone())
-        desks = (CHandle * len(crews))(*(it._handle for it in held if isinstance(it, Desk)))
-        given = (CHandle * len(crews))(*(crew._handle for crew in crews))
+        desks = (CHandle * len(each))(*(it._handle for it in held if isinstance(it, Desk)))
+        given = (CHandle * len(each))(*(it._handle for it in each))
         if not isinstance(node, list):
             (gathered if isinstance(node, Gathered) else settled)._handle.at = node._handle.at
-        code = lib.pt_crews_go_on(given, len(crews), desks, len(crews), gathered._at, settled._at, history._at)
+        code = call(given, len(each), desks, len(each), gathered._at, settled._at, history._at)
         for it in held:
             it._handle.at = None
-        for crew, handle in zip(crews, given):
-            crew._handle.at = handle.at
+        for one, handle in zip(each, given):
+            one._handle.at = handle.at
         if code and isinstance(node, list):
             for desk, handle in zip(node, desks):
                 desk._handle.at = handle.at
     if code:
-        fault = _fault(lib.pt_crews_go_on, (), code, NotGoneOn)
+        fault = _fault(call, (), code, NotGoneOn)
         assert isinstance(fault, NotGoneOn)
         fault.node = gathered if gathered._handle.at else settled if settled._handle.at else node
         raise fault
     resumed = _desks_of(desks, held[0]._opened)
-    for crew, desk in zip(crews, resumed):
-        crew._node = desk._node
+    for one, desk in zip(each, resumed):
+        one._node = desk._node
     return resumed, history

@@ -241,6 +241,7 @@ def _declare() -> None:
         "team_supervise": [CPid, CSupervisorSpec, p(CChildSpec), size],
         "team_step": [p(CHandle), c.c_uint32, p(CNotice), size, p(size), p(CTurned)],
         "team_answer": [p(CAnswer), size, p(size)], "team_note_loss": [p(CHandle), size], "team_set_time": [c.c_uint64],
+        "teams_go_on": [p(CHandle), size, p(CHandle), size, p(CHandle), p(CHandle), p(CHandle)],
         "team_begin_again": [], "team_go_on": [p(CHandle)], "team_next_time": [p(c.c_uint64)],
         "team_tag": [CPid, p(c.c_uint64)], "team_next": [CPid, p(CNext)], "team_len": [p(size)], "team_queued": [p(size)],
         "team_is_idle": [p(CHandle), p(flag)], "team_refused": [p(flag)], "team_children": [CPid, p(size)],
@@ -263,7 +264,7 @@ def _declare() -> None:
         call = getattr(lib, "pt_" + name, None)
         if call is None:
             raise other(f"is {BUILD}, and has no call pt_{name}")
-        call.argtypes = words if name in ("open", "gather", "crews_go_on", "request_of") else [p(CHandle), *words]
+        call.argtypes = words if name in ("open", "gather", "crews_go_on", "teams_go_on", "request_of") else [p(CHandle), *words]
         call.restype = c.c_uint32
 
 

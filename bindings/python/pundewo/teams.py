@@ -15,7 +15,7 @@ from __future__ import annotations
 import ctypes as c
 from typing import NamedTuple, Optional, Sequence, Union
 
-from . import Desk, History, Loss, _fault, _OfDesk, answers_of
+from . import Desk, Gathered, History, Loss, Settled, _fault, _OfDesk, answers_of, goes_on
 from ._library import (
     CChild, CChildSpec, CNext, CNotice, CPid, CSupervisorSpec, CTurned, c_next, c_pid, job_of, lib, next_of, pid_of,
 )
@@ -23,7 +23,7 @@ from .values import (
     PROCEED, U16, U32, U64, Code, Item, Next, Pid, Reason, Turned, flag, number, of_type, one_of, shown, unchecked,
 )
 
-__all__ = ["RESTARTS", "STRATEGIES", "Child", "ChildSpec", "Notice", "SupervisorSpec", "Team"]
+__all__ = ["RESTARTS", "STRATEGIES", "Child", "ChildSpec", "Notice", "SupervisorSpec", "Team", "go_on"]
 
 # Which others a supervisor ends and starts again with a child that has exited: no other, all others, or those that were
 # listed after it.
@@ -216,7 +216,7 @@ class Team(_OfDesk):
     def go_on(self, desk: Desk, history: History) -> None:
         """Continues over the desk of the same number in the node that was resumed, with the history of the node before:
         `gather`, `Gathered.settle_unlisted`, `Settled.history`, `Settled.resume`, and this for the team of each desk. The
-        reason of each exit in the history is told once the exit is."""
+        reason of each exit in the history is told once the exit is. `go_on` does all of that in one call."""
         node = self._again(desk)
         with of_type("history", history, History)._held_alone():
             self._must(lib.pt_team_go_on, history._at)
@@ -260,3 +260,12 @@ class Team(_OfDesk):
     def refused(self) -> bool:
         """Whether a process was refused memory or a stamp in the last step."""
         return self._give(lib.pt_team_refused, c.c_bool()).value
+
+
+def go_on(node: Union[Sequence[Desk], Gathered, Settled], teams: Sequence[Team]) -> tuple[list[Desk], History]:
+    """Goes on with a whole node and its teams, as `pundewo.go_on` does with crews: each team goes on over the desk of its
+    number, as by `Team.go_on`. So a supervisor whose child has exited starts it again behind the pause.
+
+    Raises what `pundewo.go_on` raises, with teams for crews.
+    """
+    return goes_on(lib.pt_teams_go_on, "teams", Team, node, teams)

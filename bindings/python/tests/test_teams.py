@@ -9,7 +9,7 @@ from typing import Any
 import pundewo as p
 from pundewo import ANY, PROCEED, RUNNING, Body, Item, Next
 from pundewo._library import CChild, CChildSpec, CNotice, CPid, CSupervisorSpec, lib
-from pundewo.teams import Child, ChildSpec, Notice, SupervisorSpec, Team
+from pundewo.teams import Child, ChildSpec, Notice, SupervisorSpec, Team, go_on
 
 WAIT = Next("wait", ANY)
 CRASH = p.Reason("other", 1)
@@ -133,6 +133,30 @@ class Teams(unittest.TestCase):
         self.desk = p.gather(desks).settle_unlisted().resume()[0]
         self.team.begin_again(self.desk)
         self.assertEqual((self.run_all(), self.pids(boss)), ([], [again]))
+
+    def test_a_node_of_teams_goes_on_in_one_call(self) -> None:
+        teams = [Team(desk) for desk in self.desks]
+        bosses = [team.spawn_supervisor(desk, 5, SPEC, [ChildSpec(10)]) for team, desk in zip(teams, self.desks)]
+        for self.team, self.desk in zip(teams, self.desks):
+            self.run_all()
+        (child,) = self.pids(bosses[-1])
+        # an exit that was not told
+        self.desk.exit(child, CRASH)
+        for wrong in (teams[:1], teams[::-1]):
+            with self.assertRaisesRegex(ValueError, "teams are not those of all desks of the node in order"):
+                go_on(self.desks, wrong)
+        desks, history = go_on(self.desks, teams)
+        self.assertGreater(len(history), 4)
+        self.assertEqual([desk.event_count() for desk in desks], [0] * len(desks))
+        self.desk = desks[-1]
+        told = self.run_all()
+        (again,) = self.pids(bosses[-1])
+        self.assertIn(Notice("exit", child, 10, reason=CRASH, was=WAIT), told)
+        self.assertIn(Notice("start", again, 10, supervisor=bosses[-1], again=True), told)
+        self.assertEqual(len(told), 2)
+        # a node that was settled by calls of its own
+        desks, _ = go_on(p.gather(desks).settle_unlisted(), teams)
+        self.assertEqual((len(desks), self.pids(bosses[-1])), (len(teams), [again]))
 
     def test_arguments_are_checked(self) -> None:
         no_pid: Any = 7

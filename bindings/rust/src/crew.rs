@@ -317,7 +317,7 @@ impl Crew {
     }
 }
 
-/// A node that goes on: its desks, or the node that a refused [`go_on`] has left.
+/// A node that goes on: its desks, or the node that a refused [`go_on`] has left, or [`team::go_on`](crate::team::go_on).
 #[derive(Debug)]
 pub enum Node {
     /// All desks of a node, each once and in order.
@@ -334,7 +334,8 @@ impl From<Vec<Desk>> for Node {
     }
 }
 
-/// A node that has not gone on, and why. Nothing is lost: [`go_on`] with this node and the same crews does the rest.
+/// A node that has not gone on, and why. Nothing is lost: the same call with this node and the same crews, or teams, does
+/// the rest.
 #[derive(Debug)]
 pub struct NodeBack {
     /// Why it has not gone on.
@@ -388,30 +389,72 @@ impl From<NodeBack> for Fault {
 /// the desk at its place. With [`Fault::Memory`], or [`Fault::Worn`] if a clock is at its limit, it has what was done so
 /// far. The crews are as they were.
 pub fn go_on(node: impl Into<Node>, crews: &mut [Crew]) -> Result<(Vec<Desk>, History), NodeBack> {
-    let node = node.into();
-    match node.origin_for(crews) {
-        Ok(origin) => node.passed(origin, crews),
-        Err(fault) => Err(NodeBack { fault, node }),
+    node.into().go_on(crews)
+}
+
+/// The call that goes on with a node, and with what each of its desks has.
+pub(crate) type GoOn =
+    unsafe extern "C" fn(*mut Handle, usize, *mut Handle, usize, &mut Handle, &mut Handle, &mut Handle) -> u32;
+
+/// What goes on with a node: a crew, or a team.
+pub(crate) trait GoesOn {
+    /// The call for all of them.
+    const CALL: GoOn;
+
+    /// The handle, which nobody else has.
+    fn own(&mut self) -> &mut Handle;
+
+    /// The `open`, the node and the number of its desk.
+    fn place(&self) -> (u64, u64, u8);
+
+    /// From now on its desk is the one of its number in this node.
+    fn moves_to(&mut self, node: u64);
+}
+
+impl GoesOn for Crew {
+    const CALL: GoOn = raw::pt_crews_go_on;
+
+    fn own(&mut self) -> &mut Handle {
+        self.handle.own()
+    }
+
+    fn place(&self) -> (u64, u64, u8) {
+        (self.opened, self.node, self.number)
+    }
+
+    fn moves_to(&mut self, node: u64) {
+        self.node = node;
     }
 }
 
 impl Node {
-    /// What the desks of the node have in common, if it may go on with these crews.
-    fn origin_for(&self, crews: &[Crew]) -> Result<Origin, Fault> {
+    /// Goes on with as many crews, or teams, each of the desk of its place.
+    pub(crate) fn go_on<T: GoesOn>(self, each: &mut [T]) -> Result<(Vec<Desk>, History), NodeBack> {
+        match self.origin_for(each) {
+            Ok(origin) => self.passed(origin, each),
+            Err(fault) => Err(NodeBack { fault, node: self }),
+        }
+    }
+
+    /// What the desks of the node have in common, if it may go on with these.
+    fn origin_for<T: GoesOn>(&self, each: &[T]) -> Result<Origin, Fault> {
         let (origin, count) = match self {
             Node::Desks(desks) if !is_whole(desks) => return Err(Fault::NotOneNode),
             Node::Desks(desks) => (desks[0].origin, desks.len()),
             Node::Gathered(gathered) => (gathered.origin, gathered.desks().into()),
             Node::Settled(settled) => (settled.origin, settled.desks().into()),
         };
-        if crews.len() != count {
+        if each.len() != count {
             return Err(Fault::BadDesks);
         }
-        let fits = |(crew, number): (&Crew, u8)| match self {
-            Node::Desks(desks) => crew.is_of(&desks[usize::from(number)]).is_ok(),
-            Node::Gathered(_) | Node::Settled(_) => (crew.opened, crew.number) == (origin.opened, number),
+        let fits = |(it, number): (&T, u8)| {
+            let (opened, node, own) = it.place();
+            match self {
+                Node::Desks(desks) => (node, own) == (desks[0].node, number),
+                Node::Gathered(_) | Node::Settled(_) => (opened, own) == (origin.opened, number),
+            }
         };
-        if crews.iter().zip(0..).all(fits) { Ok(origin) } else { Err(Fault::WrongDesk) }
+        if each.iter().zip(0..).all(fits) { Ok(origin) } else { Err(Fault::WrongDesk) }
     }
 
     /// The handles of the desks, which are empty where they are gathered; of the gathered node; and of the settled one.
@@ -427,17 +470,17 @@ impl Node {
         taken
     }
 
-    fn passed(self, origin: Origin, crews: &mut [Crew]) -> Result<(Vec<Desk>, History), NodeBack> {
+    fn passed<T: GoesOn>(self, origin: Origin, each: &mut [T]) -> Result<(Vec<Desk>, History), NodeBack> {
         let node = if let Node::Desks(desks) = &self { Some(desks[0].node) } else { None };
-        let (mut desks, mut gathered, mut settled) = self.take(crews.len());
+        let (mut desks, mut gathered, mut settled) = self.take(each.len());
         let mut history = NONE;
-        let mut taken: Vec<Handle> = crews.iter_mut().map(|crew| mem::replace(crew.handle.own(), NONE)).collect();
+        let mut taken: Vec<Handle> = each.iter_mut().map(|it| mem::replace(it.own(), NONE)).collect();
         let (count, first, row) = (desks.len(), taken.as_mut_ptr(), desks.as_mut_ptr());
-        // SAFETY: the handles are those of all desks of one node in order, or of that node, and of as many crews, each of
-        // its desk; each is the only one, and that of the history is empty.
-        let code = unsafe { raw::pt_crews_go_on(first, count, row, count, &mut gathered, &mut settled, &mut history) };
-        for (crew, handle) in crews.iter_mut().zip(taken) {
-            *crew.handle.own() = handle;
+        // SAFETY: the handles are those of all desks of one node in order, or of that node, and of as many crews or teams,
+        // each of its desk; each is the only one, and that of the history is empty.
+        let code = unsafe { T::CALL(first, count, row, count, &mut gathered, &mut settled, &mut history) };
+        for (it, handle) in each.iter_mut().zip(taken) {
+            *it.own() = handle;
         }
         if code != OK {
             let node = if !gathered.at.is_null() {
@@ -450,8 +493,8 @@ impl Node {
             return Err(NodeBack { fault: fault_of(code), node });
         }
         let desks = desks_of(desks, origin);
-        for (crew, desk) in crews.iter_mut().zip(&desks) {
-            crew.node = desk.node;
+        for (it, desk) in each.iter_mut().zip(&desks) {
+            it.moves_to(desk.node);
         }
         Ok((desks, History { handle: Held::new(history) }))
     }

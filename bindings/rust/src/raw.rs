@@ -449,6 +449,10 @@ unsafe extern "C" {
     pub fn pt_team_set_time(team: &mut Handle, now: u64) -> u32;
     pub fn pt_team_begin_again(team: &mut Handle) -> u32;
     pub fn pt_team_go_on(team: &mut Handle, history: &mut Handle) -> u32;
+    pub fn pt_teams_go_on(
+        teams: *mut Handle, team_count: usize, desks: *mut Handle, desk_count: usize, gathered: &mut Handle,
+        settled: &mut Handle, history: &mut Handle,
+    ) -> u32;
     pub fn pt_team_next_time(team: &mut Handle, out: &mut u64) -> u32;
     pub fn pt_team_tag(team: &mut Handle, p: Pid, out: &mut u64) -> u32;
     pub fn pt_team_next(team: &mut Handle, p: Pid, out: &mut RawNext) -> u32;

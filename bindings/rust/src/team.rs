@@ -29,9 +29,10 @@
 
 pub use crate::runtime::Restart;
 
-use crate::raw::{self, RawAnswer, RawChild, RawChildSpec, RawNext, RawNotice, RawSupervisorSpec, RawTurned};
+use crate::crew::{GoOn, GoesOn};
+use crate::raw::{self, Handle, RawAnswer, RawChild, RawChildSpec, RawNext, RawNotice, RawSupervisorSpec, RawTurned};
 use crate::{
-    Desk, Fault, Held, History, Item, Job, Loss, NONE, Next, NotTaken, OK, Pid, Reason, Turned, What, fault_of, found, told,
+    Desk, Fault, Held, History, Item, Job, Loss, NONE, Next, Node, NodeBack, NotTaken, OK, Pid, Reason, Turned, What, fault_of, found, told,
 };
 use std::fmt;
 
@@ -344,7 +345,7 @@ impl Team {
     /// Continues over a desk of the resumed node, with the history of the node before: [`gather`](crate::gather),
     /// [`settle_unlisted`](crate::Gathered::settle_unlisted), its [`history`](crate::Settled::history),
     /// [`resume`](crate::Settled::resume), and this for the team of each desk. The reason of each exit in the history is
-    /// told once the exit is.
+    /// told once the exit is. [`go_on`] does all of that in one call.
     ///
     /// # Errors
     ///
@@ -426,6 +427,45 @@ impl Team {
         let mut out = false;
         unsafe { raw::pt_team_refused(&mut self.handle.lent(), &mut out) };
         out
+    }
+}
+
+/// Goes on with a whole node and its teams, as [`go_on`](crate::go_on) does with crews: each team goes on over the desk of
+/// its number, as by [`Team::go_on`]. So a supervisor whose child has exited starts it again behind the pause.
+///
+/// ```
+/// use pundewo::team::{ChildSpec, SupervisorSpec, Team, go_on};
+/// use pundewo::{Config, open};
+///
+/// let mut desks = open(1, Config::default())?;
+/// let mut teams = [Team::new(&desks[0])?];
+/// let boss = teams[0].spawn_supervisor(&mut desks[0], 0, SupervisorSpec::default(), &[ChildSpec::new(7)])?;
+/// let (desks, history) = go_on(desks, &mut teams)?;
+/// assert_eq!((history.count(), desks[0].event_count()), (1, 0));
+/// assert_eq!(teams[0].tag(boss), Some(0));
+/// # Ok::<(), pundewo::Fault>(())
+/// ```
+///
+/// # Errors
+///
+/// As [`go_on`](crate::go_on), with teams for crews: the node comes back, and the teams are as they were.
+pub fn go_on(node: impl Into<Node>, teams: &mut [Team]) -> Result<(Vec<Desk>, History), NodeBack> {
+    node.into().go_on(teams)
+}
+
+impl GoesOn for Team {
+    const CALL: GoOn = raw::pt_teams_go_on;
+
+    fn own(&mut self) -> &mut Handle {
+        self.handle.own()
+    }
+
+    fn place(&self) -> (u64, u64, u8) {
+        (self.opened, self.node, self.number)
+    }
+
+    fn moves_to(&mut self, node: u64) {
+        self.node = node;
     }
 }
 

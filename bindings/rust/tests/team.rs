@@ -1,8 +1,8 @@
 //! The team of a desk: what its processes are told, whom its supervisors start, and which desk it takes.
 
 use pundewo::raw::*;
-use pundewo::team::{Child, ChildSpec, News, Notice, Origin, Restart, Shutdown, Strategy, SupervisorSpec, Team};
-use pundewo::{Body, Config, Desk, Fault, Item, Next, NotTaken, Pick, Pid, Reason, gather, open};
+use pundewo::team::{Child, ChildSpec, News, Notice, Origin, Restart, Shutdown, Strategy, SupervisorSpec, Team, go_on};
+use pundewo::{Body, Config, Desk, Fault, Item, Next, Node, NotTaken, Pick, Pid, Reason, gather, open};
 use std::mem::size_of;
 
 const ANY: Next = Next::Wait(Pick::Any);
@@ -168,6 +168,37 @@ fn a_team_goes_on_with_its_node() -> Result<(), Fault> {
     let mut desks = gather(desks)?.settle_unlisted()?.resume()?;
     team.begin_again(&desks[1])?;
     assert_eq!((run(&mut team, &mut desks[1]), pids(&team, boss)), (vec![], vec![again]));
+    Ok(())
+}
+
+#[test]
+fn a_node_of_teams_goes_on_in_one_call() -> Result<(), Fault> {
+    let mut desks = open(2, Config::default())?;
+    let mut teams = [Team::new(&desks[0])?, Team::new(&desks[1])?];
+    let mut bosses = vec![];
+    for (team, desk) in teams.iter_mut().zip(&mut desks) {
+        bosses.push(team.spawn_supervisor(desk, 5, spec(), &[ChildSpec::new(10)])?);
+        run(team, desk);
+    }
+    let child = pids(&teams[1], bosses[1])[0];
+    // an exit that was not told
+    desks[1].exit(child, CRASH)?;
+    teams.swap(0, 1);
+    let back = go_on(desks, &mut teams).expect_err("each is of another desk");
+    assert_eq!(back.fault, Fault::WrongDesk);
+    teams.swap(0, 1);
+    let back = go_on(back.node, &mut teams[..1]).expect_err("there are two desks");
+    assert_eq!(back.fault, Fault::BadDesks);
+    let (mut desks, history) = go_on(back.node, &mut teams)?;
+    assert!(history.count() > 4 && desks.iter().all(|desk| desk.event_count() == 0));
+    assert_eq!(run(&mut teams[0], &mut desks[0]), []);
+    let told = run(&mut teams[1], &mut desks[1]);
+    let again = pids(&teams[1], bosses[1])[0];
+    assert!(told.contains(&exits(child, 10, CRASH)) && told.contains(&starts(again, 10, bosses[1], true)));
+    assert_eq!(told.len(), 2);
+    // a node that was settled by calls of its own
+    let (desks, _) = go_on(Node::Settled(gather(desks)?.settle_unlisted()?), &mut teams)?;
+    assert_eq!((desks.len(), pids(&teams[1], bosses[1])), (2, vec![again]));
     Ok(())
 }
 
