@@ -53,8 +53,8 @@ impl Hands {
         }
     }
 
-    /// The number of the desk of which these are, or `None` if they may be those of any desk. A process that is spawned
-    /// makes them those of its desk, and so does a step that begins.
+    /// The number of the desk of these processes, or `None` if no desk is set yet. The first spawn sets it, and so does
+    /// the first step.
     pub fn desk(&self) -> Option<u8>
         ensures { result ≡ desk_of self.now }
     {

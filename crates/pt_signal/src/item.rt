@@ -1,4 +1,4 @@
-//! What stands in a mailbox, and which of it a receive takes.
+//! The items of a mailbox, and which of them a receive takes.
 
 ghost use Rattle.std.specs.Prelude.{◌≡◌};
 ghost use Rattle.pt_signal.specs.Values.{fits};
@@ -15,7 +15,7 @@ pub struct Body {
     pub who: Option<Pid>,
 }
 
-/// What stands in a mailbox.
+/// An item of a mailbox.
 #[derive(Clone, Copy, Debug, PartialEq, Eq)]
 pub enum Item {
     /// A message, with its sender.
