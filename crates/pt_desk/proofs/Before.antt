@@ -18,7 +18,7 @@ use Rattle.pt_directory.proofs.Lists.{at_nothing}
 use Rattle.pt_shard.specs.Begun.{Every}
 use Rattle.pt_shard.specs.ShardState.{ShardState}
 use Rattle.pt_shard.specs.Fit.{IsFit}
-use Rattle.pt_desk.specs.Sight.{Sight, IsSeated, deaths_before}
+use Rattle.pt_desk.specs.Sight.{Sight, IsSeated, AreToldBefore}
 use Rattle.pt_desk.proofs.Deaths.{AreOldEnds}
 
 -- one slot ----------------------------------------------------------------------------------
@@ -205,14 +205,24 @@ own_start (b ∷ start) d own p h = go (same_pid p b.0) refl (own_start start d 
     go true e rest = ap (λ (q : Pid). q.shard) (same_pid_is p b.0 e) ∙ own.0
     go false e rest = rest (rw e at h)
 
-pub old_ends : (s : ShardState) (v : Sight) → IsFit s → IsSeated s v → AreOldEnds (deaths_before v.before s.config.start) s.start s.config.slots s.config.start s.number
+-- the latest end of each slot before the journal, as deaths, at the stamp that the desk began with
+abbrev pub deaths_before : DeskTable → ℕ → List Death
+deaths_before before low = map (λ p. death_of p low) (latest_ends before)
+
+pub told_before : (start : Start) (low d : ℕ) (before : DeskTable) → IsTableOf start d [] before → AreToldBefore start low d (deaths_before before low)
+told_before start low d before is = record {
+  each = λ k x at.
+      let a = from_map (λ p. death_of p low) (latest_ends before) k x at in
+      let b = latest_told start d [] before is k a.0 a.1 in
+      subst (λ (x : Death). (x.shard ≡ d) × (x.stamp ≤ low) × (is_ended (at_start start (record { shard = x.shard; slot = x.slot; version = x.version })) ≡ true)) a.2 (b.0, omega arith, b.1);
+  all = λ p here h.
+      let a = latest_all start d [] before is p here h in
+      (a.0, death_of a.1 low, to_map (λ p. death_of p low) (latest_ends before) a.0 a.1 a.2, a.3, a.4, a.5);
+}
+
+pub old_ends : (s : ShardState) (v : Sight) → IsFit s → IsSeated s v → AreOldEnds v.told s.start s.config.slots s.config.start s.number
 old_ends s v fit seated = record {
-  told = λ k x at.
-      let a = from_map (λ p. death_of p s.config.start) (latest_ends v.before) k x at in
-      let b = latest_told s.start s.number [] v.before seated.told k a.0 a.1 in
-      subst (λ (x : Death). (x.shard ≡ s.number) × (x.stamp ≤ s.config.start) × (is_ended (at_start s.start (record { shard = x.shard; slot = x.slot; version = x.version })) ≡ true)) a.2 (b.0, omega arith, b.1);
-  all = λ p h.
-      let a = latest_all s.start s.number [] v.before seated.told p (own_start s.start s.number fit.begun.own p h) h in
-      (a.0, death_of a.1 s.config.start, to_map (λ p. death_of p s.config.start) (latest_ends v.before) a.0 a.1 a.2, a.3, a.4, a.5);
+  told = seated.old.each;
+  all = λ p h. seated.old.all p (own_start s.start s.number fit.begun.own p h) h;
   turns = seated.turns;
 }

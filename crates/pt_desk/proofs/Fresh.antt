@@ -46,7 +46,7 @@ none_told d p = subst (TableTells [] [] p) (sym (go (p.shard == d) p.version)) (
 
 -- it has looked nowhere, and nobody was before its journal
 pub fresh_seated : (c : Config) (d : ℕ) (directory : DirectoryState) → directory.desks ≡ c.desks → directory.slots ≡ c.slots
-    → IsSeated (fresh_shard c d) (record { directory = directory; reads = []; before = record { desk = d; slots = []; read = 0 } })
+    → IsSeated (fresh_shard c d) (record { directory = directory; reads = []; before = record { desk = d; slots = []; read = 0 }; told = [] })
 fresh_seated c d directory desks slots = record {
   desks = desks;
   slots = slots;
@@ -55,5 +55,6 @@ fresh_seated c d directory desks slots = record {
   words = tt;
   told = (refl, λ p here. none_told d p);
   unread = refl;
+  old = record { each = λ k x at. absurd (at_nothing x k at); all = λ p here h. absurd (cc) };
   turns = λ p born. absurd (cc);
 }

@@ -16,7 +16,7 @@ use Rattle.pt_shard.specs.ShardState.{ShardState, phase_of}
 use Rattle.pt_shard.specs.Known.{knows}
 use Rattle.pt_shard.specs.Fit.{IsFit}
 use Rattle.pt_shard.specs.Calls.{Refuses}
-use Rattle.pt_desk.specs.Sight.{Sight, IsSeen, IsSeated, SeesOn, deaths_before, seat_of}
+use Rattle.pt_desk.specs.Sight.{Sight, IsSeen, IsSeated, SeesOn, seat_of}
 use Rattle.pt_desk.specs.DeskState.{IsAccounted}
 use Rattle.pt_desk.specs.Reaching.{Looks}
 use Rattle.pt_desk.proofs.Posted.{of_parts}
@@ -49,7 +49,7 @@ module _ (s : ShardState) (o : OutEnds) (i : InEnds) (directory : DirectoryState
       -- whoever has ended here, its end is told
       own_end : (p : Pid) → is_ended (phase_of s p) ≡ true → HasToldOf p (seat_of s before)
       own_end p ends =
-          own_death (deaths_before table s.config.start) s.start s.config.slots s.config.start s.config.top_version s.number (old_ends s before whole.0.fit whole.0.seated) s.journal whole.0.fit.local p ends
+          own_death seat.marked s.start s.config.slots s.config.start s.config.top_version s.number (old_ends s before whole.0.fit whole.0.seated) s.journal whole.0.fit.local p ends
 
       pub looked : (seat' : SeatState) (answer : Option ℕ) → Probes t seat answer seat' → (HasReadOf t seat → IsSome answer) → (HasToldOf t seat → IsSome answer)
           → Looks t (of_parts s o i before) answer (sight_of directory seat' table)

@@ -18,7 +18,7 @@ use Rattle.pt_carrier.specs.Ends.{OutEnds, InEnds}
 use Rattle.pt_carrier.specs.Meeting.{out_kept, in_kept}
 use Rattle.pt_shard.specs.declared.loss.Loss.{Loss}
 use Rattle.pt_shard.specs.ShardState.{ShardState, past, written, ended_in}
-use Rattle.pt_desk.specs.Sight.{Sight, death_by, deaths_in, seat_of, deaths_before, WasInTurn, IsSeen, AllSeen, IsSeated, HasWordsAt, AllHaveWords}
+use Rattle.pt_desk.specs.Sight.{Sight, death_by, deaths_in, seat_of, AreToldBefore, WasInTurn, IsSeen, AllSeen, IsSeated, HasWordsAt, AllHaveWords}
 use Rattle.pt_signal.specs.declared.config.Config.{Config}
 use Rattle.pt_shard.specs.Outbox.{sent_on_some}
 use Rattle.pt_shard.specs.Fit.{IsFit}
@@ -27,11 +27,11 @@ use Rattle.pt_desk.proofs.Accounts.{accounted_met}
 use Rattle.pt_desk.proofs.Posted.{of_parts}
 
 abbrev pub sight_of : DirectoryState → SeatState → DeskTable → Sight
-sight_of directory seat before = record { directory = directory; reads = seat.reads; before = before }
+sight_of directory seat before = record { directory = directory; reads = seat.reads; before = before; told = seat.marked }
 
 -- the ends that a desk's seat told, all of them
 abbrev pub deaths_of : ShardState → Sight → List Death
-deaths_of s v = deaths_in (deaths_before v.before s.config.start) s.start s.journal
+deaths_of s v = deaths_in v.told s.start s.journal
 
 -- what holds of a desk's parts
 abbrev pub IsWhole : ShardState → OutEnds → InEnds → Sight → SeatState → Type 0
@@ -44,17 +44,17 @@ abbrev pub next_shard : ℕ → Event → Option Pid → ShardState → ShardSta
 next_shard n event vacant s = record (written n event s) { vacant = vacant }
 
 pub seated_written : (s : ShardState) (v : Sight) (n : ℕ) (event : Event) (vacant : Option Pid) → IsSeated s v → IsSeen v.reads n event → HasWordsAt s.config.slots event → IsSeated (next_shard n event vacant s) v
-seated_written s v n event vacant h seen words = record { desks = h.desks; slots = h.slots; near = h.near; seen = (seen, h.seen); words = (words, h.words); told = h.told; unread = h.unread; turns = h.turns }
+seated_written s v n event vacant h seen words = record { desks = h.desks; slots = h.slots; near = h.near; seen = (seen, h.seen); words = (words, h.words); told = h.told; unread = h.unread; old = h.old; turns = h.turns }
 
 pub seat_written : (s : ShardState) (v : Sight) (n : ℕ) (event : Event) (vacant : Option Pid) → ended_in s.start (past s) event ≡ None → seat_of (next_shard n event vacant s) v ≡ seat_of s v
 seat_written s v n event vacant none =
-    ap (λ ds. record { name = v.directory.name; homes = s.number ∷ []; reads = v.reads; deaths = ds })
+    ap (λ ds. record { name = v.directory.name; homes = s.number ∷ []; reads = v.reads; deaths = ds; marked = v.told })
     (ap (λ o. deaths_of s v ++ death_by o n) none ∙ append-nil (deaths_of s v))
 
 pub seat_ended : (s : ShardState) (v : Sight) (n : ℕ) (event : Event) (p : Pid) (vacant : Option Pid) → ended_in s.start (past s) event ≡ Some p
     → seat_of (next_shard n event vacant s) v ≡ add_death (death_of p n) (seat_of s v)
 seat_ended s v n event p vacant ends =
-    ap (λ o. record { name = v.directory.name; homes = s.number ∷ []; reads = v.reads; deaths = deaths_of s v ++ death_by o n }) ends
+    ap (λ o. record { name = v.directory.name; homes = s.number ∷ []; reads = v.reads; deaths = deaths_of s v ++ death_by o n; marked = v.told }) ends
 
 -- a desk that posted, or took a letter into its hold or out of it -----------------------
 
@@ -74,13 +74,14 @@ same_seated s s' v same h = record {
   words = subst (λ j. AllHaveWords s'.config.slots j) (sym same.journal) (subst (λ (c : Config). AllHaveWords c.slots s.journal) (sym same.config) h.words);
   told = subst (λ n. IsTableOf s'.start n [] v.before) (sym same.number) (subst (λ b. IsTableOf b s.number [] v.before) (sym same.start) h.told);
   unread = h.unread;
+  old = subst (λ (c : Config). AreToldBefore s'.start c.start s'.number v.told) (sym same.config) (subst (λ n. AreToldBefore s'.start s.config.start n v.told) (sym same.number) (subst (λ b. AreToldBefore b s.config.start s.number v.told) (sym same.start) h.old));
   turns =
       subst (λ (c : Config). (p : Pid) → is_unborn (at_start s'.start p) ≡ false → WasInTurn s'.start c.slots p) (sym same.config)
       (subst (λ b. (p : Pid) → is_unborn (at_start b p) ≡ false → WasInTurn b s.config.slots p) (sym same.start) h.turns);
 }
 
 pub same_seat : (s s' : ShardState) (v : Sight) → SameJournal s s' → seat_of s' v ≡ seat_of s v
-same_seat s s' v same i = record { name = v.directory.name; homes = same.number i ∷ []; reads = v.reads; deaths = deaths_in (deaths_before v.before (same.config i).start) (same.start i) (same.journal i) }
+same_seat s s' v same i = record { name = v.directory.name; homes = same.number i ∷ []; reads = v.reads; deaths = deaths_in v.told (same.start i) (same.journal i); marked = v.told }
 
 pub same_whole : (s s' : ShardState) (o o' : OutEnds) (i i' : InEnds) (v : Sight) (seat : SeatState) → SameJournal s s' → IsFit s' → IsAccounted s' o' i' → IsWhole s o i v seat → IsWhole s' o' i' v seat
 same_whole s s' o o' i i' v seat same fit accounts whole =
@@ -129,7 +130,7 @@ met_whole s o o' i i' v seat outs ins whole =
 -- a desk after one more read ---------------------------------------------------------
 
 abbrev pub with_read : Read → Sight → Sight
-with_read r v = record { directory = v.directory; reads = v.reads ++ r ∷ []; before = v.before }
+with_read r v = record { directory = v.directory; reads = v.reads ++ r ∷ []; before = v.before; told = v.told }
 
 still_seen : (rs : List Read) (x : Read) (n : ℕ) (e : Event) → IsSeen rs n e → IsSeen (rs ++ x ∷ []) n e
 still_seen rs x n (Refused a b) (k, r, t, at, end, stamp, later) = (k, r, t, at_longer rs (x ∷ []) k r at, end, stamp, later)
@@ -156,6 +157,7 @@ seated_read s v x here h = record {
   words = h.words;
   told = h.told;
   unread = h.unread;
+  old = h.old;
   turns = h.turns;
 }
 

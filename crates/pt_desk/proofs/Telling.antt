@@ -15,7 +15,7 @@ use Rattle.pt_directory.specs.Views.{deaths_at, last_version, last_stamp}
 use Rattle.pt_directory.specs.Seats.{DirectoryState, SeatState}
 use Rattle.pt_carrier.specs.Ends.{OutEnds, InEnds}
 use Rattle.pt_shard.specs.ShardState.{ShardState, past, lives, written, came_event, handled, is_ended_by, ended_in, ended_by}
-use Rattle.pt_desk.specs.Sight.{Sight, IsSeen, IsSeated, HasWordsAt, AllHaveWords, deaths_before, seat_of}
+use Rattle.pt_desk.specs.Sight.{Sight, IsSeen, IsSeated, HasWordsAt, AllHaveWords, seat_of}
 use Rattle.pt_shard.specs.Fit.{IsFit}
 use Rattle.pt_desk.specs.DeskState.{IsAccounted}
 use Rattle.pt_desk.specs.InPlace.{CanTell, seat_told}
@@ -48,7 +48,7 @@ module _ (s : ShardState) (o : OutEnds) (i : InEnds) (directory : DirectoryState
     -- the seat told of none of p's slot that is not earlier
     rises : (last_version (deaths_at p.shard p.slot (deaths_of s (sight_of directory seat before))) < p.version)
         × (last_stamp (deaths_at p.shard p.slot (deaths_of s (sight_of directory seat before))) ≤ clock s.config.start s.journal)
-    rises = deaths_rise (deaths_before before s.config.start) s.start s.config.slots s.config.start s.config.top_version s.number (old_ends s (sight_of directory seat before) whole.0.fit whole.0.seated) s.journal whole.0.fit.local p alive
+    rises = deaths_rise seat.marked s.start s.config.slots s.config.start s.config.top_version s.number (old_ends s (sight_of directory seat before) whole.0.fit whole.0.seated) s.journal whole.0.fit.local p alive
 
     version_rises : last_version (deaths_at p.shard p.slot seat.deaths) < p.version
     version_rises = subst (λ (z : SeatState). last_version (deaths_at p.shard p.slot z.deaths) < p.version) (sym whole.1) rises.0
@@ -62,7 +62,7 @@ module _ (s : ShardState) (o : OutEnds) (i : InEnds) (directory : DirectoryState
       name = ap (λ (z : SeatState). z.name) whole.1;
       home = ap (λ (z : SeatState). z.homes) whole.1 ∙ ap (λ d. d ∷ []) (sym home);
       words =
-          let slot = slot_of_born (deaths_before before s.config.start) s.start s.config.slots s.config.start s.number (old_ends s (sight_of directory seat before) whole.0.fit whole.0.seated) p s.journal whole.0.seated.words (was_born (life s.start (past s) p) alive) in
+          let slot = slot_of_born seat.marked s.start s.config.slots s.config.start s.number (old_ends s (sight_of directory seat before) whole.0.fit whole.0.seated) p s.journal whole.0.seated.words (was_born (life s.start (past s) p) alive) in
           (omega (arith, home, whole.0.fit.here, whole.0.seated.desks), omega (arith, slot, whole.0.seated.slots));
       version = version_rises;
       stamp = stamp_rises;

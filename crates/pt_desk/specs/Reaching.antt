@@ -23,6 +23,7 @@ pub record Looks (t : Pid) (old : DeskState) (answer : Option ℕ) (sight : Sigh
     directory = old.sight.directory;
     reads = old.sight.reads ++ new_read t.shard t.slot found answer ∷ [];
     before = old.sight.before;
+    told = old.sight.told;
   }
   pub ended : MatchOption answer (found < t.version) (λ n. t.version ≤ found)
   -- it has one where it was seen before that t has ended

@@ -1,5 +1,5 @@
 -- What a desk sees of the ends that the desks of its node told.
-use Rattle.std.specs.Prelude.{◌≡◌, ℕ, ◌<◌, ◌≤◌, true, false, map, List, [], ◌∷◌, ◌++◌, Option, Some, None, ⊤}
+use Rattle.std.specs.Prelude.{◌≡◌, ℕ, ◌<◌, ◌≤◌, true, false, List, [], ◌∷◌, ◌++◌, Option, Some, None, ⊤}
 use mathlib.Core.Option.{some}
 use lib.ListN.{get_elem?}
 use Rattle.pt_signal.specs.declared.pid.Pid.{Pid}
@@ -11,24 +11,22 @@ use Rattle.pt_events.specs.Journal.{events}
 use Rattle.pt_directory.specs.declared.view.Read.{Read}
 use Rattle.pt_directory.specs.declared.view.Death.{Death}
 use Rattle.pt_directory.specs.Seats.{DirectoryState, SeatState, death_of}
-use Rattle.pt_accounts.specs.DeskLives.{DeskTable, IsTableOf, latest_ends}
+use Rattle.pt_accounts.specs.DeskLives.{DeskTable, IsTableOf}
 use Rattle.pt_shard.specs.ShardState.{ShardState, ended_in}
 
--- the directory of its node; what it read there, oldest first; and what became of the processes before the journal
+-- the directory of its node; what it read there, oldest first; what became of the processes before the journal; and
+-- the ends that it had told the directory before the journal
 pub record Sight : Type 0 where
   pub directory : DirectoryState
   pub reads : List Read
   pub before : DeskTable
+  pub told : List Death
 
 abbrev pub death_by : Option Pid → ℕ → List Death
 death_by None n = []
 death_by (Some p) n = death_of p n ∷ []
 
--- the latest end of each slot before the journal, as deaths, at the stamp that the desk began with
-abbrev pub deaths_before : DeskTable → ℕ → List Death
-deaths_before before low = map (λ p. death_of p low) (latest_ends before)
-
--- and then the ends of the journal, oldest first
+-- the ends that were told before the journal, and then the ends of the journal, oldest first
 abbrev pub deaths_in : List Death → Start → List Stamped → List Death
 deaths_in before start [] = before
 deaths_in before start (s ∷ journal) =
@@ -40,7 +38,8 @@ seat_of s v = record {
   name = v.directory.name;
   homes = s.number ∷ [];
   reads = v.reads;
-  deaths = deaths_in (deaths_before v.before s.config.start) s.start s.journal;
+  deaths = deaths_in v.told s.start s.journal;
+  marked = v.told;
 }
 
 -- a read that found the end of p, or of a later process of its slot
@@ -80,6 +79,16 @@ pub record WasInTurn (start : Start) (slots : ℕ) (p : Pid) : Type 0 where
   pub version : 0 < p.version
   pub before : (v : ℕ) → 0 < v → v < p.version → is_ended (at_start start (record p { version = v })) ≡ true
 
+-- the ends that desk d told before its journal, which began at this stamp: each is of a process of the desk that had
+-- ended, and of whoever had ended its end was told, or a later one of its slot
+pub record AreToldBefore (start : Start) (low d : ℕ) (told : List Death) : Type 0 where
+  pub each : (k : ℕ) (x : Death) → get_elem? told k ≡ some x
+      → (x.shard ≡ d) × (x.stamp ≤ low)
+      × (is_ended (at_start start (record { shard = x.shard; slot = x.slot; version = x.version })) ≡ true)
+  pub all : (p : Pid) → p.shard ≡ d → is_ended (at_start start p) ≡ true
+      → (k : ℕ) × (x : Death) × (get_elem? told k ≡ some x) × (x.shard ≡ p.shard) × (x.slot ≡ p.slot)
+      × (p.version ≤ x.version)
+
 -- what holds of the sight of every desk
 pub record IsSeated (s : ShardState) (v : Sight) : Type 0 where
   pub desks : v.directory.desks ≡ s.config.desks
@@ -91,6 +100,7 @@ pub record IsSeated (s : ShardState) (v : Sight) : Type 0 where
   -- what it knows of those before its journal is what they were, and nothing of the journal
   pub told : IsTableOf s.start s.number [] v.before
   pub unread : v.before.read ≡ 0
+  pub old : AreToldBefore s.start s.config.start s.number v.told
   pub turns : (p : Pid) → is_unborn (at_start s.start p) ≡ false → WasInTurn s.start s.config.slots p
 
 -- the sight later: of the same directory, and what it read stands where it stood

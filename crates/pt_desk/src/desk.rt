@@ -64,7 +64,12 @@ impl Model for Desk {
       shard = d.shard;
       outs = d.outs;
       ins = d.ins;
-      sight = record { directory = arc_value d.directory; reads = d.seat.reads; before = d.before };
+      sight = record {
+        directory = arc_value d.directory;
+        reads = d.seat.reads;
+        before = d.before;
+        told = d.seat.marked;
+      };
     } };
 
     ghost invariant = { λ d.
@@ -72,12 +77,18 @@ impl Model for Desk {
           shard = d.shard;
           outs = d.outs;
           ins = d.ins;
-          sight = record { directory = arc_value d.directory; reads = d.seat.reads; before = d.before };
+          sight = record {
+            directory = arc_value d.directory;
+            reads = d.seat.reads;
+            before = d.before;
+            told = d.seat.marked;
+          };
         })
         × (d.seat ≡ seat_of d.shard (record {
           directory = arc_value d.directory;
           reads = d.seat.reads;
           before = d.before;
+          told = d.seat.marked;
         })) };
 }
 
@@ -91,8 +102,8 @@ impl Desk {
     ///   its outbox.
     /// - The letters collected from each desk are those that its journal received from there, followed by the letter in
     ///   its hold.
-    /// - The seat is the home of this desk alone. It has reported the latest exit of each slot before the journal, and
-    ///   then the exits of the journal.
+    /// - The seat is the home of this desk alone. It has reported exits before the journal, the latest of each slot among
+    ///   them, and marked them. Then it has reported the exits of the journal.
     /// - For each failed call that the journal notes, it had seen the exit, at a lower stamp.
     /// - The table has what the shard's start says of its processes.
     pub fn whole(
@@ -108,17 +119,24 @@ impl Desk {
           directory = arc_value directory;
           reads = seat.reads;
           before = before;
+          told = seat.marked;
         }) }
         requires seat { seat ≡ seat_of shard (record {
           directory = arc_value directory;
           reads = seat.reads;
           before = before;
+          told = seat.marked;
         }) }
         ensures { result ≡ record {
           shard = shard;
           outs = outs;
           ins = ins;
-          sight = record { directory = arc_value directory; reads = seat.reads; before = before };
+          sight = record {
+            directory = arc_value directory;
+            reads = seat.reads;
+            before = before;
+            told = seat.marked;
+          };
         } }
     {
         // read for the proof alone: it says what holds of every shard
@@ -137,7 +155,12 @@ impl Desk {
     pub fn apart(self) -> (Shard, Outs, Ins, Arc<Directory, Global>, Seat, DeskLives)
         ensures parts { (self.shard ≡ result.0) × (self.outs ≡ result.1) × (self.ins ≡ result.2) }
         ensures sight { self.sight
-            ≡ record { directory = arc_value result.3; reads = result.4.reads; before = result.5 } }
+            ≡ record {
+              directory = arc_value result.3;
+              reads = result.4.reads;
+              before = result.5;
+              told = result.4.marked;
+            } }
         ensures fit { IsFit result.0 }
         ensures accounts { IsAccounted result.0 result.1 result.2 }
         ensures seated { IsSeated self.shard self.sight }

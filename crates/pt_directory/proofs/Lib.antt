@@ -5,3 +5,4 @@ pub mod Stores
 pub mod SeatSteps
 pub mod Words
 pub mod Reopening
+pub mod Late

@@ -1,5 +1,5 @@
 -- Lists of deaths, and lists read by `get_elem?`.
-use Rattle.std.proofs.Common.{◌≡◌, ◌≢◌, ◌⊎◌, ℕ, zero, suc, ◌+◌, ◌-◌, ◌<◌, ◌≤◌, Bool, true, false, ◌&&◌, cond, eqb, true≢false, List, [], ◌∷◌, ◌++◌, length, set, get_or, Some, refl, sym, ap, ◌∙◌, subst, inl, inr, ⊎_elim, arith, le_refl, eqb-true, eq-eqb, ne_eqb}
+use Rattle.std.proofs.Common.{◌≡◌, ◌≢◌, ◌⊎◌, ℕ, zero, suc, ◌+◌, ◌-◌, ◌<◌, ◌≤◌, Bool, true, false, ◌&&◌, cond, eqb, true≢false, List, [], ◌∷◌, ◌++◌, filter, length, set, get_or, Some, refl, sym, ap, ◌∙◌, subst, inl, inr, ⊎_elim, arith, le_refl, eqb-true, eq-eqb, ne_eqb}
 use mathlib.Core.Option.{some, some-ne-none, some-injective}
 use lib.ListN.{get_elem?}
 use Rattle.atomic_table.proofs.Lists.{at_longer, set_else}
@@ -43,7 +43,7 @@ last_stamp-push [] e = refl
 last_stamp-push (x ∷ []) e = refl
 last_stamp-push (x ∷ y ∷ xs) e = last_stamp-push (y ∷ xs) e
 
-pub Rises-push : (es : List Death) (e : Death) → Rises es → last_version es < e.version → last_stamp es < e.stamp → Rises (es ++ e ∷ [])
+pub Rises-push : (es : List Death) (e : Death) → Rises es → last_version es < e.version → last_stamp es ≤ e.stamp → Rises (es ++ e ∷ [])
 Rises-push [] e r v s = tt
 Rises-push (x ∷ []) e r v s = (v, s, tt)
 Rises-push (x ∷ y ∷ xs) e r v s = (r.0, r.1, Rises-push (y ∷ xs) e r.2 v s)
@@ -73,10 +73,10 @@ up_to_last (x ∷ y ∷ xs) zero e r at =
     (subst (λ (z : Death). z.version ≤ last_version (y ∷ xs)) is p, subst (λ (z : Death). z.stamp ≤ last_stamp (y ∷ xs)) is q)
 up_to_last (x ∷ y ∷ xs) (suc k) e r at = up_to_last (y ∷ xs) k e r.2 at
 
--- the first of what rises is below each that follows
-rises_first : (x : Death) (xs : List Death) (j : ℕ) (e : Death) → Rises (x ∷ xs) → get_elem? xs j ≡ some e → (x.version < e.version) × (x.stamp < e.stamp)
+-- the first of what rises is below each that follows, and its stamp not above
+rises_first : (x : Death) (xs : List Death) (j : ℕ) (e : Death) → Rises (x ∷ xs) → get_elem? xs j ≡ some e → (x.version < e.version) × (x.stamp ≤ e.stamp)
 rises_first x [] j e r at = absurd (some-ne-none e (sym at))
-rises_first x (y ∷ ys) zero e r at = subst (λ (z : Death). (x.version < z.version) × (x.stamp < z.stamp)) (some-injective y e at) (r.0, r.1)
+rises_first x (y ∷ ys) zero e r at = subst (λ (z : Death). (x.version < z.version) × (x.stamp ≤ z.stamp)) (some-injective y e at) (r.0, r.1)
 rises_first x (y ∷ ys) (suc j) e r at =
     let h = rises_first y ys j e r.2 at in
     let a = r.0 in
@@ -196,7 +196,7 @@ pub homes_of-push : (x : ℕ) (l : List View) (w : View) → homes_of x (l ++ w 
 homes_of-push x [] w = omega arith
 homes_of-push x (u ∷ us) w = let r = homes_of-push x us w in omega arith
 
-seats_there : (x : ℕ) (l : List View) (i : ℕ) (v : View) → get_elem? l i ≡ some v → times_among x v.homes ≤ homes_of x l
+pub seats_there : (x : ℕ) (l : List View) (i : ℕ) (v : View) → get_elem? l i ≡ some v → times_among x v.homes ≤ homes_of x l
 seats_there x [] i v e = absurd (some-ne-none v (sym e))
 seats_there x (u ∷ us) zero v e = let is : times_among x u.homes ≡ times_among x v.homes = ap (λ (m : View). times_among x m.homes) (some-injective u v e) in omega arith
 seats_there x (u ∷ us) (suc i) v e = let r = seats_there x us i v e in omega arith
@@ -216,3 +216,37 @@ up_from-last a (suc n) = let e : suc a + n ≡ a + suc n = omega arith in ap (λ
 
 pub up_from-push : (n : ℕ) → up_from 0 (n + 1) ≡ up_from 0 n ++ n ∷ []
 up_from-push n = let e : n + 1 ≡ suc n = omega arith in let f : 0 + n ≡ n = omega arith in ap (up_from 0) e ∙ up_from-last 0 n ∙ ap (λ (z : ℕ). up_from 0 n ++ z ∷ []) f
+
+-- what a test leaves
+
+module _ {A : Type 0} (P : A → Bool) where
+  -- one of what passed was there, and passes
+  pub from_filter : (xs : List A) (k : ℕ) (x : A) → get_elem? (filter P xs) k ≡ some x → (j : ℕ) × (get_elem? xs j ≡ some x) × (P x ≡ true)
+  from_filter [] k x at = absurd (some-ne-none x (sym at))
+  from_filter (y ∷ ys) k x at = go (P y) refl k at (λ i. from_filter ys i x)
+    where
+      go : (b : Bool) → P y ≡ b → (k : ℕ) → get_elem? (cond b (y ∷ filter P ys) (filter P ys)) k ≡ some x
+          → ((i : ℕ) → get_elem? (filter P ys) i ≡ some x → (j : ℕ) × (get_elem? ys j ≡ some x) × (P x ≡ true)) → (j : ℕ) × (get_elem? (y ∷ ys) j ≡ some x) × (P x ≡ true)
+      go true e zero at more = (0, at, sym (ap P (some-injective y x at)) ∙ e)
+      go true e (suc k) at more = let t = more k at in (suc t.0, t.1, t.2)
+      go false e k at more = let t = more k at in (suc t.0, t.1, t.2)
+
+-- what a test leaves, after another that all these pass
+pub filter_kept : (P Q : Death → Bool) (ds : List Death) → ((d : Death) → Q d ≡ true → P d ≡ true) → filter Q (filter P ds) ≡ filter Q ds
+filter_kept P Q [] pass = refl
+filter_kept P Q (d ∷ ds) pass = go (P d) refl (Q d) refl (filter_kept P Q ds pass)
+  where
+    go : (b : Bool) → P d ≡ b → (c : Bool) → Q d ≡ c → filter Q (filter P ds) ≡ filter Q ds → filter Q (cond b (d ∷ filter P ds) (filter P ds)) ≡ cond c (d ∷ filter Q ds) (filter Q ds)
+    go true e c f rest = ap (λ (z : Bool). cond z (d ∷ filter Q (filter P ds)) (filter Q (filter P ds))) f ∙ ap (λ l. cond c (d ∷ l) l) rest
+    go false e true f rest = absurd (true≢false (sym (pass d f) ∙ e))
+    go false e false f rest = rest
+
+-- the deaths of a slot, after a test that they all pass
+pub deaths_kept : (P : Death → Bool) (x y : ℕ) (ds : List Death) → ((d : Death) → is_at x y d ≡ true → P d ≡ true) → deaths_at x y (filter P ds) ≡ deaths_at x y ds
+deaths_kept P x y ds pass = filter_kept P (is_at x y) ds pass
+
+-- what holds of each death, and of none, holds of the last stamp
+pub last_stamp_up_to : (n : ℕ) (ds : List Death) → ((k : ℕ) (d : Death) → get_elem? ds k ≡ some d → d.stamp ≤ n) → last_stamp ds ≤ n
+last_stamp_up_to n [] h = omega arith
+last_stamp_up_to n (d ∷ []) h = h 0 d refl
+last_stamp_up_to n (d ∷ e ∷ ds) h = last_stamp_up_to n (e ∷ ds) (λ k z at. h (suc k) z at)

@@ -10,8 +10,8 @@ use Rattle.pt_directory.specs.declared.view.Shape.{Shape}
 use Rattle.pt_directory.specs.declared.view.Read.{Read}
 use Rattle.pt_directory.specs.declared.view.Death.{Death}
 use Rattle.pt_directory.specs.declared.view.View.{View}
-use Rattle.pt_directory.specs.Views.{new_death, new_read, is_at, deaths_at, Rises, HasDeath, Covers, IsHomeOf, times_among, with_read, with_stamp, stamp_last}
-use Rattle.pt_directory.specs.Rule.{version_word, death_word, IsReadKept, IsViewKept, Once, IsKept, Ruled, SeatKnows, VersionLoaded, DeathLoaded, Audited}
+use Rattle.pt_directory.specs.Views.{new_death, new_read, is_at, deaths_at, Rises, HasDeath, Covers, IsHomeOf, times_among, with_read, with_stamp, stamp_last, last_version, marked_view}
+use Rattle.pt_directory.specs.Rule.{version_word, death_word, IsReadKept, IsViewKept, Once, IsKept, Ruled, SeatKnows, VersionLoaded, DeathLoaded, Audited, ToldLoaded, Marked}
 use Rattle.pt_directory.proofs.Lists.{at_append, at_single, up_to_last, rises_both, Rises-front, has_last, among, stamp_last-push, is_at-true, times_there, homes_of-set, two_seats}
 
 -- where the words of a slot stand
@@ -198,4 +198,37 @@ audits shape slots id me i st k len at small =
             (covered (k.done r.shard r.slot) r.version s (Rises-front (k.done r.shard r.slot) (k.pending r.shard r.slot) slot.rises) (h.1 pos)))
             ok.stamp,
       ),
+    )
+
+-- the home of a slot's desk knows what it reads
+pub loads_told : (shape : Shape) (slots id : ℕ) (me : SeatKnows) (d s : ℕ) → d < shape.desks → s < shape.slots
+    → Allows (Ruled shape) slots id me (version_word shape.slots d s) (λ n. n) (ToldLoaded d s (step slots (version_word shape.slots d s) 0 0 none) me)
+loads_told shape slots id me d s p q st k len at small =
+    let v = me.0 in
+    let vok = k.each id v at in
+    let so = k.slots d s p q in (
+      v,
+      keeps,
+      tt,
+      read_keeps shape st.words st.views (version_word shape.slots d s) id v v k at refl vok,
+      (refl, λ home. so.version ∙ ap last_version (sym (vok.home d s home).0)),
+    )
+
+-- marking touches nothing that the rule says
+pub marks : (shape : Shape) (slots id : ℕ) (me : SeatKnows) (i : ℕ) → Allows (Ruled shape) slots id me i (λ n. n) (Marked (step slots i 0 0 none) me)
+marks shape slots id me i st k len at small =
+    let v = me.0 in
+    let w : View = marked_view v in
+    let vok = k.each id v at in
+    let ok : IsViewKept shape st.words k.done k.pending w = record {
+      home = vok.home;
+      deaths = vok.deaths;
+      begun = vok.begun;
+      reads = vok.reads;
+    } in (
+      w,
+      keeps,
+      tt,
+      read_keeps shape st.words st.views i id v w k at refl ok,
+      refl,
     )

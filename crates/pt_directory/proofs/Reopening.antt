@@ -6,7 +6,7 @@ use Rattle.atomic_table.specs.Seated.{TableId}
 use Rattle.pt_directory.specs.declared.view.Death.{Death}
 use Rattle.pt_signal.specs.declared.pid.Pid.{Pid}
 use Rattle.pt_directory.specs.Views.{new_death, deaths_at, last_version, last_stamp, up_from}
-use Rattle.pt_directory.specs.Seats.{SeatState, death_of, given_deaths, reopened_seat, OnePerSlot, add_death}
+use Rattle.pt_directory.specs.Seats.{SeatState, death_of, given_deaths, reopened_seat, OnePerSlot, add_death, mark_seat}
 use Rattle.pt_directory.proofs.Lists.{at_append, at_single, from_among, true-is_at}
 
 given_deaths-push : (k : ℕ) (xs : List (Pid × ℕ)) (x : Pid × ℕ) → given_deaths k (xs ++ x ∷ []) ≡ given_deaths k xs ++ cond (eqb x.0.shard k) (new_death x.0.shard x.0.slot x.0.version x.1 ∷ []) []
@@ -48,7 +48,7 @@ none_yet xs i x one at = empty_if (deaths_at x.0.shard x.0.slot (given_deaths x.
     let lt = c.1 in
     absurd (omega arith))
 
-set_map : (f g : ℕ → SeatState) (a n d : ℕ) (w : SeatState) → d < n → w ≡ g (a + d) → ((k : ℕ) → k ≢ a + d → f k ≡ g k) → set (map f (up_from a n)) d w ≡ map g (up_from a n)
+pub set_map : (f g : ℕ → SeatState) (a n d : ℕ) (w : SeatState) → d < n → w ≡ g (a + d) → ((k : ℕ) → k ≢ a + d → f k ≡ g k) → set (map f (up_from a n)) d w ≡ map g (up_from a n)
 set_map f g a zero d w low is same = absurd (omega arith)
 set_map f g a (suc n) zero w low is same =
     let e : a + 0 ≡ a = omega arith in
@@ -63,7 +63,7 @@ set_map f g a (suc n) (suc d) w low is same =
     let head : f a ≡ g a = same a (λ h. let q : a ≡ a + suc d = h in absurd (omega arith)) in
     λ i. head i ∷ tail i
 
-get_map : (f : ℕ → SeatState) (a n d : ℕ) (z : SeatState) → d < n → get_or (map f (up_from a n)) d z ≡ f (a + d)
+pub get_map : (f : ℕ → SeatState) (a n d : ℕ) (z : SeatState) → d < n → get_or (map f (up_from a n)) d z ≡ f (a + d)
 get_map f a zero d z low = absurd (omega arith)
 get_map f a (suc n) zero z low = let e : a ≡ a + 0 = omega arith in ap f e
 get_map f a (suc n) (suc d) z low = let e : suc a + d ≡ a + suc d = omega arith in get_map f (suc a) n d z (omega arith) ∙ ap f e
@@ -74,7 +74,7 @@ seat_is name xs n d items z low is at = let e : 0 + d ≡ d = omega arith in at 
 
 -- after it
 pub seat_told : (name : TableId) (xs : List (Pid × ℕ)) (x : Pid × ℕ) (n : ℕ) (items : List SeatState) (s t : SeatState) → x.0.shard < n → items ≡ map (reopened_seat name xs) (up_from 0 n) → s ≡ reopened_seat name xs x.0.shard
-    → t ≡ add_death (death_of x.0 x.1) s → set items x.0.shard t ≡ map (reopened_seat name (xs ++ x ∷ [])) (up_from 0 n)
+    → t ≡ mark_seat (add_death (death_of x.0 x.1) s) → set items x.0.shard t ≡ map (reopened_seat name (xs ++ x ∷ [])) (up_from 0 n)
 seat_told name xs x n items s t low is was told =
     ap (λ (l : List SeatState). set l x.0.shard t) is
     ∙ set_map (reopened_seat name xs) (reopened_seat name (xs ++ x ∷ [])) 0 n x.0.shard t low new others
@@ -89,14 +89,14 @@ seat_told name xs x n items s t low is was told =
     zero_more = omega arith
 
     new : t ≡ reopened_seat name (xs ++ x ∷ []) (0 + x.0.shard)
-    new = told ∙ ap (λ (z : SeatState). record { name = z.name; homes = z.homes; reads = z.reads; deaths = z.deaths ++ e ∷ [] }) was
-        ∙ ap (λ (l : List Death). record { name = name; homes = x.0.shard ∷ []; reads = []; deaths = l }) (sym grown) ∙ ap (reopened_seat name (xs ++ x ∷ [])) (sym zero_more)
+    new = told ∙ ap (λ (z : SeatState). record { name = z.name; homes = z.homes; reads = z.reads; deaths = z.deaths ++ e ∷ []; marked = z.deaths ++ e ∷ [] }) was
+        ∙ ap (λ (l : List Death). record { name = name; homes = x.0.shard ∷ []; reads = []; deaths = l; marked = l }) (sym grown) ∙ ap (reopened_seat name (xs ++ x ∷ [])) (sym zero_more)
 
     others : (k : ℕ) → k ≢ 0 + x.0.shard → reopened_seat name xs k ≡ reopened_seat name (xs ++ x ∷ []) k
     others k ne =
         let off : eqb x.0.shard k ≡ false = ne_eqb x.0.shard k (λ h. ne (sym h ∙ sym zero_more)) in
         let same : given_deaths k (xs ++ x ∷ []) ≡ given_deaths k xs = given_deaths-push k xs x ∙ ap (λ (b : Bool). given_deaths k xs ++ cond b (e ∷ []) []) off ∙ append-nil (given_deaths k xs) in
-        ap (λ (l : List Death). record { name = name; homes = k ∷ []; reads = []; deaths = l }) (sym same)
+        ap (λ (l : List Death). record { name = name; homes = k ∷ []; reads = []; deaths = l; marked = l }) (sym same)
 
 length_seats : (f : ℕ → SeatState) (a n : ℕ) → length (map f (up_from a n)) ≡ n
 length_seats f a zero = refl
@@ -108,8 +108,8 @@ count_seats items f n is = ap length is ∙ length_seats f 0 n
 pub low_version : (name : TableId) (xs : List (Pid × ℕ)) (i : ℕ) (x : Pid × ℕ) (s : SeatState) → OnePerSlot xs → get_elem? xs i ≡ some x → s ≡ reopened_seat name (take i xs) x.0.shard → 0 < x.0.version → last_version (deaths_at x.0.shard x.0.slot s.deaths) < x.0.version
 low_version name xs i x s one at is pos = let e : deaths_at x.0.shard x.0.slot s.deaths ≡ [] = ap (λ (z : SeatState). deaths_at x.0.shard x.0.slot z.deaths) is ∙ none_yet xs i x one at in subst (λ (l : List Death). last_version l < x.0.version) (sym e) pos
 
-pub low_stamp : (name : TableId) (xs : List (Pid × ℕ)) (i : ℕ) (x : Pid × ℕ) (s : SeatState) → OnePerSlot xs → get_elem? xs i ≡ some x → s ≡ reopened_seat name (take i xs) x.0.shard → 0 < x.1 → last_stamp (deaths_at x.0.shard x.0.slot s.deaths) < x.1
-low_stamp name xs i x s one at is pos = let e : deaths_at x.0.shard x.0.slot s.deaths ≡ [] = ap (λ (z : SeatState). deaths_at x.0.shard x.0.slot z.deaths) is ∙ none_yet xs i x one at in subst (λ (l : List Death). last_stamp l < x.1) (sym e) pos
+pub low_stamp : (name : TableId) (xs : List (Pid × ℕ)) (i : ℕ) (x : Pid × ℕ) (s : SeatState) → OnePerSlot xs → get_elem? xs i ≡ some x → s ≡ reopened_seat name (take i xs) x.0.shard → last_stamp (deaths_at x.0.shard x.0.slot s.deaths) ≤ x.1
+low_stamp name xs i x s one at is = let e : deaths_at x.0.shard x.0.slot s.deaths ≡ [] = ap (λ (z : SeatState). deaths_at x.0.shard x.0.slot z.deaths) is ∙ none_yet xs i x one at in subst (λ (l : List Death). last_stamp l ≤ x.1) (sym e) (omega arith)
 
 pub at_get_or : {A : Type 0} (l : List A) (i : ℕ) (d : A) → i < length l → get_elem? l i ≡ some (get_or l i d)
 at_get_or [] i d h = absurd (omega arith)

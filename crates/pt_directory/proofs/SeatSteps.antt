@@ -1,5 +1,5 @@
 -- A table begins with the rule, and seats are made and joined under it.
-use Rattle.std.proofs.Common.{◌≡◌, ◌≢◌, ℕ, zero, suc, ◌+◌, ◌*◌, List, [], ◌∷◌, ◌++◌, length, set, get_or, replicate, refl, sym, ap, ◌∙◌, subst, ⊎_elim, arith, append-nil}
+use Rattle.std.proofs.Common.{◌≡◌, ◌≢◌, ℕ, zero, suc, ◌+◌, ◌*◌, ◌<◌, Bool, true, false, true≢false, cond, eqb, List, [], ◌∷◌, ◌++◌, filter, length, set, get_or, replicate, refl, sym, ap, ◌∙◌, subst, ⊎_elim, arith, append-nil, eq-eqb, eqb-true, ne_eqb}
 use Rattle.std.proofs.lemmas.List.Elements.{filter-append}
 use Rattle.std.proofs.lemmas.List.{length-replicate}
 use mathlib.Core.Option.{some, some-ne-none, some-injective}
@@ -9,9 +9,9 @@ use Rattle.atomic_table.proofs.Lists.{at_set, at_snoc, at_longer}
 use Rattle.pt_directory.specs.declared.view.Shape.{Shape}
 use Rattle.pt_directory.specs.declared.view.Death.{Death}
 use Rattle.pt_directory.specs.declared.view.View.{View}
-use Rattle.pt_directory.specs.Views.{is_at, deaths_at, IsHomeOf, fresh_view, up_from, joined_views}
-use Rattle.pt_directory.specs.Rule.{IsViewKept, IsKept, Ruled, one_home, other_homes, first_view}
-use Rattle.pt_directory.proofs.Lists.{at_append, at_behind, at_single, at_nothing, none_at, times-append, times-up_from, homes_of-set, homes_of-push}
+use Rattle.pt_directory.specs.Views.{is_at, deaths_at, is_of, is_not_of, IsHomeOf, fresh_view, up_from, joined_views}
+use Rattle.pt_directory.specs.Rule.{IsViewKept, IsKept, Ruled, one_home, other_homes, renewed_home, later_homes, first_view}
+use Rattle.pt_directory.proofs.Lists.{at_append, at_behind, at_single, at_nothing, none_at, from_filter, deaths_kept, true-is_at, seats_there, times_there, times-append, times-up_from, homes_of-set, homes_of-push}
 use Rattle.pt_directory.proofs.Loads.{set_each, two_homes}
 
 -- a view that is the home of desks without deaths
@@ -27,6 +27,25 @@ get_or-zeros : (n i : ℕ) → get_or {A = ℕ} (replicate n 0) i 0 ≡ 0
 get_or-zeros zero i = refl
 get_or-zeros (suc n) zero = refl
 get_or-zeros (suc n) (suc i) = get_or-zeros n i
+
+pub not_of : (h : ℕ) (d : Death) → d.shard ≢ h → is_not_of h d ≡ true
+not_of h d ne = ap (λ (b : Bool). cond b false true) (ne_eqb d.shard h ne)
+
+is_not : (h : ℕ) (d : Death) → is_not_of h d ≡ true → d.shard ≢ h
+is_not h d is same = true≢false (sym is ∙ ap (λ (b : Bool). cond b false true) (eq-eqb d.shard h same))
+
+-- the first of some, and the rest
+pub first_of : (xs : List ℕ) → 0 < length xs → (h : ℕ) × (hs : List ℕ) × (xs ≡ h ∷ hs)
+first_of [] some_there = absurd (omega arith)
+first_of (h ∷ hs) some_there = (h, hs, refl)
+
+-- a home that is not the first is among the rest
+rest_home : (h : ℕ) (hs : List ℕ) (d : Death) → d.shard ≢ h → (k : ℕ) × (get_elem? (h ∷ hs) k ≡ some d.shard) → (k : ℕ) × (get_elem? hs k ≡ some d.shard)
+rest_home h hs d ne t = go t.0 t.1
+  where
+    go : (k : ℕ) → get_elem? (h ∷ hs) k ≡ some d.shard → (k : ℕ) × (get_elem? hs k ≡ some d.shard)
+    go zero e = absurd (ne (sym (some-injective h d.shard e)))
+    go (suc k) e = (k, e)
 
 pub opens : (shape : Shape) (words : List ℕ) (n : ℕ) → words ≡ replicate n 0 → n ≡ 2 * (shape.desks * shape.slots) → Ruled shape (opening words [] (first_view shape))
 opens shape words n zeros len = record {
@@ -69,6 +88,55 @@ splits shape id h hs v is st k at =
           (at_snoc (set st.views id left) right u j e);
     } in
     subst (λ (z : View). IsKept shape st.words (set st.views id (other_homes z) ++ one_home z ∷ [])) (sym is) both
+
+-- a seat that is made anew: the first home of a view, with what was told of that desk
+pub renews : (shape : Shape) (id h : ℕ) (hs : List ℕ) (v : View) → v.homes ≡ h ∷ hs → v.begun ≡ [] → Splits (Ruled shape) id v (later_homes v) (renewed_home v)
+renews shape id h hs v homes idle st k at =
+    let was : View = record { homes = h ∷ hs; reads = v.reads; deaths = v.deaths; begun = []; marked = v.marked } in
+    let is : v ≡ was = λ i. record { homes = homes i; reads = v.reads; deaths = v.deaths; begun = idle i; marked = v.marked } in
+    let left : View = record { homes = hs; reads = v.reads; deaths = filter (is_not_of h) v.deaths; begun = []; marked = v.marked } in
+    let right : View = record { homes = h ∷ []; reads = []; deaths = filter (is_of h) v.deaths; begun = []; marked = filter (is_of h) v.deaths } in
+    let at' : get_elem? st.views id ≡ some was = at ∙ ap some is in
+    let vok = k.each id was at' in
+    let other : (x j : ℕ) → get_elem? hs j ≡ some x → h ≢ x = λ x j e same.
+    let a = seats_there x st.views id was at' in
+    let b = times_there x hs j e in
+    let c = k.once x in
+    let d : cond {A = ℕ} (eqb h x) 1 0 ≡ 1 = ap (λ (t : Bool). cond {A = ℕ} t 1 0) (eq-eqb h x same) in
+    omega arith in
+    let lok : IsViewKept shape st.words k.done k.pending left = record {
+      home = λ x y t.
+          let o = vok.home x y (suc t.0, t.1) in
+          (deaths_kept (is_not_of h) x y v.deaths (λ d here. not_of h d (λ e. other x t.0 t.1 (sym e ∙ (true-is_at d x y here).0))) ∙ o.0, o.1);
+      deaths = λ j d e.
+          let f = from_filter (is_not_of h) v.deaths j d e in
+          rest_home h hs d (is_not h d f.2) (vok.deaths f.0 d f.1);
+      begun = λ j d e. absurd (at_nothing d j e);
+      reads = vok.reads;
+    } in
+    let rok : IsViewKept shape st.words k.done k.pending right = record {
+      home = λ x y t.
+          let o = vok.home x y (0, ap some (at_single h x t.0 t.1)) in
+          (deaths_kept (is_of h) x y v.deaths (λ d here. eq-eqb d.shard h ((true-is_at d x y here).0 ∙ sym (at_single h x t.0 t.1))) ∙ o.0, o.1);
+      deaths = λ j d e. let f = from_filter (is_of h) v.deaths j d e in (0, ap some (sym (eqb-true d.shard h f.2)));
+      begun = λ j d e. absurd (at_nothing d j e);
+      reads = λ j r e. absurd (at_nothing r j e);
+    } in
+    let both : IsKept shape st.words (set st.views id left ++ right ∷ []) = record {
+      done = k.done;
+      pending = k.pending;
+      sized = k.sized;
+      slots = k.slots;
+      once = λ x.
+          let a = homes_of-set x st.views id was left at' in
+          let b = homes_of-push x (set st.views id left) right in
+          let c = k.once x in omega arith;
+      each = λ j u e. ⊎_elim
+          (λ (was : get_elem? (set st.views id left) j ≡ some u). set_each (IsViewKept shape st.words k.done k.pending) st.views id left (λ i z _ there. k.each i z there) lok j u was)
+          (λ (new : right ≡ u). subst (IsViewKept shape st.words k.done k.pending) new rok)
+          (at_snoc (set st.views id left) right u j e);
+    } in
+    subst (λ (z : View). IsKept shape st.words (set st.views id (later_homes z) ++ renewed_home z ∷ [])) (sym is) both
 
 pub joins : (shape : Shape) (id : ℕ) (v : View) (other : ℕ) (w : View) → Joins (Ruled shape) id v other w (joined_views v w) (fresh_view [])
 joins shape id v other w st k at apart there =

@@ -39,7 +39,7 @@ module _ (shape : Shape) (slots id : ℕ) (me : SeatKnows) (d s ver t : ℕ) (p 
   here : is_at d s e ≡ true
   here = is_at-true e d s refl refl
 
-  pub stores_death : IsHomeOf d me.0 → me.0.begun ≡ [] → last_version (deaths_at d s me.0.deaths) < ver → last_stamp (deaths_at d s me.0.deaths) < t
+  pub stores_death : IsHomeOf d me.0 → me.0.begun ≡ [] → last_version (deaths_at d s me.0.deaths) < ver → last_stamp (deaths_at d s me.0.deaths) ≤ t
       → Allows (Ruled shape) slots id me (death_word shape.slots d s) (λ _. t) (λ _. DeathStored d s ver (step slots (death_word shape.slots d s) t 0 none) me t)
   stores_death home idle newer later st k len at small =
       let v = me.0 in
@@ -50,7 +50,7 @@ module _ (shape : Shape) (slots id : ℕ) (me : SeatKnows) (d s ver t : ℕ) (p 
       let us : List ℕ = set st.words i t in
       let more : ℕ → ℕ → List Death = λ x y. k.pending x y ++ deaths_at x y (e ∷ []) in
       let nothing : (x y : ℕ) → IsHomeOf x v → k.pending x y ≡ [] = λ x y h. sym (vok.home x y h).1 ∙ ap (deaths_at x y) idle in
-      let was : last_stamp (k.done d s) < t = subst (λ (l : List Death). last_stamp l < t) (vok.home d s home).0 later in
+      let was : last_stamp (k.done d s) ≤ t = subst (λ (l : List Death). last_stamp l ≤ t) (vok.home d s home).0 later in
       let old : last_version (k.done d s) < ver = subst (λ (l : List Death). last_version l < ver) (vok.home d s home).0 newer in
       let alone : k.done d s ++ k.pending d s ≡ k.done d s = ap (λ l. k.done d s ++ l) (nothing d s home) ∙ append-nil (k.done d s) in
       let low : get_or st.words i 0 ≤ t = (let a : get_or st.words i 0 ≡ last_stamp (k.done d s) = so.death ∙ ap last_stamp alone in omega arith) in

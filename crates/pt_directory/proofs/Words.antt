@@ -1,5 +1,5 @@
 -- The steps, at a word that is known by an equation.
-use Rattle.std.proofs.Common.{◌≡◌, ℕ, ◌+◌, ◌*◌, ◌<◌, map, List, [], ◌∷◌, ◌++◌, Some, None, sym, ap, ◌∙◌, subst, arith, mul_comm}
+use Rattle.std.proofs.Common.{◌≡◌, ℕ, ◌+◌, ◌*◌, ◌<◌, ◌≤◌, map, List, [], ◌∷◌, ◌++◌, Some, None, sym, ap, ◌∙◌, subst, arith, mul_comm}
 use Rattle.std.proofs.lemmas.Nat.{mul-add-lt}
 use Rattle.atomic_table.specs.Table.{step, Allows}
 use mathlib.Core.Option.{none}
@@ -7,12 +7,12 @@ use Rattle.pt_signal.specs.declared.pid.Pid.{Pid}
 use Rattle.pt_directory.specs.declared.view.Shape.{Shape}
 use Rattle.pt_directory.specs.declared.view.Death.{Death}
 use Rattle.pt_directory.specs.Views.{new_death, new_read, deaths_at, last_version, last_stamp, IsHomeOf, LastRead, with_read, with_stamp, up_from}
-use Rattle.pt_directory.specs.Rule.{version_word, death_word, Ruled, SeatKnows, LoadsVersion, DeathLoaded, DeathStored, VersionStored}
+use Rattle.pt_directory.specs.Rule.{version_word, death_word, Ruled, SeatKnows, LoadsVersion, DeathLoaded, DeathStored, VersionStored, ToldLoaded}
 use Rattle.atomic_table.specs.Seated.{TableId}
 use Rattle.pt_directory.specs.Seats.{SeatState, DeathIsBegun, death_of, seat_state, add_read, new_seat}
 use mathlib.Core.List.{map-append}
 use Rattle.pt_directory.proofs.Lists.{stamp_last-push, up_from-push}
-use Rattle.pt_directory.proofs.Loads.{loads_version, loads_death}
+use Rattle.pt_directory.proofs.Loads.{loads_version, loads_death, loads_told}
 use Rattle.pt_directory.proofs.Stores.{stores_death, stores_version}
 
 pub word_in : (n m d s i w : ℕ) → w ≡ 2 * (n * m) → d < n → s < m → i ≡ 2 * (d * m + s) → i + 1 < w
@@ -37,12 +37,15 @@ module _ (shape : Shape) (slots id : ℕ) (me : SeatKnows) (d s n m i : ℕ) (en
   pub loads_death_as : (ver : ℕ) → LastRead (new_read d s ver None) me.0.reads → Allows (Ruled shape) slots id me (i + 1) (λ x. x) (DeathLoaded (step slots (i + 1) 0 0 none) me)
   loads_death_as ver last = subst (λ (j : ℕ). Allows (Ruled shape) slots id me j (λ x. x) (DeathLoaded (step slots j 0 0 none) me)) (sym above) (loads_death shape slots id me d s ver last.0 last.1)
 
-  pub stores_death_as : (ver t : ℕ) → IsHomeOf d me.0 → me.0.begun ≡ [] → last_version (deaths_at d s me.0.deaths) < ver → last_stamp (deaths_at d s me.0.deaths) < t
+  pub stores_death_as : (ver t : ℕ) → IsHomeOf d me.0 → me.0.begun ≡ [] → last_version (deaths_at d s me.0.deaths) < ver → last_stamp (deaths_at d s me.0.deaths) ≤ t
       → Allows (Ruled shape) slots id me (i + 1) (λ _. t) (λ _. DeathStored d s ver (step slots (i + 1) t 0 none) me t)
   stores_death_as ver t home idle newer later = subst (λ (j : ℕ). Allows (Ruled shape) slots id me j (λ _. t) (λ _. DeathStored d s ver (step slots j t 0 none) me t)) (sym above) (stores_death shape slots id me d s ver t p' q' home idle newer later)
 
   pub stores_version_as : (ver t : ℕ) → me.0.begun ≡ new_death d s ver t ∷ [] → Allows (Ruled shape) slots id me i (λ _. ver) (λ _. VersionStored (step slots i ver 0 none) me ver)
   stores_version_as ver t begun = subst (λ (j : ℕ). Allows (Ruled shape) slots id me j (λ _. ver) (λ _. VersionStored (step slots j ver 0 none) me ver)) (sym is') (stores_version shape slots id me d s ver t p' q' begun)
+
+  pub loads_told_as : Allows (Ruled shape) slots id me i (λ x. x) (ToldLoaded d s (step slots i 0 0 none) me)
+  loads_told_as = subst (λ (j : ℕ). Allows (Ruled shape) slots id me j (λ x. x) (ToldLoaded d s (step slots j 0 0 none) me)) (sym is') (loads_told shape slots id me d s p' q')
 
 -- the death that is begun, with its stamp
 pub begun_death : (pid : Pid) (ds : List Death) → DeathIsBegun pid ds → (t : ℕ) × (ds ≡ death_of pid t ∷ [])
@@ -55,7 +58,7 @@ pub probed : (old mid new : SeatKnows) (a b : TableId) (now : SeatState) (d s n 
     → seat_state b new.0 ≡ add_read (new_read d s n (Some t)) now
 probed old mid new a b now d s n t is same read stamped =
     (λ i. seat_state (same i) ((stamped ∙ ap (λ (m : SeatKnows). (with_stamp t m.0, m.1)) read) i).0)
-    ∙ (λ i. record { name = a; homes = old.0.homes; reads = stamp_last-push old.0.reads t (new_read d s n None) i; deaths = old.0.deaths })
+    ∙ (λ i. record { name = a; homes = old.0.homes; reads = stamp_last-push old.0.reads t (new_read d s n None) i; deaths = old.0.deaths; marked = old.0.marked })
     ∙ ap (add_read (new_read d s n (Some t))) is
 
 -- one more seat was made

@@ -1,5 +1,5 @@
 -- The rule of the words and seats, and what each step tells. No public clause cites this module.
-use Rattle.std.specs.Prelude.{◌≡◌, ℕ, ◌+◌, ◌*◌, ◌<◌, ◌≤◌, List, ◌++◌, length, take, drop, slice_index, None}
+use Rattle.std.specs.Prelude.{◌≡◌, ℕ, ◌+◌, ◌*◌, ◌<◌, ◌≤◌, List, [], ◌++◌, length, take, drop, slice_index, None}
 use Rattle.std.specs.Prelude.{MatchOption}
 use mathlib.Core.Option.{some}
 use lib.ListN.{get_elem?}
@@ -10,7 +10,7 @@ use Rattle.pt_directory.specs.declared.view.Death.{Death}
 use Rattle.pt_directory.specs.declared.view.View.{View}
 use Rattle.pt_directory.specs.Views.{new_death, new_read, deaths_at, last_version, last_stamp, Rises, HasDeath, Covers}
 use Rattle.pt_directory.specs.Views.{IsHomeOf, homes_of, fresh_view, up_from, with_read, with_stamp, with_begun}
-use Rattle.pt_directory.specs.Views.{finished_view}
+use Rattle.pt_directory.specs.Views.{finished_view, marked_view, first_deaths, later_deaths}
 
 -- where a slot's version word stands: the greatest version of its pids that has ended
 abbrev pub version_word : ℕ → ℕ → ℕ → ℕ
@@ -94,13 +94,48 @@ DeathStored shard slot version st me n me' = me' ≡ (with_begun (new_death shar
 abbrev pub VersionStored : Step (Unit {0}) → SeatKnows → ℕ → SeatKnows → Type 0
 VersionStored st me n me' = me' ≡ (finished_view me.0, me.1)
 
+-- a version word was read; of a slot whose home this is, it is the version of the last death told
+abbrev pub ToldLoaded : ℕ → ℕ → Step (Unit {0}) → SeatKnows → ℕ → SeatKnows → Type 0
+ToldLoaded shard slot st me n me' =
+    (me' ≡ me) × (IsHomeOf shard me.0 → n ≡ last_version (deaths_at shard slot me.0.deaths))
+
+-- a word was read, and the deaths that this view told are marked
+abbrev pub Marked : Step (Unit {0}) → SeatKnows → ℕ → SeatKnows → Type 0
+Marked st me n me' = me' ≡ (marked_view me.0, me.1)
+
 -- what a seat is made with: the first home of the view that it is split off from
 abbrev pub one_home : View → View
 one_home v = fresh_view (take 1 v.homes)
 
 -- what that view keeps
 abbrev pub other_homes : View → View
-other_homes v = record { homes = drop 1 v.homes; reads = v.reads; deaths = v.deaths; begun = v.begun }
+other_homes v = record {
+  homes = drop 1 v.homes;
+  reads = v.reads;
+  deaths = v.deaths;
+  begun = v.begun;
+  marked = v.marked;
+}
+
+-- the first home of a view, with what it told of that desk, which is marked
+abbrev pub renewed_home : View → View
+renewed_home v = record {
+  homes = take 1 v.homes;
+  reads = [];
+  deaths = first_deaths v.homes v.deaths;
+  begun = [];
+  marked = first_deaths v.homes v.deaths;
+}
+
+-- what that view keeps
+abbrev pub later_homes : View → View
+later_homes v = record {
+  homes = drop 1 v.homes;
+  reads = v.reads;
+  deaths = later_deaths v.homes v.deaths;
+  begun = [];
+  marked = v.marked;
+}
 
 -- each read with a stamp, of a slot whose home this is: the version read has died, and neither its death nor that of
 -- an earlier version has a greater stamp

@@ -1,5 +1,5 @@
 -- What a seat knows: whose home it is, what it read, and which deaths it told.
-use Rattle.std.specs.Prelude.{◌≡◌, ℕ, zero, suc, ◌+◌, ◌<◌, ◌≤◌, Bool, ◌&&◌, cond, eqb, List, [], ◌∷◌, ◌++◌, filter}
+use Rattle.std.specs.Prelude.{◌≡◌, ℕ, zero, suc, ◌+◌, ◌<◌, ◌≤◌, Bool, true, false, ◌&&◌, cond, eqb, List, [], ◌∷◌, ◌++◌, filter}
 use Rattle.std.specs.Prelude.{Option, Some}
 use mathlib.Core.Option.{some}
 use lib.ListN.{get_elem?}
@@ -35,11 +35,11 @@ last_stamp [] = 0
 last_stamp (d ∷ []) = d.stamp
 last_stamp (d ∷ e ∷ ds) = last_stamp (e ∷ ds)
 
--- each death has a greater version and a greater stamp than the one before
+-- each death has a greater version than the one before, and no lower stamp
 abbrev pub Rises : List Death → Type 0
 Rises [] = Unit {0}
 Rises (d ∷ []) = Unit {0}
-Rises (d ∷ e ∷ ds) = (d.version < e.version) × (d.stamp < e.stamp) × Rises (e ∷ ds)
+Rises (d ∷ e ∷ ds) = (d.version < e.version) × (d.stamp ≤ e.stamp) × Rises (e ∷ ds)
 
 -- among the deaths is one of this version, with at most this stamp
 abbrev pub HasDeath : List Death → ℕ → ℕ → Type 0
@@ -67,7 +67,7 @@ homes_of shard (v ∷ vs) = times_among shard v.homes + homes_of shard vs
 
 -- a view that knows no more than whose home it is
 abbrev pub fresh_view : List ℕ → View
-fresh_view homes = record { homes = homes; reads = []; deaths = []; begun = [] }
+fresh_view homes = record { homes = homes; reads = []; deaths = []; begun = []; marked = [] }
 
 -- so many numbers, from this one on
 abbrev pub up_from : ℕ → ℕ → List ℕ
@@ -76,7 +76,13 @@ up_from a (suc n) = a ∷ up_from (suc a) n
 
 -- with one more read
 abbrev pub with_read : Read → View → View
-with_read r v = record { homes = v.homes; reads = v.reads ++ r ∷ []; deaths = v.deaths; begun = v.begun }
+with_read r v = record {
+  homes = v.homes;
+  reads = v.reads ++ r ∷ [];
+  deaths = v.deaths;
+  begun = v.begun;
+  marked = v.marked;
+}
 
 -- the reads, with this stamp in the last
 abbrev pub stamp_last : ℕ → List Read → List Read
@@ -86,15 +92,31 @@ stamp_last s (r ∷ q ∷ rs) = r ∷ stamp_last s (q ∷ rs)
 
 -- with this stamp in the last read
 abbrev pub with_stamp : ℕ → View → View
-with_stamp s v = record { homes = v.homes; reads = stamp_last s v.reads; deaths = v.deaths; begun = v.begun }
+with_stamp s v = record {
+  homes = v.homes;
+  reads = stamp_last s v.reads;
+  deaths = v.deaths;
+  begun = v.begun;
+  marked = v.marked;
+}
 
 -- with this death begun: its stamp is told, its version not yet
 abbrev pub with_begun : Death → View → View
-with_begun d v = record { homes = v.homes; reads = v.reads; deaths = v.deaths; begun = d ∷ [] }
+with_begun d v = record { homes = v.homes; reads = v.reads; deaths = v.deaths; begun = d ∷ []; marked = v.marked }
 
 -- with the death that was begun told whole
 abbrev pub finished_view : View → View
-finished_view v = record { homes = v.homes; reads = v.reads; deaths = v.deaths ++ v.begun; begun = [] }
+finished_view v = record {
+  homes = v.homes;
+  reads = v.reads;
+  deaths = v.deaths ++ v.begun;
+  begun = [];
+  marked = v.marked;
+}
+
+-- with all deaths that it told marked
+abbrev pub marked_view : View → View
+marked_view v = record { homes = v.homes; reads = v.reads; deaths = v.deaths; begun = v.begun; marked = v.deaths }
 
 -- what two views know together
 abbrev pub joined_views : View → View → View
@@ -103,7 +125,25 @@ joined_views v w = record {
   reads = v.reads ++ w.reads;
   deaths = v.deaths ++ w.deaths;
   begun = v.begun ++ w.begun;
+  marked = v.marked;
 }
+
+-- is it the death of a pid of this desk?
+abbrev pub is_of : ℕ → Death → Bool
+is_of shard d = eqb d.shard shard
+
+abbrev pub is_not_of : ℕ → Death → Bool
+is_not_of shard d = cond (eqb d.shard shard) false true
+
+-- the deaths of the pids of the first of these desks
+abbrev pub first_deaths : List ℕ → List Death → List Death
+first_deaths [] ds = []
+first_deaths (h ∷ hs) ds = filter (is_of h) ds
+
+-- all others
+abbrev pub later_deaths : List ℕ → List Death → List Death
+later_deaths [] ds = ds
+later_deaths (h ∷ hs) ds = filter (is_not_of h) ds
 
 -- this read is the last
 abbrev pub LastRead : Read → List Read → Type 0

@@ -1,15 +1,16 @@
 //! The words, and the calls over them.
 
-ghost use Rattle.std.specs.Prelude.{◌≡◌, ◌*◌, ◌<◌, [], ◌∷◌, map, replicate, None, IfOk, IsSome};
+ghost use Rattle.std.specs.Prelude.{◌≡◌, ◌*◌, ◌<◌, ◌≤◌, [], ◌∷◌, length, map, replicate, None, IfOk, IsSome};
 ghost use Rattle.pt_directory.specs.Views.{new_read, deaths_at, last_version, last_stamp, IsHomeOf, with_stamp};
 ghost use Rattle.pt_directory.specs.Views.{with_begun, finished_view, LastRead, up_from, fresh_view};
 ghost use Rattle.pt_directory.specs.Rule.{version_word, LoadsVersion};
 ghost use Rattle.pt_directory.specs.Seats.{HasWordsFor, DeathIsBegun, add_death, death_of, Probes, HasReadOf, HasToldOf};
-ghost use Rattle.pt_directory.specs.Seats.{join_seats, IsAudited, new_seat, reopened_seat, AreEnded};
+ghost use Rattle.pt_directory.specs.Seats.{join_seats, IsAudited, new_seat, reopened_seat, AreEnded, mark_seat};
+ghost use Rattle.pt_directory.specs.Seats.{first_seat, later_seat, AreLate, late_seat, tell_one, with_deaths};
 
 use crate::rule::{
-    Audit, DirectoryRule, JoinViews, LoadDeath, LoadVersion, Numbers, SplitHome, StoreDeath,
-    StoreVersion,
+    Audit, DirectoryRule, JoinViews, LoadDeath, LoadTold, LoadVersion, Mark, Numbers, RenewHome,
+    SplitHome, StoreDeath, StoreVersion,
 };
 use crate::seat::{Seat, TableSeat};
 use crate::view::{Shape, View};
@@ -88,7 +89,7 @@ impl Directory {
         for entry in ended {
             let (pid, stamp) = *entry;
             let seat = &mut seats[usize::from(pid.shard)];
-            directory.ended(seat, pid, stamp);
+            directory.had_ended(seat, pid, stamp);
         }
         Ok((directory, seats))
     }
@@ -124,6 +125,101 @@ impl Directory {
     {
         self.store_death::<Brand>(&mut seat.inner, pid, stamp);
         self.store_version(&mut seat.inner, pid);
+    }
+
+    /// Tells all seats that a pid of this seat's desk had ended by this stamp, and marks all that the seat told.
+    ///
+    /// The desk is the seat's only home. The version is above that of the last death that it told of the slot, and the
+    /// stamp not below. It takes no memory and waits for nobody.
+    pub fn had_ended(&self, seat: &mut Seat, pid: Pid, stamp: u64)
+        requires seat { (seat.old.name ≡ self.now.name) × (seat.old.homes ≡ pid.shard ∷ []) }
+        requires pid { HasWordsFor self.now pid }
+        requires version { last_version (deaths_at pid.shard pid.slot seat.old.deaths) < pid.version }
+        requires stamp { last_stamp (deaths_at pid.shard pid.slot seat.old.deaths) ≤ stamp }
+        ensures { seat.new ≡ mark_seat (add_death (death_of pid stamp) seat.old) }
+    {
+        let inner = &mut seat.inner;
+        self.store_death::<Brand>(inner, pid, stamp);
+        self.store_version(inner, pid);
+        self.table.shared.load::<Mark>(inner, 0);
+    }
+
+    /// The greatest version of the pid's slot whose end this seat has told, or 0. The slot's desk is the seat's only
+    /// home. It takes no memory and waits for nobody.
+    pub fn told(&self, seat: &mut Seat, pid: Pid) -> u64
+        requires seat { (seat.old.name ≡ self.now.name) × (seat.old.homes ≡ pid.shard ∷ []) }
+        requires pid { HasWordsFor self.now pid }
+        ensures same { seat.new ≡ seat.old }
+        ensures told { result ≡ last_version (deaths_at pid.shard pid.slot seat.old.deaths) }
+    {
+        self.load_told::<Brand>(&mut seat.inner, pid)
+    }
+
+    /// Splits off the home of the seat's first desk, with all that the seat told of that desk, and marks it.
+    ///
+    /// The new seat has read nothing. The old one keeps its other desks and what it read. So the seats of a node whose
+    /// desks were joined are made anew, over the same directory. It takes no memory.
+    pub fn renew(&self, seat: &mut Seat) -> Seat
+        requires seat { seat.old.name ≡ self.now.name }
+        requires home { 0 < length seat.old.homes }
+        ensures first { result ≡ first_seat seat.old }
+        ensures rest { seat.new ≡ later_seat seat.old }
+    {
+        let inner = self.table.shared.split_seat::<RenewHome>(&mut seat.inner);
+        Seat { inner }
+    }
+
+    /// The seats of the desks in order, made anew of one that knows all that they knew, in the same directory. Of these
+    /// pids each is told that was not told yet, at its stamp.
+    ///
+    /// Each seat has told what was told of its desk before, and marked it. It has read nothing. The stamps are all the
+    /// same, and no death told before has a greater one. Time and memory grow with the desks and the pids, and not with
+    /// the slots.
+    pub fn go_on(
+        &self,
+        alloc: Global,
+        seat: Seat,
+        ended: &[(Pid, u64)],
+    ) -> Result<Vec<Seat>, AllocError>
+        requires seat { (seat.name ≡ self.now.name) × (seat.homes ≡ up_from 0 self.now.desks) }
+        requires ended { AreLate self.now seat.deaths ended.now }
+        ensures { IfOk result
+            (λ r. r.items ≡ map (late_seat self.now.name seat.deaths ended.now) (up_from 0 self.now.desks)) }
+    {
+        let mut seats = self.renew_all(alloc, seat)?;
+        for entry in ended {
+            let (pid, stamp) = *entry;
+            let seat = &mut seats[usize::from(pid.shard)];
+            self.tell_late(seat, pid, stamp);
+        }
+        Ok(seats)
+    }
+
+    /// The seats of the desks in order, made anew.
+    fn renew_all(&self, alloc: Global, seat: Seat) -> Result<Vec<Seat>, AllocError>
+        requires { (seat.name ≡ self.now.name) × (seat.homes ≡ up_from 0 self.now.desks) }
+        ensures { IfOk result
+            (λ r. r.items ≡ map (late_seat self.now.name seat.deaths []) (up_from 0 self.now.desks)) }
+    {
+        let mut rest = seat;
+        let mut seats = Vec::with_capacity(alloc, usize::from(self.desks))?;
+        for _desk in 0..self.desks {
+            seats.push_reserved(self.renew(&mut rest));
+        }
+        Ok(seats)
+    }
+
+    /// Tells that a pid had ended, if its end was not told yet.
+    fn tell_late(&self, seat: &mut Seat, pid: Pid, stamp: u64)
+        requires seat { (seat.old.name ≡ self.now.name) × (seat.old.homes ≡ pid.shard ∷ []) }
+        requires pid { HasWordsFor self.now pid }
+        requires marked { seat.old.marked ≡ seat.old.deaths }
+        requires stamp { last_stamp (deaths_at pid.shard pid.slot seat.old.deaths) ≤ stamp }
+        ensures { seat.new ≡ with_deaths (tell_one pid.shard (pid, stamp) seat.old.deaths) seat.old }
+    {
+        if self.told(seat, pid) < u64::from(pid.version) {
+            self.had_ended(seat, pid, stamp);
+        }
     }
 
     /// The seat takes in all that another knows, at the end of its own.
@@ -170,6 +266,19 @@ impl Directory {
             .load::<LoadVersion<N>>(seat, self.word(pid))
     }
 
+    /// Loads the version word of the pid's slot, of which the seat is the home.
+    fn load_told<N: Numbers>(&self, seat: &mut TableSeat, pid: Pid) -> u64
+        requires seat { seat.old.table_id ≡ self.now.name }
+        requires pid { HasWordsFor self.now pid }
+        requires numbers { (N.shard ≡ pid.shard) × (N.slot ≡ pid.slot) }
+        requires home { IsHomeOf pid.shard seat.old.me.0 }
+        ensures same { (seat.new.table_id ≡ seat.old.table_id) × (seat.new.id ≡ seat.old.id)
+            × (seat.new.me ≡ seat.old.me) }
+        ensures told { result ≡ last_version (deaths_at pid.shard pid.slot seat.old.me.0.deaths) }
+    {
+        self.table.shared.load::<LoadTold<N>>(seat, self.word(pid))
+    }
+
     /// Loads the death word of the pid's slot; the stamp joins the last read, which is of that slot.
     fn load_death(&self, seat: &mut TableSeat, pid: Pid, version: u64) -> u64
         requires seat { seat.old.table_id ≡ self.now.name }
@@ -190,7 +299,7 @@ impl Directory {
         requires numbers { (N.shard ≡ pid.shard) × (N.slot ≡ pid.slot) × (N.version ≡ pid.version) }
         requires home { IsHomeOf pid.shard seat.old.me.0 × (seat.old.me.0.begun ≡ []) }
         requires version { last_version (deaths_at pid.shard pid.slot seat.old.me.0.deaths) < pid.version }
-        requires stamp { last_stamp (deaths_at pid.shard pid.slot seat.old.me.0.deaths) < stamp }
+        requires stamp { last_stamp (deaths_at pid.shard pid.slot seat.old.me.0.deaths) ≤ stamp }
         ensures same { (seat.new.table_id ≡ seat.old.table_id) × (seat.new.id ≡ seat.old.id) }
         ensures begun { seat.new.me ≡ (with_begun (death_of pid stamp) seat.old.me.0, seat.old.me.1) }
     {

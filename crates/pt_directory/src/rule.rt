@@ -83,6 +83,26 @@ impl Play<(), View> for Audit {
     ghost then = { Audited };
 }
 
+/// The load of a version word by the home of its desk, which knows what it reads.
+pub(crate) struct LoadTold<N> {
+    numbers: PhantomData<N>,
+}
+
+impl<N: Numbers> Play<(), View> for LoadTold<N> {
+    ghost use Rattle.pt_directory.specs.Rule.{ToldLoaded};
+
+    ghost then = { ToldLoaded N.shard N.slot };
+}
+
+/// The load that marks what was told.
+pub(crate) struct Mark;
+
+impl Play<(), View> for Mark {
+    ghost use Rattle.pt_directory.specs.Rule.{Marked};
+
+    ghost then = { Marked };
+}
+
 /// The load that makes a seat, the home of one desk.
 pub(crate) struct SplitHome;
 
@@ -92,6 +112,17 @@ impl Split<View> for SplitHome {
     ghost left = { other_homes };
 
     ghost right = { one_home };
+}
+
+/// The load that makes a seat anew, the home of one desk, with what was told of that desk.
+pub(crate) struct RenewHome;
+
+impl Split<View> for RenewHome {
+    ghost use Rattle.pt_directory.specs.Rule.{renewed_home, later_homes};
+
+    ghost left = { later_homes };
+
+    ghost right = { renewed_home };
 }
 
 /// The load that joins two seats.

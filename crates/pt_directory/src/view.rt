@@ -45,4 +45,6 @@ pub struct View {
     pub deaths: LinkedList<Death>,
     /// The death whose stamp it has told and whose version it has not, if there is one.
     pub begun: LinkedList<Death>,
+    /// The deaths that it had told when it was marked last.
+    pub marked: LinkedList<Death>,
 }

@@ -129,7 +129,7 @@ module _ (n : ℕ) where
           let same = rest a.0 b.0 x y a.1 b.1 shard slot in
           omega (arith, same, a.2, b.2)
 
-  at_get : (xs : List (Pid × ℕ)) (k : ℕ) (x : Pid × ℕ) → k < length xs → get_elem? xs k ≡ some (get_or xs k x)
+  pub at_get : (xs : List (Pid × ℕ)) (k : ℕ) (x : Pid × ℕ) → k < length xs → get_elem? xs k ≡ some (get_or xs k x)
   at_get [] k x h = absurd (omega arith)
   at_get (y ∷ xs) zero x h = refl
   at_get (y ∷ xs) (suc k) x h = at_get xs k x (omega arith)

@@ -15,3 +15,5 @@ pub mod Leftless
 pub mod Weighing
 pub mod Receiving
 pub mod Bounding
+pub mod Ready
+pub mod Keeping

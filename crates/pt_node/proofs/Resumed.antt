@@ -28,12 +28,13 @@ use Rattle.pt_gathered.specs.Pasts.{IsBeginningOf, GoesOnFrom}
 use Rattle.pt_gathered.specs.Quiet.{ends_of}
 use Rattle.pt_gathered.specs.Settling.{NothingLeft}
 use Rattle.pt_gathered.specs.Beginning.{IsBeginning}
-use Rattle.pt_desk.specs.Sight.{WasInTurn, deaths_before}
+use Rattle.pt_desk.specs.Sight.{WasInTurn, AreToldBefore}
 use Rattle.pt_desk.specs.DeskState.{DeskState, IsAccounted}
 use Rattle.pt_workers.specs.Desks.{AreAccounted, AreDesksOf, all_ends, all_shards}
 use Rattle.pt_node.specs.Resuming.{AreResumed}
-use Rattle.pt_node.specs.Seating.{Seated, AreFreshSeats, AreSeated, IsSeatOf, all_seats, seat_in}
+use Rattle.pt_node.specs.Seating.{Seated, AreFreshSeats, AreReady, AreSeated, IsSeatOf, all_seats, seat_in}
 use Rattle.pt_node.proofs.SeatsOf.{fresh_seat, seat_count, seated_each}
+use Rattle.pt_desk.proofs.Before.{deaths_before, told_before}
 use Rattle.pt_node.proofs.Wholes.{accounted_each}
 
 -- what is left behind of a process ---------------------------------------------------------------
@@ -61,7 +62,7 @@ pub ends_kept : (t : DeskTable) → latest_ends (all_forgotten t) ≡ latest_end
 ends_kept t = slots_kept t.slots
 
 -- the versions of a slot of one that goes on
-turns_again : (n : ℕ) (s : ShardState) → ((p : Pid) → is_unborn (phase_of s p) ≡ false → IsInTurn s p) → (p : Pid) → is_unborn (at_start (start_after s.start (past s)) p) ≡ false
+pub turns_again : (n : ℕ) (s : ShardState) → ((p : Pid) → is_unborn (phase_of s p) ≡ false → IsInTurn s p) → (p : Pid) → is_unborn (at_start (start_after s.start (past s)) p) ≡ false
     → WasInTurn (start_after s.start (past s)) s.config.slots p
 turns_again n s turns p born =
     let was : is_unborn (phase_of s p) ≡ false = sym (outcome_unborn (phase_of s p)) ∙ sym (ap is_unborn (leaves_each s.start (past s) p)) ∙ born in
@@ -90,9 +91,10 @@ resumed_seat n k s t directory dead number desks slots turns told anew given =
         words = tt;
         told = anew s.start s.number (past s) told;
         unread = refl;
+        old = subst (AreToldBefore (start_after s.start (past s)) n s.number) (sym deaths) (told_before (start_after s.start (past s)) n s.number (all_forgotten t) (anew s.start s.number (past s) told));
         turns = turns_again n s turns;
       },
-      λ i. record { name = directory.name; homes = home i ∷ []; reads = []; deaths = deaths i },
+      λ i. record { name = directory.name; homes = home i ∷ []; reads = []; deaths = given_deaths k dead; marked = given_deaths k dead },
     )
 
 nil_parts : {A : Type 0} (xs ys : List A) → xs ++ ys ≡ [] → (xs ≡ []) × (ys ≡ [])
@@ -175,7 +177,19 @@ module _ (g : GatheredState) (whole : IsGathered g) (n : ℕ) where
         (resumed_seat n k (get_or g.shards k s) (get_or tables k t) looked.directory (ends_of n tables) (whole.shards k s in_shards).number
         (looked.desks ∙ desks_of k s in_shards) (looked.slots ∙ slots_of k s in_shards) (turns k s in_shards) (told k s t in_shards) (anew k t in_tables) (given k t in_tables)))))
 
-    -- the desks that are made of all these
+    -- so they are ready
+    pub fresh_ready : AreReady (map (restarted n) g.shards) (map all_forgotten tables) seats
+    fresh_ready = record {
+      directory = looked.directory;
+      count = seat_count (record g.config { start = n }) (ends_of n tables) seats looked ∙ sym (shard_count ∙ whole.desks);
+      directories = λ k p h. ap (λ (z : Seated). z.0) (fresh_seat (record g.config { start = n }) (ends_of n tables) seats looked k p (omega (arith, h, seat_count (record g.config { start = n }) (ends_of n tables) seats looked)));
+      unread = λ k p h. ap (λ (z : Seated). z.1.reads) (fresh_seat (record g.config { start = n }) (ends_of n tables) seats looked k p (omega (arith, h, seat_count (record g.config { start = n }) (ends_of n tables) seats looked)));
+      seated = resumed_seated;
+    }
+
+  -- the desks that are made of seats that are ready ---------------------------------------------
+
+  module _ (tables : List DeskTable) (seats : List Seated) (ready : AreReady (map (restarted n) g.shards) tables seats) where
     module _ (some : 0 < length g.shards) (begins : IsBeginning n (start_of (map (restarted n) g.shards)))
         (after : (past : Past) (merged : List Stamped) → GoesOnFrom past g → IsMerge (journals g) merged → IsBeginningOf (events merged ++ past) n (start_of (map (restarted n) g.shards)))
         (pairs : List (OutEnds × InEnds)) (pair_count : length pairs ≡ g.config.desks) (node : IsNode (map places pairs))
@@ -188,10 +202,11 @@ module _ (g : GatheredState) (whole : IsGathered g) (n : ℕ) where
       shard_is d x h =
           sym (get_or-map (λ (d : DeskState). d.shard) desks d x x.shard h) ∙ ap (λ z. get_or z d x.shard) shards_are ∙ restarted_at d x.shard (omega (arith, h, desk_count, whole.desks))
 
-      seat_is : (d : ℕ) (x : DeskState) → d < length desks → seat_in (get_or desks d x) ≡ (looked.directory, reopened_seat looked.directory.name (ends_of n tables) d)
-      seat_is d x h =
-          sym (get_or-map seat_in desks d x (seat_in x) h) ∙ ap (λ z. get_or z d (seat_in x)) seats_are
-          ∙ fresh_seat (record g.config { start = n }) (ends_of n tables) seats looked d (seat_in x) (omega (arith, h, desk_count))
+      seat_is : (d : ℕ) (x : DeskState) → d < length desks → seat_in (get_or desks d x) ≡ get_or seats d (seat_in x)
+      seat_is d x h = sym (get_or-map seat_in desks d x (seat_in x) h) ∙ ap (λ z. get_or z d (seat_in x)) seats_are
+
+      in_seats : (d : ℕ) → d < length desks → d < length seats
+      in_seats d h = omega (arith, h, desk_count, ready.count, shard_count, whole.desks)
 
       resumed_node : AreDesksOf (record g.config { start = n }) desks
       resumed_node = record {
@@ -199,8 +214,8 @@ module _ (g : GatheredState) (whole : IsGathered g) (n : ℕ) where
         count = desk_count;
         node = subst IsNode (sym (sym (map-map places (λ (d : DeskState). (d.outs, d.ins)) desks) ∙ ap (map places) ends_are)) node;
         configs = λ d x h. ap (λ (s : ShardState). s.config) (shard_is d x h) ∙ ap (λ (c : Config). record c { start = n }) (whole.shards d x.shard (omega (arith, h, desk_count, whole.desks))).config_is;
-        directory = looked.directory;
-        directories = λ d x h. ap (λ (p : Seated). p.0) (seat_is d x h);
+        directory = ready.directory;
+        directories = λ d x h. ap (λ (p : Seated). p.0) (seat_is d x h) ∙ ready.directories d (seat_in x) (in_seats d h);
         begun = subst (λ s. IsBeginning n (start_of s)) (sym shards_are) begins;
       }
 
@@ -211,7 +226,7 @@ module _ (g : GatheredState) (whole : IsGathered g) (n : ℕ) where
         ends = λ d x h.
             subst (IsNew g.config.desks g.config.lane) (sym (ap (λ z. get_or z d (x.outs, x.ins)) ends_are) ∙ get_or-map (λ (d : DeskState). (d.outs, d.ins)) desks d x (x.outs, x.ins) h)
             (new d (x.outs, x.ins) (omega (arith, h, desk_count)));
-        unread = λ d x h. ap (λ (p : Seated). p.1.reads) (seat_is d x h);
+        unread = λ d x h. ap (λ (p : Seated). p.1.reads) (seat_is d x h) ∙ ready.unread d (seat_in x) (in_seats d h);
         whole = λ past merged from m. record {
           config = record g.config { start = n };
           node = resumed_node;

@@ -45,7 +45,7 @@ of_one name (d ∷ ds) h = let e = h 0 d (omega arith) in ((e, e), of_one name d
 
 -- a new node's seats ------------------------------------------------------------------
 
-at_from : {X : Type 0} (f : ℕ → X) (a n k : ℕ) (x : X) → k < n → get_or (map f (up_from a n)) k x ≡ f (a + k)
+pub at_from : {X : Type 0} (f : ℕ → X) (a n k : ℕ) (x : X) → k < n → get_or (map f (up_from a n)) k x ≡ f (a + k)
 at_from f a zero k x h = absurd (omega arith)
 at_from f a (suc n) zero x h = let e : a ≡ a + 0 = omega arith in ap f e
 at_from f a (suc n) (suc k) x h = let e : suc a + k ≡ a + suc k = omega arith in at_from f (suc a) n k x (omega arith) ∙ ap f e
@@ -60,6 +60,9 @@ pub beside_directory : (ended : List (Pid × ℕ)) (d e : DirectoryState) (seats
 beside_directory ended d e seats n same are =
     let beside : SeatState → Seated = λ s. (d, s) in
     ap (map beside) (are ∙ ap (λ (z : DirectoryState). map (reopened_seat z.name ended) (up_from 0 n)) (sym same)) ∙ map-map beside (reopened_seat d.name ended) (up_from 0 n)
+
+pub late_beside : (d : DirectoryState) (f : ℕ → SeatState) (seats : List SeatState) (n : ℕ) → seats ≡ map f (up_from 0 n) → map {B = Seated} (λ s. (d, s)) seats ≡ map {B = Seated} (λ k. (d, f k)) (up_from 0 n)
+late_beside d f seats n are = let beside : SeatState → Seated = λ s. (d, s) in ap (map beside) are ∙ map-map beside f (up_from 0 n)
 
 module _ (config : Config) (ended : List (Pid × ℕ)) (seats : List Seated) (are : AreFreshSeats config ended seats) where
   pub seat_count : length seats ≡ config.desks

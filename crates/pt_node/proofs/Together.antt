@@ -1,5 +1,5 @@
 -- The accounts of desks whose lanes were brought together.
-use Rattle.std.proofs.Common.{◌≡◌, ℕ, ◌+◌, ◌*◌, ◌<◌, ◌≤◌, List, [], ◌∷◌, ◌++◌, length, map, get_or, Option, Some, None, true, refl, sym, ap, ◌∙◌, subst, arith, ⊎_elim}
+use Rattle.std.proofs.Common.{◌≡◌, ℕ, suc, ◌+◌, ◌*◌, ◌<◌, ◌≤◌, List, [], ◌∷◌, ◌++◌, length, map, get_or, Option, Some, None, true, refl, sym, ap, ◌∙◌, subst, arith, ⊎_elim}
 use Rattle.std.proofs.lemmas.Simd.{map-map}
 use Rattle.std.proofs.lemmas.List.{get_or-map, get_or_past, length-map}
 use Rattle.std.proofs.lemmas.Bool.{cases_lt}
@@ -12,7 +12,7 @@ use Rattle.pt_events.specs.declared.event.Event.{Event}
 use Rattle.pt_events.specs.declared.event.Event.TheVariants.{Refused}
 use Rattle.pt_events.specs.declared.event.Stamped.{Stamped}
 use Rattle.pt_events.specs.History.{Past, is_ended, life}
-use Rattle.pt_events.specs.Journal.{events, Agrees, posts, gots}
+use Rattle.pt_events.specs.Journal.{events, clock, Agrees, posts, gots}
 use Rattle.pt_events.specs.Refusals.{stamped_below, IsTrueRefusal, AllTrueRefusals, RefusalsAreTrue}
 use Rattle.pt_carrier.specs.Ends.{OutEnds, InEnds}
 use Rattle.pt_carrier.specs.Node.{all_posted, all_collected, entry}
@@ -31,14 +31,33 @@ use Rattle.pt_desk.specs.Sight.{HasEndOf, IsSeen, AllSeen}
 use Rattle.pt_desk.specs.DeskState.{DeskState}
 use Rattle.pt_workers.specs.Desks.{AreWhole, all_ends, all_shards}
 use Rattle.pt_node.specs.Gathering.{Gathers, HasJournalsOf, ReadsAreTrue}
-use Rattle.pt_node.specs.Seating.{all_seats, AreAudited}
-use Rattle.pt_node.proofs.TrueReads.{number_at, true_read}
+use Rattle.atomic_table.specs.Seated.{TableId}
+use Rattle.pt_directory.specs.declared.view.Death.{Death}
+use Rattle.pt_directory.specs.Views.{up_from}
+use Rattle.pt_directory.specs.Seats.{DirectoryState, SeatState}
+use Rattle.pt_desk.proofs.Before.{old_ends}
+use Rattle.pt_desk.proofs.Deaths.{told}
+use Rattle.pt_events.proofs.Refusals.{ended_below}
+use Rattle.pt_node.specs.Keeping.{KeptState, IsEndOn, IsKeptOf}
+use Rattle.pt_node.specs.Seating.{Seated, all_seats, seat_in, together, AreAudited}
+use Rattle.pt_node.proofs.TrueReads.{death_from, number_at, true_read}
 
 -- one lane: what was posted is what was collected and what the lane has
 pub lane_agrees : (sent posted box collected lane got held : List Letter) → sent ≡ posted ++ box → posted ≡ collected ++ lane → Agrees collected got held → Agrees sent got (held ++ lane ++ box)
 lane_agrees sent posted box collected lane got held s p a =
     subst (λ z. Agrees z got (held ++ lane ++ box)) (sym (s ∙ ap (λ z. z ++ box) p))
     (Agrees-posted (collected ++ lane) got (held ++ lane) box (Agrees-posted collected got held lane a))
+
+name_together : (name : TableId) (desks : List DeskState) → ((d : ℕ) (x : DeskState) → d < length desks → (get_or desks d x).sight.directory.name ≡ name) → (together name (all_seats desks)).name ≡ name
+name_together name [] h = refl
+name_together name (y ∷ ys) h = h 0 y (omega arith)
+
+homes_together : (name : TableId) (desks : List DeskState) (m : ℕ) → ((d : ℕ) (x : DeskState) → d < length desks → (get_or desks d x).shard.number ≡ m + d) → (together name (all_seats desks)).homes ≡ up_from m (length desks)
+homes_together name [] m h = refl
+homes_together name (y ∷ ys) m h =
+    let first : y.shard.number ≡ m = (let e = h 0 y (omega arith) in omega arith) in
+    let rest = homes_together name ys (suc m) (λ d x l. let e = h (suc d) x (omega (arith, l)) in omega arith) in
+    λ i. first i ∷ rest i
 
 module _ (desks : List DeskState) (g : GatheredState) (whole : AreWhole desks) (gathers : Gathers desks g) (audited : AreAudited (all_seats desks)) where
   count : length g.shards ≡ length desks
@@ -164,6 +183,55 @@ module _ (desks : List DeskState) (g : GatheredState) (whole : AreWhole desks) (
     refusals = refusals_at;
     begun = subst (λ s. IsBeginning g.config.start (start_of s)) (sym gathers.shards) gathers.node.begun;
   }
+
+  -- what is kept of their directory is that of the gathered node
+  module _ (k : KeptState) (first : (p : Seated) → (get_or (all_seats desks) 0 p).0 ≡ k.directory) (seat_is : k.seat ≡ together k.directory.name (all_seats desks)) where
+    one : DeskState
+    one = some_desk desks 0 gathers.node.some
+
+    directory_is : (get_or desks 0 one).sight.directory ≡ k.directory
+    directory_is = ap (λ (z : Seated). z.0) (sym (get_or-map seat_in desks 0 one (seat_in one) gathers.node.some)) ∙ first (seat_in one)
+
+    all_named : (d : ℕ) (x : DeskState) → d < length desks → (get_or desks d x).sight.directory.name ≡ k.directory.name
+    all_named d x h = ap (λ (z : DirectoryState). z.name) (gathers.node.directories d x h ∙ sym (gathers.node.directories 0 one gathers.node.some) ∙ directory_is)
+
+    told_on : (j : ℕ) (z : Death) → get_elem? k.seat.deaths j ≡ some z → IsEndOn g z
+    told_on j z at =
+        let from = death_from k.directory.name desks one j z (subst (λ (s : SeatState). get_elem? s.deaths j ≡ some z) seat_is at) in
+        let e = from.0 in
+        let s = (get_or desks e one).shard in
+        let x = get_or desks e one in
+        let w = whole e one from.2 in
+        let t = told x.sight.told s.start s.config.slots s.config.start s.config.top_version s.number (old_ends s x.sight w.fit w.seated) s.journal w.fit.local from.1 z from.3 in
+        let home : e ≡ z.shard = sym (number_at g.config desks gathers.node whole e one from.2) ∙ sym t.shard in
+        let p : Pid = record { shard = z.shard; slot = z.slot; version = z.version } in
+        let gone : is_ended (life s.start (events s.journal) p) ≡ true = ended_below s.start p s.config.start s.config.top_version s.number (z.stamp + 1) s.journal w.fit.local (t.ended (z.stamp + 1) (omega arith)) in
+        let within : z.shard < length desks = subst (λ i. i < length desks) home from.2 in
+        let moved : is_ended (life (get_or desks z.shard one).shard.start (events (get_or desks z.shard one).shard.journal) p) ≡ true = subst (λ i. is_ended (life (get_or desks i one).shard.start (events (get_or desks i one).shard.journal) p) ≡ true) home gone in
+        let low : s.config.start ≡ g.config.start = ap (λ (c : Config). c.start) (gathers.node.configs e one from.2) in
+        record {
+          shard = omega (arith, within, count);
+          stamp =
+              subst (λ l. z.stamp ≤ clock g.config.start l) (sym (journal_of z.shard one within))
+              (subst (λ i. z.stamp ≤ clock g.config.start (get_or desks i one).shard.journal) home (subst (λ m. z.stamp ≤ clock m s.journal) low t.stamp));
+          ended =
+              subst (λ l. is_ended (life (begins g) (events l) p) ≡ true) (sym (journal_of z.shard one within))
+              (ap is_ended (own_life p within one (events (get_or desks z.shard one).shard.journal)) ∙ moved);
+        }
+
+    pub kept_of : IsKeptOf g k
+    kept_of =
+        let w = whole 0 one gathers.node.some in
+        let config_is = gathers.node.configs 0 one gathers.node.some in
+        record {
+          desks = ap (λ (z : DirectoryState). z.desks) (sym directory_is) ∙ w.seated.desks ∙ ap (λ (c : Config). c.desks) config_is;
+          slots = ap (λ (z : DirectoryState). z.slots) (sym directory_is) ∙ w.seated.slots ∙ ap (λ (c : Config). c.slots) config_is;
+          name = ap (λ (s : SeatState). s.name) seat_is ∙ name_together k.directory.name desks all_named;
+          homes =
+              ap (λ (s : SeatState). s.homes) seat_is
+              ∙ homes_together k.directory.name desks 0 (λ d x h. let e : d ≡ 0 + d = omega arith in number_at g.config desks gathers.node whole d x h ∙ e) ∙ ap (up_from 0) gathers.node.count;
+          ends = told_on;
+        }
 
 pub same_journals : (desks : List DeskState) (g : GatheredState) → g.shards ≡ all_shards desks → HasJournalsOf desks g
 same_journals desks g same = (

@@ -17,7 +17,7 @@ use Rattle.pt_directory.specs.Views.{deaths_at, Covers}
 use Rattle.pt_directory.proofs.Lists.{at_append, at_behind, at_nothing, among, from_among, true-is_at}
 use Rattle.pt_signal.specs.declared.config.Config.{Config}
 use Rattle.pt_shard.specs.ShardState.{ShardState}
-use Rattle.pt_desk.specs.Sight.{deaths_before, deaths_in, HasEndOf}
+use Rattle.pt_desk.specs.Sight.{deaths_in, HasEndOf}
 use Rattle.pt_desk.specs.DeskState.{DeskState, place}
 use Rattle.pt_desk.proofs.Deaths.{AreOldEnds, told, ended_before}
 use Rattle.pt_desk.proofs.Before.{old_ends}
@@ -26,7 +26,7 @@ use Rattle.pt_node.specs.Seating.{all_seats, together, AreAudited}
 
 -- the ends that a desk's seat was told of
 abbrev pub deaths_of : DeskState → List Death
-deaths_of d = deaths_in (deaths_before d.sight.before d.shard.config.start) d.shard.start d.shard.journal
+deaths_of d = deaths_in d.sight.told d.shard.start d.shard.journal
 
 -- what the seats know together --------------------------------------------------------
 
@@ -48,7 +48,7 @@ module _ (name : TableId) where
   death_in (y ∷ ys) zero x k z h at = (k, at_longer (deaths_of y) (together name (all_seats ys)).deaths k z at)
   death_in (y ∷ ys) (suc d) x k z h at = let t = death_in ys d x k z (omega arith) at in at_behind (deaths_of y) (together name (all_seats ys)).deaths t.0 z t.1
 
-  death_from : (desks : List DeskState) (x : DeskState) (m : ℕ) (z : Death) → get_elem? (together name (all_seats desks)).deaths m ≡ some z
+  pub death_from : (desks : List DeskState) (x : DeskState) (m : ℕ) (z : Death) → get_elem? (together name (all_seats desks)).deaths m ≡ some z
       → (d : ℕ) × (k : ℕ) × (d < length desks) × (get_elem? (deaths_of (get_or desks d x)) k ≡ some z)
   death_from [] x m z at = absurd (at_nothing z m at)
   death_from (y ∷ ys) x m z at =
@@ -73,7 +73,7 @@ module _ (config : Config) (desks : List DeskState) (node : AreDesksOf config de
   shard_of d x = (get_or desks d x).shard
 
   abbrev known_of : ℕ → DeskState → List Death
-  known_of d x = deaths_before (get_or desks d x).sight.before (shard_of d x).config.start
+  known_of d x = (get_or desks d x).sight.told
 
   ends_of : (d : ℕ) (x : DeskState) → d < length desks → AreOldEnds (known_of d x) (shard_of d x).start (shard_of d x).config.slots (shard_of d x).config.start (shard_of d x).number
   ends_of d x h = old_ends (shard_of d x) (get_or desks d x).sight (whole d x h).fit (whole d x h).seated

@@ -6,3 +6,4 @@ pub mod Seating
 pub mod Node
 pub mod Lending
 pub mod Load
+pub mod Keeping

@@ -1,5 +1,5 @@
 -- The seats of the desks, while they are made, taken out and brought together. No public clause cites this module.
-use Rattle.std.specs.Prelude.{◌≡◌, ℕ, List, [], ◌∷◌, map, ⊤}
+use Rattle.std.specs.Prelude.{◌≡◌, ℕ, ◌<◌, List, [], ◌∷◌, length, map, slice_index_or, ⊤}
 use Rattle.atomic_table.specs.Seated.{TableId}
 use Rattle.pt_directory.specs.Views.{up_from}
 use Rattle.pt_directory.specs.Seats.{DirectoryState, SeatState, reopened_seat, join_seats, IsAudited}
@@ -16,7 +16,7 @@ Seated = DirectoryState × SeatState
 
 -- with the table of what was before
 abbrev pub sight_of : Seated → DeskTable → Sight
-sight_of p t = record { directory = p.0; reads = p.1.reads; before = t }
+sight_of p t = record { directory = p.0; reads = p.1.reads; before = t; told = p.1.marked }
 
 abbrev pub seat_in : DeskState → Seated
 seat_in d = (d.sight.directory, seat_of d.shard d.sight)
@@ -51,8 +51,16 @@ AreOf name (p ∷ seats) = ((p.0.name ≡ name) × (p.1.name ≡ name)) × AreOf
 
 -- what all these know
 abbrev pub together : TableId → List Seated → SeatState
-together name [] = record { name = name; homes = []; reads = []; deaths = [] }
+together name [] = record { name = name; homes = []; reads = []; deaths = []; marked = [] }
 together name (p ∷ seats) = join_seats p.1 (together name seats)
+
+-- as many seats of one directory, each of which is that of the shard and the table at its place and has read nothing
+pub record AreReady (shards : List ShardState) (tables : List DeskTable) (seats : List Seated) : Type 0 where
+  pub directory : DirectoryState
+  pub count : length seats ≡ length shards
+  pub directories : (k : ℕ) (p : Seated) → k < length seats → (slice_index_or seats k p).0 ≡ directory
+  pub unread : (k : ℕ) (p : Seated) → k < length seats → (slice_index_or seats k p).1.reads ≡ []
+  pub seated : AreSeated shards seats tables
 
 -- they were joined and audited
 abbrev pub AreAudited : List Seated → Type 0

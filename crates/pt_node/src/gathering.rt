@@ -7,10 +7,11 @@ ghost use Rattle.pt_carrier.specs.declared.reunion.Cause.{Cause};
 ghost use Rattle.pt_gathered.specs.Lawful.{LanesKeep, KeepsHeadline, IsLegalNode, AnswersHold};
 ghost use Rattle.pt_workers.specs.Desks.{AreDesks, desk_kept};
 ghost use Rattle.pt_node.specs.Gathering.{Gathers, HasJournalsOf, ReadsAreTrue};
+ghost use Rattle.pt_node.specs.Keeping.{IsKeptOf};
 ghost use Rattle.pt_node.specs.Pasts.{GathersPast};
 
 use crate::making::{look, make_whole, take_apart};
-use crate::seating::{Seated, audit_all};
+use crate::seating::{Kept, Seated, audit_all};
 use pt_accounts::DeskLives;
 use pt_carrier::{Cause, Ins, Outs, reunite};
 use pt_desk::Desk;
@@ -139,6 +140,27 @@ pub fn gather(alloc: Global, desks: Vec<Desk>) -> Result<Gathered, DesksBack>
     ensures past { IfOk result (λ g. GathersPast desks.items g) }
     ensures back { IfErr result (λ b. map desk_kept b ≡ map desk_kept desks.items) }
 {
+    match gather_keeping(alloc, desks) {
+        Ok((gathered, _kept)) => Ok(gathered),
+        Err(back) => Err(back),
+    }
+}
+
+/// Brings the desks of a node together, as [`gather`] does, and returns what is kept of their directory too. So the node
+/// that was settled can be resumed by [`resume_kept`](crate::resume_kept), which makes no directory anew.
+pub fn gather_keeping(alloc: Global, desks: Vec<Desk>) -> Result<(Gathered, Kept), DesksBack>
+    requires { AreDesks desks.items }
+    ensures gathers { IfOk result (λ r. Gathers desks.items r.0) }
+    ensures journals { IfOk result (λ r. HasJournalsOf desks.items r.0) }
+    ensures lanes { IfOk result (λ r. LanesKeep r.0) }
+    ensures headline { IfOk result (λ r. KeepsHeadline r.0) }
+    ensures legal { IfOk result (λ r. IsLegalNode r.0) }
+    ensures answers { IfOk result (λ r. AnswersHold r.0) }
+    ensures reads { IfOk result (λ r. ReadsAreTrue desks.items r.0) }
+    ensures past { IfOk result (λ r. GathersPast desks.items r.0) }
+    ensures kept { IfOk result (λ r. IsKeptOf r.0 r.1) }
+    ensures back { IfErr result (λ b. map desk_kept b ≡ map desk_kept desks.items) }
+{
     look(desks.as_slice());
     let mut desks = desks;
     let config = desks[0].config();
@@ -157,10 +179,10 @@ pub fn gather(alloc: Global, desks: Vec<Desk>) -> Result<Gathered, DesksBack>
         Ok(left) => {
             desks.destroy_empty();
             fill(left.lanes, &mut lanes);
-            audit_all(seats);
+            let kept = audit_all(seats);
             let gathered = Gathered::of(alloc, config, shards, lanes, tables);
             laws_of(&gathered);
-            Ok(gathered)
+            Ok((gathered, kept))
         }
         Err(back) => {
             make_whole(back.into_ends(), shards, seats, tables, &mut desks);

@@ -52,7 +52,9 @@
 //! for this one, over that start. A node may be resumed any number of times.
 //!
 //! [`Gathered::settle_unlisted`] and [`resume_settled`] do the same without a list of all pids that ever were. So a
-//! pause costs what happened since the last one, the live processes and the slots.
+//! pause costs what happened since the last one, the live processes and the slots. [`gather_keeping`] and
+//! [`resume_kept`] keep the directory of exited processes too, so that nothing is made anew for slots that were never
+//! used.
 //!
 //! Tests: `checks/rows`, `checks/tried/test_calls/nodes.rt.txt`, `checks/tried/test_calls/opening.rt.txt` and
 //! `crates/test_calls/src/nodes.rt`.
@@ -63,6 +65,8 @@
 //! - **Gathering.** `gather` returns the node with the journals as they were, or gives all desks back as they were.
 //! - **Resuming.** `resume` continues from a quiet node with empty journals, or gives it back as it was. Pids, versions
 //!   and clocks continue. `resume_settled` does the same from a settled node without a list of its pids. (`AreResumed`)
+//! - **Keeping.** `resume_kept` does what `resume_settled` does, in the directory that was kept when the node was
+//!   gathered. No exit is reported anew but those that settling brought. (`IsKeptFor`)
 //! - **The node's calls.** Each call of `Node` does what the call of the pid's desk does, and the other desks stay. It
 //!   has no precondition. (`CallsAt`, `CallsTo`)
 //! - **Until still.** `turn_until_still` terminates, and handles no more letters than the load before. (`IsWithinLoad`)
@@ -79,7 +83,7 @@ mod opening;
 mod resuming;
 mod seating;
 
-pub use gathering::{DesksBack, abandon, gather};
+pub use gathering::{DesksBack, abandon, gather, gather_keeping};
 pub use node::{Node, NodeBack};
 pub use node_fault::NodeFault;
 pub use opening::open;
@@ -96,4 +100,5 @@ pub use pt_workers::{
     FreeGate, Gate, Ran, Rested, RunFault, Standing, Stopped, Takes, Task, Work, assign,
     next_woken, release, run, run_single, take_each,
 };
-pub use resuming::{Resting, RestingSettled, resume, resume_settled};
+pub use resuming::{Resting, RestingSettled, resume, resume_kept, resume_settled};
+pub use seating::Kept;

@@ -16,6 +16,7 @@ ghost use Rattle.pt_gathered.specs.Settling.{NothingLeft};
 ghost use Rattle.pt_desk.specs.Reaching.{Reaches, has_link_to_make, has_monitor_to_make};
 ghost use Rattle.pt_workers.specs.Desks.{AreDesks, AreDesksOf, desk_kept};
 ghost use Rattle.pt_node.specs.Gathering.{Gathers, HasJournalsOf, ReadsAreTrue};
+ghost use Rattle.pt_node.specs.Keeping.{IsKeptFor, IsKeptOf};
 ghost use Rattle.pt_node.specs.Pasts.{GathersPast};
 ghost use Rattle.pt_workers.specs.NodeRunning.{RunsNode};
 ghost use Rattle.pt_workers.specs.Running.{AllWork, InRounds, begins_by};
@@ -27,12 +28,13 @@ ghost use Rattle.pt_node.specs.declared.node_fault.NodeFault.TheVariants.{NoDesk
 ghost use Rattle.pt_node.specs.Resuming.{Resumes};
 ghost use Rattle.pt_workers.specs.Stillness.{AllDesksGoOn, AreStill, RunsRounds, StoppedAt, count_events};
 
-use crate::gathering::{abandon, gather};
+use crate::gathering::{abandon, gather_keeping};
 use crate::making::look;
 use crate::node_fault::NodeFault;
 use crate::node_running::{run_desks, run_desks_single};
 use crate::opening::open;
-use crate::resuming::{Resting, RestingSettled, resume, resume_settled};
+use crate::resuming::{Resting, RestingSettled, resume, resume_kept, resume_settled};
+use crate::seating::Kept;
 use pt_desk::{Desk, Turned};
 use pt_gathered::{Gathered, Quiet, Settled};
 use pt_process::Process;
@@ -130,6 +132,19 @@ impl Node {
         ensures resting { IfErr result (λ back. back.settled ≡ settled) }
     {
         match resume_settled(alloc, settled) {
+            Ok(desks) => Ok(Node { alloc, desks }),
+            Err(back) => Err(back),
+        }
+    }
+
+    /// Continues from a settled node in the directory that was kept when it was gathered, as
+    /// [`resume_kept`](crate::resume_kept) does. Fails only if there is no memory.
+    pub fn resume_kept(alloc: Global, settled: Settled, kept: Kept) -> Result<Node, RestingSettled>
+        requires kept { IsKeptFor settled.gathered kept }
+        ensures resumes { IfOk result (λ desks. Resumes settled.gathered desks) }
+        ensures resting { IfErr result (λ back. back.settled ≡ settled) }
+    {
+        match resume_kept(alloc, settled, kept) {
             Ok(desks) => Ok(Node { alloc, desks }),
             Err(back) => Err(back),
         }
@@ -246,9 +261,31 @@ impl Node {
         ensures still { AreStill self → IfOk result (λ g. NothingLeft g) }
         ensures back { IfErr result (λ b. map desk_kept b.node ≡ map desk_kept self) }
     {
+        match self.gather_keeping() {
+            Ok((gathered, _kept)) => Ok(gathered),
+            Err(back) => Err(back),
+        }
+    }
+
+    /// Brings the desks of the node together, as [`gather`](Node::gather) does, and returns what is kept of their
+    /// directory too, for [`resume_kept`](Node::resume_kept).
+    #[tactic(auto, using(pt_workers::proofs::StillDesks::kept_desks))]
+    pub fn gather_keeping(self) -> Result<(Gathered, Kept), NodeBack>
+        ensures gathers { IfOk result (λ r. Gathers self r.0) }
+        ensures journals { IfOk result (λ r. HasJournalsOf self r.0) }
+        ensures lanes { IfOk result (λ r. LanesKeep r.0) }
+        ensures headline { IfOk result (λ r. KeepsHeadline r.0) }
+        ensures legal { IfOk result (λ r. IsLegalNode r.0) }
+        ensures answers { IfOk result (λ r. AnswersHold r.0) }
+        ensures reads { IfOk result (λ r. ReadsAreTrue self r.0) }
+        ensures past { IfOk result (λ r. GathersPast self r.0) }
+        ensures kept { IfOk result (λ r. IsKeptOf r.0 r.1) }
+        ensures still { AreStill self → IfOk result (λ r. NothingLeft r.0) }
+        ensures back { IfErr result (λ b. map desk_kept b.node ≡ map desk_kept self) }
+    {
         let Node { alloc, desks } = self;
-        match gather(alloc, desks) {
-            Ok(gathered) => Ok(gathered),
+        match gather_keeping(alloc, desks) {
+            Ok(both) => Ok(both),
             Err(back) => Err(NodeBack {
                 node: Node {
                     alloc,

@@ -1,6 +1,6 @@
 //! Resuming a quiet node, or one that is settled and has no list of its processes.
 
-ghost use Rattle.std.specs.Prelude.{◌≡◌, ◌≤◌, [], length, map, IfErr, IfOk, vec_len};
+ghost use Rattle.std.specs.Prelude.{◌≡◌, ◌≤◌, List, [], length, map, IfErr, IfOk, vec_len};
 ghost use Rattle.std.specs.Arc.{arc_value};
 ghost use Rattle.std.specs.Vec.{vec_capacity};
 ghost use Rattle.pt_signal.specs.declared.config.TheConstants.{MAX_STAMP};
@@ -9,12 +9,13 @@ ghost use Rattle.pt_directory.specs.Seats.{AreEnded};
 ghost use Rattle.pt_shard.specs.Begun.{Every};
 ghost use Rattle.pt_shard.specs.Restart.{restarted};
 ghost use Rattle.pt_accounts.specs.DeskLives.{all_forgotten};
-ghost use Rattle.pt_gathered.specs.Quiet.{ends_of, latest_stamp};
-ghost use Rattle.pt_node.specs.Seating.{AreFreshSeats};
+ghost use Rattle.pt_gathered.specs.Quiet.{latest_stamp};
+ghost use Rattle.pt_node.specs.Seating.{Seated, AreFreshSeats, AreReady};
+ghost use Rattle.pt_node.specs.Keeping.{IsKeptFor};
 ghost use Rattle.pt_node.specs.Resuming.{AreNewPairs, AreResumed, Resumes};
 
 use crate::making::make_whole;
-use crate::seating::{Seated, fresh_seats};
+use crate::seating::{Kept, Seated, fresh_seats, kept_seats};
 use pt_accounts::DeskLives;
 use pt_carrier::{Ins, Outs};
 use pt_desk::Desk;
@@ -117,6 +118,56 @@ pub fn resume_settled(alloc: Global, settled: Settled) -> Result<Vec<Desk>, Rest
     }
 }
 
+/// Continues from a settled node as [`resume_settled`] does, in the directory that was kept when it was gathered. So time
+/// and memory grow with what happened since the desks were opened or resumed last and with the live processes, and the
+/// directory costs nothing for its slots.
+///
+/// Fails only if there is no memory: the settled node then comes back, as it was. What was kept is dropped, and
+/// `resume_settled` resumes the node.
+pub fn resume_kept(alloc: Global, settled: Settled, kept: Kept) -> Result<Vec<Desk>, RestingSettled>
+    requires kept { IsKeptFor settled.gathered kept }
+    ensures resumes { IfOk result (λ desks. Resumes settled.gathered desks.items) }
+    ensures resting { IfErr result (λ back. back.settled ≡ settled) }
+{
+    let latest = settled.clock();
+    match prepare_kept(alloc, &settled, latest, kept) {
+        Ok(room) => Ok(go_on(settled, latest, room)),
+        Err(_) => Err(RestingSettled { settled }),
+    }
+}
+
+/// Takes all memory that it needs to resume a settled node at this stamp, its latest, in the directory that was kept.
+fn prepare_kept(
+    alloc: Global,
+    settled: &Settled,
+    start: u64,
+    kept: Kept,
+) -> Result<Room, AllocError>
+    requires latest { start ≡ latest_stamp settled.now.gathered }
+    requires within { start ≤ MAX_STAMP }
+    requires kept { IsKeptFor settled.now.gathered kept }
+    ensures pairs { IfOk result (λ room. AreNewPairs settled.now.gathered.config.desks settled.now.gathered.config.lane
+        room.pairs.items) }
+    ensures seats { IfOk result
+        (λ room. AreReady (map (restarted start) settled.now.gathered.shards) (map all_forgotten settled.now.lives)
+        (map (λ p. (arc_value p.0, p.1)) room.seats.items)) }
+    ensures shards { IfOk result (λ room. (room.shards.items ≡ [])
+        × (length settled.now.gathered.shards ≤ vec_capacity room.shards)) }
+    ensures desks { IfOk result (λ room. (room.desks.items ≡ [])
+        × (length settled.now.gathered.shards ≤ vec_capacity room.desks)) }
+{
+    // read for the proof alone: whose processes the desks had, and where their clocks stand
+    settled.versions();
+    let _clock = settled.clock();
+    let config = Config {
+        start,
+        ..settled.config()
+    };
+    let late = settled.latest_ends(start)?;
+    let seats = kept_seats(alloc, settled.desks(), kept, late.as_slice())?;
+    take_rest(alloc, config, settled.desks(), seats)
+}
+
 /// Takes all memory that it needs to resume a quiet node at this stamp, its latest.
 fn prepare(alloc: Global, quiet: &Quiet, start: u64) -> Result<Room, AllocError>
     requires latest { start ≡ latest_stamp quiet.now.gathered }
@@ -124,7 +175,7 @@ fn prepare(alloc: Global, quiet: &Quiet, start: u64) -> Result<Room, AllocError>
     ensures pairs { IfOk result (λ room. AreNewPairs quiet.now.gathered.config.desks quiet.now.gathered.config.lane
         room.pairs.items) }
     ensures seats { IfOk result
-        (λ room. AreFreshSeats (record quiet.now.gathered.config { start = start }) (ends_of start quiet.now.lives)
+        (λ room. AreReady (map (restarted start) quiet.now.gathered.shards) (map all_forgotten quiet.now.lives)
         (map (λ p. (arc_value p.0, p.1)) room.seats.items)) }
     ensures shards { IfOk result (λ room. (room.shards.items ≡ [])
         × (length quiet.now.gathered.shards ≤ vec_capacity room.shards)) }
@@ -148,7 +199,7 @@ fn prepare_settled(alloc: Global, settled: &Settled, start: u64) -> Result<Room,
     ensures pairs { IfOk result (λ room. AreNewPairs settled.now.gathered.config.desks settled.now.gathered.config.lane
         room.pairs.items) }
     ensures seats { IfOk result
-        (λ room. AreFreshSeats (record settled.now.gathered.config { start = start }) (ends_of start settled.now.lives)
+        (λ room. AreReady (map (restarted start) settled.now.gathered.shards) (map all_forgotten settled.now.lives)
         (map (λ p. (arc_value p.0, p.1)) room.seats.items)) }
     ensures shards { IfOk result (λ room. (room.shards.items ≡ [])
         × (length settled.now.gathered.shards ≤ vec_capacity room.shards)) }
@@ -180,8 +231,25 @@ fn take_room(
     ensures shards { IfOk result (λ room. (room.shards.items ≡ []) × (desks ≤ vec_capacity room.shards)) }
     ensures desks { IfOk result (λ room. (room.desks.items ≡ []) × (desks ≤ vec_capacity room.desks)) }
 {
-    let count = usize::from(desks);
     let seats = fresh_seats(alloc, config, ended)?;
+    take_rest(alloc, config, desks, seats)
+}
+
+/// Takes the memory for so many desks of a node with these settings, beside their seats.
+fn take_rest(
+    alloc: Global,
+    config: Config,
+    desks: u8,
+    seats: Vec<Seated>,
+) -> Result<Room, AllocError>
+    requires range { IsInRange config }
+    ensures pairs { IfOk result (λ room. AreNewPairs config.desks config.lane room.pairs.items) }
+    ensures seats { IfOk result (λ room. ◌≡◌ {A = List Seated} (map (λ p. (arc_value p.0, p.1)) room.seats.items)
+        (map (λ p. (arc_value p.0, p.1)) seats.items)) }
+    ensures shards { IfOk result (λ room. (room.shards.items ≡ []) × (desks ≤ vec_capacity room.shards)) }
+    ensures desks { IfOk result (λ room. (room.desks.items ≡ []) × (desks ≤ vec_capacity room.desks)) }
+{
+    let count = usize::from(desks);
     let shards = Vec::with_capacity(alloc, count)?;
     let mut desks = Vec::with_capacity(alloc, count)?;
     let Ok(pairs) = pt_carrier::open(alloc, config.desks, config.lane) else {
@@ -201,7 +269,7 @@ fn go_on(settled: Settled, start: u64, room: Room) -> Vec<Desk>
     requires latest { start ≡ latest_stamp settled.gathered }
     requires within { start ≤ MAX_STAMP }
     requires pairs { AreNewPairs settled.gathered.config.desks settled.gathered.config.lane room.pairs.items }
-    requires seats { AreFreshSeats (record settled.gathered.config { start = start }) (ends_of start settled.lives)
+    requires seats { AreReady (map (restarted start) settled.gathered.shards) (map all_forgotten settled.lives)
         (map (λ p. (arc_value p.0, p.1)) room.seats.items) }
     requires shards { (room.shards.items ≡ []) × (length settled.gathered.shards ≤ vec_capacity room.shards) }
     requires desks { (room.desks.items ≡ []) × (length settled.gathered.shards ≤ vec_capacity room.desks) }

@@ -1,17 +1,38 @@
 //! The seats of a node's desks in the directory of exited processes.
 
-ghost use Rattle.std.specs.Prelude.{◌<◌, map, IfOk, vec_len};
+ghost use Rattle.std.specs.Prelude.{◌≡◌, ◌<◌, List, map, slice_index_or, IfOk, vec_len};
 ghost use Rattle.std.specs.Arc.{arc_value};
 ghost use Rattle.atomic_table.specs.Seated.{TableId};
-ghost use Rattle.pt_directory.specs.Seats.{AreEnded};
+ghost use Rattle.pt_directory.specs.Views.{up_from};
+ghost use Rattle.pt_directory.specs.Seats.{AreEnded, AreLate, late_seat};
 ghost use Rattle.pt_signal.specs.Settings.{IsInRange};
-ghost use Rattle.pt_node.specs.Seating.{AreFreshSeats, AreOf, AreAudited};
+ghost use Rattle.pt_node.specs.Seating.{Seated, AreFreshSeats, AreOf, AreAudited, together};
 
 use pt_directory::{Directory, Seat};
 use pt_shard::Config;
 use pt_signal::Pid;
 use std::alloc::{AllocError, Global};
+use std::marker::Model;
 use std::sync::Arc;
+
+/// What is kept of the directory of a node that was gathered, until the node is resumed: the directory itself, and what
+/// its desks knew together.
+///
+/// It takes the memory of the directory. It may be dropped: the node is then resumed with a new directory.
+#[derive(Drop)]
+pub struct Kept {
+    directory: Arc<Directory, Global>,
+    seat: Seat,
+}
+
+impl Model for Kept {
+    ghost use Rattle.std.specs.Arc.{arc_value};
+    ghost use Rattle.pt_node.specs.Keeping.{KeptState};
+
+    ghost Value = { KeptState };
+
+    ghost view = { λ k. record { directory = arc_value k.directory; seat = k.seat } };
+}
 
 /// A desk's seat, beside the directory of its node.
 pub(crate) type Seated = (Arc<Directory, Global>, Seat);
@@ -36,11 +57,38 @@ pub(crate) fn fresh_seats(
     Ok(seated)
 }
 
-/// Joins all seats, in order, and audits what they know together.
-pub(crate) fn audit_all(seats: Vec<Seated>)
+/// The seats of a node's desks, in order, made anew of what was kept of its directory. Of these pids those are reported
+/// to have exited that were not reported yet.
+pub(crate) fn kept_seats(
+    alloc: Global,
+    desks: u8,
+    kept: Kept,
+    ended: &[(Pid, u64)],
+) -> Result<Vec<Seated>, AllocError>
+    requires seat { (kept.seat.name ≡ kept.directory.name) × (kept.seat.homes ≡ up_from 0 kept.directory.desks) }
+    requires desks { desks ≡ kept.directory.desks }
+    requires ended { AreLate kept.directory kept.seat.deaths ended.now }
+    ensures { IfOk result (λ v. ◌≡◌ {A = List Seated} (map (λ p. (arc_value p.0, p.1)) v.items)
+        (map (λ n. (kept.directory, late_seat kept.directory.name kept.seat.deaths ended.now n)) (up_from 0 desks))) }
+{
+    let mut seated = Vec::with_capacity(alloc, usize::from(desks))?;
+    let Kept { directory, seat } = kept;
+    let mut seats = directory.go_on(alloc, seat, ended)?;
+    seats.reverse();
+    while let Some(seat) = seats.pop() {
+        seated.push_reserved((directory.clone()?, seat));
+    }
+    Ok(seated)
+}
+
+/// Joins all seats, in order, and audits what they know together, which it returns.
+pub(crate) fn audit_all(seats: Vec<Seated>) -> Kept
     requires some { 0 < vec_len seats }
     requires one { (name : TableId) × AreOf name (map (λ p. (arc_value p.0, p.1)) seats.items) }
-    ensures { AreAudited (map (λ p. (arc_value p.0, p.1)) seats.items) }
+    ensures audited { AreAudited (map (λ p. (arc_value p.0, p.1)) seats.items) }
+    ensures directory { (p : Seated) → (slice_index_or (map (λ p. (arc_value p.0, p.1)) seats.items) 0 p).0
+        ≡ result.directory }
+    ensures seat { result.seat ≡ together result.directory.name (map (λ p. (arc_value p.0, p.1)) seats.items) }
 {
     let mut seats = seats;
     let (directory, mut seat) = seats.remove(0);
@@ -49,4 +97,5 @@ pub(crate) fn audit_all(seats: Vec<Seated>)
         directory.join(&mut seat, other);
     }
     directory.audit(&mut seat);
+    Kept { directory, seat }
 }

@@ -1,20 +1,15 @@
 -- `go_on`: its clauses `accounted` and `seated`, and what its call of `make_whole` asks.
-use Rattle.std.proofs.Common.{◌≡◌, ℕ, ◌<◌, ◌≤◌, false, List, length, map, get_or, sym, ap, ◌∙◌, subst, arith}
+use Rattle.std.proofs.Common.{◌≡◌, ℕ, ◌≤◌, List, length, map, sym, ap, ◌∙◌, subst, arith}
 use Rattle.std.proofs.lemmas.List.{length-map}
 use Rattle.std.specs.Arc.{arc_value}
 use Rattle.pt_events.specs.Journal.{clock}
 use Rattle.pt_accounts.specs.DeskLives.{all_forgotten}
-use Rattle.pt_accounts.proofs.Forgetting.{begins_anew}
-use Rattle.pt_signal.specs.declared.pid.Pid.{Pid}
-use Rattle.pt_events.specs.History.{is_unborn}
-use Rattle.pt_shard.specs.ShardState.{ShardState, phase_of}
 use Rattle.pt_shard.specs.Restart.{restarted}
 use Rattle.pt_gathered.specs.Gathered.{journals}
 use Rattle.pt_workers.specs.Desks.{AreAccounted}
 use Rattle.pt_node.specs.Seating.{AreSeated, Seated}
 use Rattle.pt_workers.proofs.GoingOn.{written}
-use Rattle.pt_node.proofs.Prepared.{given_here}
-use Rattle.pt_node.proofs.Resumed.{resumed_accounted, resumed_desks, resumed_seated}
+use Rattle.pt_node.proofs.Resumed.{resumed_accounted, resumed_desks}
 use Rattle.pt_node.proofs.resuming.go_on.Goals as goal
 
 pub make_whole-requires-clause-accounted : goal.make_whole-requires-clause-accounted
@@ -30,8 +25,6 @@ make_whole-requires-clause-seated c =
     let g = c.args.settled.gathered in
     let n = c.args.start in
     let lives = c.args.settled.lives in
-    let told = c.versions.ensures in
-    let since = subst (λ k. (d : ℕ) (x : ShardState) → d < length g.shards → (p : Pid) → is_unborn (phase_of (get_or g.shards d x) p) ≡ false → 0 < k) (sym c.requires.latest) told.later in
     let seats : List Seated = map (λ p. (arc_value p.0, p.1)) c.args.room.seats.items in
     let are : c.restart_all.new.shards.items ≡ map (restarted n) g.shards = c.restart_all.ensures ∙ ap (map (restarted n)) c.into_parts-old.ensures.shards in
     let old = c.into_parts-old.result.2.items in
@@ -39,9 +32,7 @@ make_whole-requires-clause-seated c =
     let long : length c.forget_all.new.tables ≡ length old = ap length (c.forget_all.ensures ∙ ap (map all_forgotten) c.as_mut_slice.ensures.value) ∙ length-map old all_forgotten in
     let whole = written old c.forget_all.new.tables c.into_parts-old.result.2.len long (omega (arith, c.into_parts-old.result.2.ok.0)) ∙ forgot in
     subst (λ ts. AreSeated c.restart_all.new.shards.items seats ts) (sym whole)
-    (subst (λ s. AreSeated s seats (map all_forgotten lives)) (sym are)
-    (resumed_seated g told.gathered n lives told.count told.told told.turns (λ k t h. begins_anew (get_or lives k t))
-    (λ k t h. given_here g told.gathered n c.requires.within lives told.count told.told told.turns since k t h) seats c.requires.seats))
+    (subst (λ s. AreSeated s seats (map all_forgotten lives)) (sym are) c.requires.seats.seated)
 
 pub returns : goal.returns
 returns c =
@@ -49,12 +40,10 @@ returns c =
     let n = c.args.start in
     let lives = c.args.settled.lives in
     let told = c.versions.ensures in
-    let since = subst (λ k. (d : ℕ) (x : ShardState) → d < length g.shards → (p : Pid) → is_unborn (phase_of (get_or g.shards d x) p) ≡ false → 0 < k) (sym c.requires.latest) told.later in
     let seats : List Seated = map (λ p. (arc_value p.0, p.1)) c.args.room.seats.items in
     let are : c.restart_all.new.shards.items ≡ map (restarted n) g.shards = c.restart_all.ensures ∙ ap (map (restarted n)) c.into_parts-old.ensures.shards in
     let pairs = c.requires.pairs in
     let above = subst (λ k. (d : ℕ) → clock g.config.start (journals g d) ≤ k) (c.clock-clock.ensures.latest ∙ sym c.requires.latest) c.clock-clock.ensures.journals in
-    resumed_desks g told.gathered n lives told.count told.told told.turns (λ k t h. begins_anew (get_or lives k t))
-    (λ k t h. given_here g told.gathered n c.requires.within lives told.count told.told told.turns since k t h) seats c.requires.seats
+    resumed_desks g told.gathered n (map all_forgotten lives) seats c.requires.seats
     told.gathered.some (c.laws.ensures.again n above) (λ past merged from m. c.laws.ensures.after past merged n from m above) c.args.room.pairs.items pairs.count pairs.node pairs.new
     c.make_whole.new.desks.items c.make_whole.ensures.pairs (c.make_whole.ensures.shards ∙ are) c.make_whole.ensures.seats

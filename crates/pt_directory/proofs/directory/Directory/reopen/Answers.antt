@@ -1,4 +1,4 @@
--- `Directory::reopen`: its clauses `seat`, `version` and `stamp`, and its loop over `entry`, and what its calls of `index_mut` and `ended` ask, and its checked operations.
+-- `Directory::reopen`: its clauses `seat`, `version` and `stamp`, and its loop over `entry`, and what its calls of `index_mut` and `had_ended` ask, and its checked operations.
 use Rattle.std.proofs.Common.{◌≡◌, ℕ, ◌<◌, List, map, get_or, take, set, sym, ap, ◌∙◌, arith}
 use Rattle.std.proofs.lemmas.List.{take_more}
 use Rattle.std.proofs.lemmas.List.Elements.{All-get_or}
@@ -21,8 +21,8 @@ index_mut-seat-requires c =
     let n = count_seats c.loop-entry.seats.items (reopened_seat c.in_ok-directory.directory.name (take i c.args.ended.now)) c.args.desks c.loop-entry.invariant in
     omega (arith, good.0, n, c.loop-entry.seats.ok.0, c.from.ensures)
 
-pub ended-requires-clause-seat : goal.ended-requires-clause-seat
-ended-requires-clause-seat c =
+pub had_ended-requires-clause-seat : goal.had_ended-requires-clause-seat
+had_ended-requires-clause-seat c =
     let i = c.loop-entry.entry-index in
     let x = get_or c.args.ended.now i (record { shard = 0; slot = 0; version = 0 }, 0) in
     let good = All-get_or (Good c.args.desks c.args.slots) c.args.ended.now i (record { shard = 0; slot = 0; version = 0 }, 0) c.loop-entry-test.true c.requires.ended.each in
@@ -31,8 +31,8 @@ ended-requires-clause-seat c =
     let here = at_get_or c.args.ended.now i (record { shard = 0; slot = 0; version = 0 }, 0) c.loop-entry-test.true in
     (ap (λ (s : SeatState). s.name) was, ap (λ (s : SeatState). s.homes) was)
 
-pub ended-requires-clause-version : goal.ended-requires-clause-version
-ended-requires-clause-version c =
+pub had_ended-requires-clause-version : goal.had_ended-requires-clause-version
+had_ended-requires-clause-version c =
     let i = c.loop-entry.entry-index in
     let x = get_or c.args.ended.now i (record { shard = 0; slot = 0; version = 0 }, 0) in
     let good = All-get_or (Good c.args.desks c.args.slots) c.args.ended.now i (record { shard = 0; slot = 0; version = 0 }, 0) c.loop-entry-test.true c.requires.ended.each in
@@ -41,15 +41,15 @@ ended-requires-clause-version c =
     let here = at_get_or c.args.ended.now i (record { shard = 0; slot = 0; version = 0 }, 0) c.loop-entry-test.true in
     low_version c.in_ok-directory.directory.name c.args.ended.now i x c.index_mut-seat.result.now c.requires.ended.apart here was good.2
 
-pub ended-requires-clause-stamp : goal.ended-requires-clause-stamp
-ended-requires-clause-stamp c =
+pub had_ended-requires-clause-stamp : goal.had_ended-requires-clause-stamp
+had_ended-requires-clause-stamp c =
     let i = c.loop-entry.entry-index in
     let x = get_or c.args.ended.now i (record { shard = 0; slot = 0; version = 0 }, 0) in
     let good = All-get_or (Good c.args.desks c.args.slots) c.args.ended.now i (record { shard = 0; slot = 0; version = 0 }, 0) c.loop-entry-test.true c.requires.ended.each in
     let at : c.index_mut-seat.result.now ≡ get_or c.loop-entry.seats.items x.0.shard c.index_mut-seat.result.now = c.index_mut-seat.ensures.value ∙ ap (λ (z : ℕ). get_or c.loop-entry.seats.items z c.index_mut-seat.result.now) c.from.ensures in
     let was = seat_is c.in_ok-directory.directory.name (take i c.args.ended.now) c.args.desks x.0.shard c.loop-entry.seats.items c.index_mut-seat.result.now good.0 c.loop-entry.invariant at in
     let here = at_get_or c.args.ended.now i (record { shard = 0; slot = 0; version = 0 }, 0) c.loop-entry-test.true in
-    low_stamp c.in_ok-directory.directory.name c.args.ended.now i x c.index_mut-seat.result.now c.requires.ended.apart here was good.3
+    low_stamp c.in_ok-directory.directory.name c.args.ended.now i x c.index_mut-seat.result.now c.requires.ended.apart here was
 
 pub loop-entry-preserved : goal.loop-entry-preserved
 loop-entry-preserved c =
@@ -58,6 +58,6 @@ loop-entry-preserved c =
     let good = All-get_or (Good c.args.desks c.args.slots) c.args.ended.now i (record { shard = 0; slot = 0; version = 0 }, 0) c.loop-entry-test.true c.requires.ended.each in
     let at : c.index_mut-seat.result.now ≡ get_or c.loop-entry.seats.items x.0.shard c.index_mut-seat.result.now = c.index_mut-seat.ensures.value ∙ ap (λ (z : ℕ). get_or c.loop-entry.seats.items z c.index_mut-seat.result.now) c.from.ensures in
     let was = seat_is c.in_ok-directory.directory.name (take i c.args.ended.now) c.args.desks x.0.shard c.loop-entry.seats.items c.index_mut-seat.result.now good.0 c.loop-entry.invariant at in
-    ap (λ (z : ℕ). set c.loop-entry.seats.items z c.ended.new.seat) c.from.ensures
-    ∙ seat_told c.in_ok-directory.directory.name (take i c.args.ended.now) x c.args.desks c.loop-entry.seats.items c.index_mut-seat.result.now c.ended.new.seat good.0 c.loop-entry.invariant was c.ended.ensures
+    ap (λ (z : ℕ). set c.loop-entry.seats.items z c.had_ended.new.seat) c.from.ensures
+    ∙ seat_told c.in_ok-directory.directory.name (take i c.args.ended.now) x c.args.desks c.loop-entry.seats.items c.index_mut-seat.result.now c.had_ended.new.seat good.0 c.loop-entry.invariant was c.had_ended.ensures
     ∙ ap (λ (l : List (Pid × ℕ)). map (reopened_seat c.in_ok-directory.directory.name l) (up_from 0 c.args.desks)) (sym (take_more c.args.ended.now i (record { shard = 0; slot = 0; version = 0 }, 0) c.loop-entry-test.true))

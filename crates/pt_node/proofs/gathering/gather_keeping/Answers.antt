@@ -1,5 +1,5 @@
--- `gather`: its clauses `one`, `tables`, `gathered`, `accounted`, `seated`, `journals`, `reads`, `past` and `back`, and what its calls of `reunite`, `audit_all`, `of` and `make_whole` ask.
-use Rattle.std.proofs.Common.{◌≡◌, map, sym, ap, ◌∙◌, subst}
+-- `gather_keeping`: its clauses `one`, `tables`, `gathered`, `accounted`, `seated`, `journals`, `reads`, `past` and `back`, and what its calls of `reunite`, `audit_all`, `of` and `make_whole` ask.
+use Rattle.std.proofs.Common.{◌≡◌, List, map, get_or, sym, ap, ◌∙◌, subst}
 use Rattle.std.specs.Arc.{arc_value}
 use Rattle.std.proofs.lemmas.Simd.{map-map}
 use Rattle.pt_carrier.specs.Node.{places, kept, IsNode, AreLeft, lists}
@@ -9,21 +9,22 @@ use Rattle.pt_desk.specs.DeskState.{DeskState}
 use Rattle.pt_workers.specs.Desks.{AreDesksOf, AreAccounted, AreWhole, all_ends, all_shards}
 use Rattle.pt_node.specs.Gathering.{ReadsAreTrue}
 use Rattle.pt_node.specs.Pasts.{GathersPast}
-use Rattle.pt_node.specs.Seating.{AreSeated, AreOf, AreAudited, all_seats}
+use Rattle.pt_node.specs.Seating.{Seated, AreSeated, AreOf, AreAudited, all_seats, together}
+use Rattle.pt_node.specs.Keeping.{IsKeptOf}
 use Rattle.pt_node.proofs.Pasts.{gathers_past}
 use Rattle.pt_node.proofs.SeatsOf.{whole_seated, of_one}
 use Rattle.pt_node.proofs.Tables.{are_tables}
-use Rattle.pt_node.proofs.Together.{gathered_whole, reads_true, same_journals}
+use Rattle.pt_node.proofs.Together.{gathered_whole, reads_true, kept_of, same_journals}
 use Rattle.pt_node.proofs.Wholes.{whole_accounted, accounted_kept, desks_kept}
-use Rattle.pt_node.proofs.gathering.gather.Goals as goal
+use Rattle.pt_node.proofs.gathering.gather_keeping.Goals as goal
 
 pub reunite-requires : goal.reunite-requires
 reunite-requires c =
     let desks = c.args.desks.items in
     subst IsNode (sym (ap (map places) c.take_apart.ensures.pairs ∙ map-map places (λ (d : DeskState). (d.outs, d.ins)) desks)) c.requires.1.node
 
-pub audit_all-requires-clause-one : goal.audit_all-requires-clause-one
-audit_all-requires-clause-one c =
+pub audit_all-kept-requires-clause-one : goal.audit_all-kept-requires-clause-one
+audit_all-kept-requires-clause-one c =
     let desks = c.args.desks.items in
     let node = c.requires.1 in
     (node.directory.name, subst (AreOf node.directory.name) (sym c.take_apart.ensures.seats) (of_one node.directory.name desks (λ d x h. ap (λ z. z.name) (node.directories d x h))))
@@ -45,7 +46,7 @@ of-gathered-requires-clause-gathered c =
     gathered_whole desks (record { config = c.config-config.result; shards = c.take_apart.new.shards.items; lanes = c.fill.new.lanes.items })
     (subst AreWhole c.as_slice.ensures.value c.look.ensures)
     (record { node = subst (λ k. AreDesksOf k desks) (sym config_is) node; shards = c.take_apart.ensures.shards; left = left })
-    (subst AreAudited c.take_apart.ensures.seats c.audit_all.ensures)
+    (subst AreAudited c.take_apart.ensures.seats c.audit_all-kept.ensures.audited)
 
 pub make_whole-requires-clause-accounted : goal.make_whole-requires-clause-accounted
 make_whole-requires-clause-accounted c =
@@ -78,7 +79,7 @@ returns-in-Ok-reunite-clause-reads c =
     (reads_true desks (record { config = c.config-config.result; shards = c.take_apart.new.shards.items; lanes = c.fill.new.lanes.items })
     (subst AreWhole c.as_slice.ensures.value c.look.ensures)
     (record { node = subst (λ k. AreDesksOf k desks) (sym config_is) node; shards = c.take_apart.ensures.shards; left = left })
-    (subst AreAudited c.take_apart.ensures.seats c.audit_all.ensures))
+    (subst AreAudited c.take_apart.ensures.seats c.audit_all-kept.ensures.audited))
 
 pub returns-in-Ok-reunite-clause-past : goal.returns-in-Ok-reunite-clause-past
 returns-in-Ok-reunite-clause-past c =
@@ -97,3 +98,20 @@ returns-in-Err-clause-back c =
     let desks = c.args.desks.items in
     desks_kept c.make_whole.new.desks.items desks (c.make_whole.ensures.shards ∙ c.take_apart.ensures.shards) (c.make_whole.ensures.seats ∙ c.take_apart.ensures.seats) (c.make_whole.ensures.tables ∙ c.take_apart.ensures.tables)
     (ap (map kept) (c.make_whole.ensures.pairs ∙ c.into_ends.ensures) ∙ c.in-Err.ensures.back ∙ ap (map kept) c.take_apart.ensures.pairs)
+
+pub returns-in-Ok-reunite-clause-kept : goal.returns-in-Ok-reunite-clause-kept
+returns-in-Ok-reunite-clause-kept c =
+    let desks = c.args.desks.items in
+    let node = c.requires.1 in
+    let r = c.index.result.now in
+    let config_is : c.config-config.result ≡ c.requires.0 = c.config-config.ensures ∙ ap (λ (d : DeskState). d.shard.config) c.index.ensures ∙ node.configs 0 r node.some in
+    let left : AreLeft (all_ends desks) c.fill.new.lanes.items
+    = subst (AreLeft (all_ends desks)) (sym c.fill.ensures) (subst (λ p. AreLeft p (lists c.in-Ok-reunite.left.lanes.items)) c.take_apart.ensures.pairs c.in-Ok-reunite.ensures.ok) in
+    let k = c.audit_all-kept.result in
+    subst (λ (g : GatheredState). IsKeptOf g k) (sym c.of-gathered.ensures)
+    (kept_of desks (record { config = c.config-config.result; shards = c.take_apart.new.shards.items; lanes = c.fill.new.lanes.items })
+    (subst AreWhole c.as_slice.ensures.value c.look.ensures)
+    (record { node = subst (λ k. AreDesksOf k desks) (sym config_is) node; shards = c.take_apart.ensures.shards; left = left })
+    (subst AreAudited c.take_apart.ensures.seats c.audit_all-kept.ensures.audited)
+    k (subst (λ (l : List Seated). (p : Seated) → (get_or l 0 p).0 ≡ k.directory) c.take_apart.ensures.seats c.audit_all-kept.ensures.directory)
+    (c.audit_all-kept.ensures.seat ∙ ap (together k.directory.name) c.take_apart.ensures.seats))

@@ -1,0 +1,14 @@
+-- `Node::gather_keeping`: its clauses `still` and `past`.
+use Rattle.std.proofs.Common.{subst}
+use Rattle.pt_node.specs.Gathering.{Gathers}
+use Rattle.pt_node.specs.Pasts.{GathersPast}
+use Rattle.pt_node.proofs.Leftless.{still_gathered}
+use Rattle.pt_node.proofs.node.Node.gather_keeping.Goals as goal
+
+pub returns-in-Ok-clause-still : goal.returns-in-Ok-clause-still
+returns-in-Ok-clause-still c = λ still.
+    let gathers = subst (λ desks. Gathers desks c.in-Ok.both.0) c.self.view_is c.in-Ok.ensures.gathers in
+    still_gathered c.args.self c.in-Ok.both.0 gathers still
+
+pub returns-in-Ok-clause-past : goal.returns-in-Ok-clause-past
+returns-in-Ok-clause-past c = subst (λ desks. GathersPast desks c.in-Ok.both.0) c.self.view_is c.in-Ok.ensures.past
