@@ -1,9 +1,9 @@
 -- The lives of a slot: those that were forgotten, those that ended since, and the newest.
-use Rattle.std.proofs.Common.{◌≡◌, ℕ, zero, suc, ◌+◌, ◌-◌, ◌<◌, ◌≤◌, ◌^◌, ◌==◌, ◌⊎◌, inl, inr, Bool, true, false, cond, Option, Some, None, List, [], ◌∷◌, ◌++◌, map, length, slice_get, get_or, take, refl, ap, sym, ◌∙◌, subst, arith, length-append, append-nil, append_assoc}
+use Rattle.std.proofs.Common.{◌≡◌, ℕ, zero, suc, ◌+◌, ◌-◌, ◌<◌, ◌≤◌, ◌^◌, ◌==◌, ◌⊎◌, inl, inr, Bool, true, false, cond, Option, Some, None, List, [], ◌∷◌, ◌++◌, map, min, replicate, length, slice_get, get_or, take, refl, ap, sym, ◌∙◌, subst, arith, length-append, append-nil, append_assoc}
 use Rattle.std.specs.Prelude.{IfSome, option_to_list, is_some}
 use Rattle.std.specs.Option.{option_map, option_or}
 use Rattle.std.proofs.lemmas.Bool.{both_ways, false≢true, eqb-true, eq-eqb}
-use Rattle.std.proofs.lemmas.List.{map-append}
+use Rattle.std.proofs.lemmas.List.{map-append, length-replicate}
 use Rattle.pt_signal.specs.declared.pid.Pid.{Pid}
 use Rattle.pt_signal.specs.declared.reason.Reason.{Reason}
 use Rattle.pt_events.specs.History.{Phase, unborn, living, ended, is_ended, reason_of, after}
@@ -15,11 +15,13 @@ use Rattle.pt_events.specs.Leaving.{outcome}
 use Rattle.pt_accounts.specs.LifeState.{LifeState}
 use Rattle.pt_accounts.specs.Table.{of_version}
 use Rattle.pt_accounts.specs.Pids.{pid_of_slot}
-use Rattle.pt_accounts.specs.DeskLives.{forgotten, latest_end, pids_of}
+use Rattle.pt_accounts.specs.DeskLives.{forgotten, bare, latest_end, pids_of}
 use Rattle.pt_accounts.specs.SlotState.{end_at, ended_from, lives_of, LifeIsOver, AreOver, AreVersions, IsSlot, HasEnded, reasons_of, life_end, left_of, living_of, IsForgotten}
 use Rattle.pt_accounts.specs.Steps.{life_after, MaySee, MayMeet, IsNextOf}
 use Rattle.pt_accounts.proofs.Places.{slice_get-push, version_push}
+use Rattle.pt_signal.specs.declared.reason.Reason.TheVariants.{Noproc}
 use Rattle.pt_events.proofs.Phases.{after_ended}
+use Rattle.pt_events.proofs.Forgetting.{reasonless_outcome}
 
 -- lists of ends ------------------------------------------------------------------------------------
 
@@ -77,6 +79,18 @@ length_reasons (l ∷ lives) h = let r = over_reason l h.0 in ap (λ o. length (
 pub reasons_more : (lives : List LifeState) (l : LifeState) → reasons_of (lives ++ l ∷ []) ≡ reasons_of lives ++ option_to_list (reason_of l.phase)
 reasons_more [] l = append-nil _
 reasons_more (x ∷ lives) l = ap (λ z. option_to_list (reason_of x.phase) ++ z) (reasons_more lives l) ∙ sym (append_assoc (option_to_list (reason_of x.phase)) (reasons_of lives) (option_to_list (reason_of l.phase)))
+
+-- one reason for all of them
+pub bare_ends : (d s v : ℕ) (rs : List Reason) → map bare (ended_from d s v rs) ≡ ended_from d s v (replicate (length rs) Noproc)
+bare_ends d s v [] = refl
+bare_ends d s v (r ∷ rs) = ap (λ z. end_at d s v Noproc ∷ z) (bare_ends d s (v + 1) rs)
+
+bare_forgotten_one : (l : LifeState) → bare (forgotten l) ≡ bare l
+bare_forgotten_one l = ap (λ f. record { pid = l.pid; phase = f; taken = 0 }) (reasonless_outcome l.phase)
+
+pub bare_forgotten : (lives : List LifeState) → map bare (map forgotten lives) ≡ map bare lives
+bare_forgotten [] = refl
+bare_forgotten (l ∷ lives) = ap (λ z. z ∷ map bare (map forgotten lives)) (bare_forgotten_one l) ∙ ap (λ z. bare l ∷ z) (bare_forgotten lives)
 
 -- over and placed ----------------------------------------------------------------------------------
 
@@ -141,6 +155,36 @@ left_placed d s (Some l) n h = go l.phase refl
     go unborn e = rw e (h.0 ∙ ap (pid_of_slot d s) (omega arith), tt)
     go (living st) e = rw e (h.0 ∙ ap (pid_of_slot d s) (omega arith), tt)
     go (ended r st) e = rw e tt
+
+bare_left : (o : Option LifeState) → map bare (option_to_list (left_of o)) ≡ option_to_list (left_of o)
+bare_left None = refl
+bare_left (Some l) = go l.phase refl
+  where
+    go : (f : Phase) → l.phase ≡ f → map bare (option_to_list (left_of (Some l))) ≡ option_to_list (left_of (Some l))
+    go unborn e = rw e refl
+    go (living st) e = rw e refl
+    go (ended r st) e = rw e refl
+
+-- a forgotten slot with one reason for all
+pub bare_lives : (d s : ℕ) (rs : List Reason) (o : Option LifeState) → lives_of d s (replicate (length rs) Noproc) [] (left_of o) ≡ map bare (lives_of d s rs [] (left_of o))
+bare_lives d s rs o =
+    let ends = ended_from d s 1 rs in
+    let left = option_to_list (left_of o) in
+    ap (λ z. (z ++ []) ++ left) (sym (bare_ends d s 1 rs))
+    ∙ sym (map-append bare (ends ++ []) left ∙ ap (λ z. z ++ map bare left) (map-append bare ends []) ∙ ap (λ z. (map bare ends ++ []) ++ z) (bare_left o))
+
+pub bare_slot : (d s room : ℕ) (rs qs : List Reason) (o : Option LifeState) (more : ℕ) → IsSlot d s rs (length rs + room) [] o → qs ≡ replicate (length rs) Noproc → min 1 room ≤ more → IsSlot d s qs (length qs + more) [] o
+bare_slot d s room rs qs o more is eq enough =
+    let long : length qs ≡ length rs = ap length eq ∙ length-replicate (length rs) Noproc in record {
+      over = tt;
+      placed = subst (λ n. AreVersions d s (n + 1) (option_to_list o)) (sym long) is.placed;
+      few = let f = is.few in omega (arith, f, long);
+      room = fits o is.room;
+    }
+  where
+    fits : (o : Option LifeState) → length rs + 0 + length (option_to_list o) ≤ length rs + room → length qs + 0 + length (option_to_list o) ≤ length qs + more
+    fits None r = omega arith
+    fits (Some l) r = let some : 1 ≤ room = omega (arith, r) in omega (arith, enough, some)
 
 -- lists --------------------------------------------------------------------------------------------
 

@@ -11,9 +11,10 @@ use Rattle.pt_signal.specs.declared.ids.Ids.{Ids}
 use Rattle.pt_signal.specs.Values.{same_ref}
 use Rattle.pt_signal.specs.Process.{held}
 use Rattle.pt_events.specs.declared.event.Stamped.{Stamped}
-use Rattle.pt_events.specs.History.{Past, Start, state_of, open_monitors, is_ended}
+use Rattle.pt_events.specs.History.{Past, Start, at_start, life, state_of, open_monitors, is_ended}
 use Rattle.pt_events.specs.Journal.{IsLocal, events}
 use Rattle.pt_events.specs.Leaving.{outcome, start_after}
+use Rattle.pt_events.specs.Forgetting.{reasonless}
 use Rattle.pt_events.specs.OldRefs.{HasOldRefs}
 use Rattle.pt_accounts.specs.LifeState.{LifeState}
 use Rattle.pt_accounts.specs.Table.{Slots, found, AreTold}
@@ -79,6 +80,20 @@ all_forgotten t = record { desk = t.desk; slots = map (λ lives. map forgotten l
 abbrev pub BeginsAnew : DeskTable → DeskTable → Type 0
 BeginsAnew old new = (start : Start) (desk : ℕ) (past : Past) → IsTableOf start desk past old
     → IsTableOf (start_after start past) desk [] new
+
+-- of an ended process not even why it ended
+abbrev pub bare : LifeState → LifeState
+bare l = record { pid = l.pid; phase = reasonless l.phase; taken = 0 }
+
+abbrev pub all_bare : DeskTable → DeskTable
+all_bare t = record { desk = t.desk; slots = map (λ lives. map bare lives) t.slots; read = 0 }
+
+-- over every start: where the old table tells a history, the new one tells each start that has of each process of the
+-- desk what the history leaves of it, without reasons
+abbrev pub BeginsBare : DeskTable → DeskTable → Type 0
+BeginsBare old new = (start next : Start) (desk : ℕ) (past : Past) → IsTableOf start desk past old
+    → ((p : Pid) → p.shard ≡ desk → at_start next p ≡ reasonless (life start past p))
+    → IsTableOf next desk [] new
 
 -- the last one that has ended
 abbrev pub latest_end : List LifeState → Option Pid

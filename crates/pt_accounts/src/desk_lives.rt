@@ -5,6 +5,7 @@ ghost use Rattle.std.specs.Option.{option_map};
 ghost use Rattle.pt_accounts.specs.LifeState.{account_of};
 ghost use Rattle.pt_accounts.specs.DeskLives.{life_in, linked_in, kept_by, watching_in, pids_in, MayRead, ReadsOn};
 ghost use Rattle.pt_accounts.specs.DeskLives.{forgotten, all_forgotten, BeginsAnew, latest_ends};
+ghost use Rattle.pt_accounts.specs.DeskLives.{bare, all_bare, BeginsBare};
 ghost use Rattle.pt_accounts.specs.Table.{slot_at, of_version_in};
 ghost use Rattle.pt_events.specs.declared.event.Event.TheVariants.{Born};
 ghost use Rattle.pt_accounts.specs.SlotState.{IsCountedUpTo};
@@ -138,6 +139,15 @@ fn forget_all(slots: &mut Vec<Slot>)
     }
 }
 
+/// Keeps of each exited process that it exited, and not why; counts anew what the others take.
+fn forget_all_reasons(slots: &mut Vec<Slot>)
+    ensures { slots.new.items ≡ map (λ lives. map bare lives) slots.old.items }
+{
+    for slot in 0..slots.len() {
+        slots[slot].forget_reasons();
+    }
+}
+
 /// Adds the exit, if there is one.
 fn add_end(ends: &mut Vec<(Pid, u64)>, pid: Option<Pid>, low: u64) -> Result<(), AllocError>
     ensures { OnOk result (ends.new.items ≡ ends.old.items ++ map (λ p. (p, low)) (option_to_list pid)) }
@@ -205,6 +215,18 @@ impl DeskLives {
         ensures anew { BeginsAnew self.old self.new }
     {
         forget_all(&mut self.slots);
+        self.read = 0;
+    }
+
+    /// Forgets of each exited process also why it exited: its reason is [`Reason::Noproc`](pt_signal::Reason) from now
+    /// on. Each stays exited, and the others stay as they are. A slot keeps 12 bytes for all its exited processes
+    /// together, and room for two runs of reasons. Else it is as [`forget`](DeskLives::forget), and takes no memory.
+    pub fn forget_reasons(&mut self)
+        ensures forgets { self.new ≡ all_bare self.old }
+        ensures bare { BeginsBare self.old self.new }
+        ensures ends { latest_ends self.new ≡ latest_ends self.old }
+    {
+        forget_all_reasons(&mut self.slots);
         self.read = 0;
     }
 

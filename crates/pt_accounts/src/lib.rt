@@ -13,7 +13,8 @@
 //! returns holds in every merge of the journals, since a desk's journal says of its own pids what every merge says.
 //!
 //! A node that is resumed writes new journals. [`DeskLives::forget`] makes what a journal said the start of the next,
-//! which is then read into the same table.
+//! which is then read into the same table. [`DeskLives::forget_reasons`] also forgets why processes exited, so that a
+//! program whose reasons never repeat can keep as little as one whose reasons do.
 //!
 //! # Cost
 //!
@@ -31,6 +32,8 @@
 //! - **In every merge.** Each of these is what the definitions give for every merge of the journals.
 //! - **Order.** `Lives::pids` lists the pids by desk, slot and version.
 //! - **Reading on.** `DeskLives::read` reads each event once, and `forget` makes the start of the next journal.
+//! - **Forgetting reasons.** After `forget_reasons` each process is there as before. An exited one stays exited, and its
+//!   reason is `noproc`. (`BeginsBare`)
 #![tactic(auto)]
 
 mod account;

@@ -7,7 +7,7 @@ ghost use Rattle.std.specs.Option.{option_map};
 ghost use Rattle.pt_events.specs.History.{is_ended};
 ghost use Rattle.pt_accounts.specs.LifeState.{LifeState, account_of};
 ghost use Rattle.pt_accounts.specs.Table.{of_version};
-ghost use Rattle.pt_accounts.specs.DeskLives.{pids_of, linked_in, kept_by, watching_in, forgotten, latest_end};
+ghost use Rattle.pt_accounts.specs.DeskLives.{pids_of, linked_in, kept_by, watching_in, forgotten, bare, latest_end};
 ghost use Rattle.pt_accounts.specs.SlotState.{Finds, IsCounted, reasons_of, life_end, left_of, living_of};
 ghost use Rattle.pt_accounts.specs.Steps.{life_after, MaySee, IsNextOf};
 
@@ -211,6 +211,18 @@ impl Slot {
         self.ended.shrink_to_fit();
         let reason = forget_newest(&mut self.newest);
         add_reason(&mut self.forgotten, reason);
+    }
+
+    /// Keeps of each exited process that it exited, and not why; counts anew what the others take.
+    pub(crate) fn forget_reasons(&mut self)
+        ensures { self.new ≡ map bare self.old }
+    {
+        add_reasons(&mut self.forgotten, self.ended.as_slice());
+        self.ended.clear();
+        self.ended.shrink_to_fit();
+        let reason = forget_newest(&mut self.newest);
+        add_reason(&mut self.forgotten, reason);
+        self.forgotten.fill(Reason::Noproc);
     }
 
     /// The latest exited process.

@@ -12,3 +12,4 @@ pub mod Seating
 mod Looking
 mod Telling
 pub mod Reached
+mod Forgetful

@@ -5,3 +5,4 @@ pub mod Reaching
 pub mod Sight
 pub mod Turns
 pub mod Meeting
+pub mod Forgetting

@@ -21,6 +21,7 @@ ghost use Rattle.pt_directory.specs.Seats.{add_death, death_of};
 ghost use Rattle.pt_desk.specs.DeskState.{IsDesk, IsAccounted, HasSameEnds, GoesOn, posted_to, waits_for};
 ghost use Rattle.pt_desk.specs.DeskState.{collected_from};
 ghost use Rattle.pt_desk.specs.Meeting.{DesksMeet, MeetsItself};
+ghost use Rattle.pt_desk.specs.Forgetting.{forgetful_desk};
 ghost use Rattle.pt_desk.specs.Sight.{IsSeated, seat_of};
 ghost use Rattle.pt_desk.specs.Reaching.{LooksFirst, Reaches, has_link_to_make, has_monitor_to_make};
 ghost use Rattle.pt_desk.specs.Posting.{PostsTo, PostsSome, Posts, total};
@@ -288,6 +289,17 @@ impl Desk {
         ensures { result ≡ min (count_pending self.now.shard) (2 ^ 64 - 1) }
     {
         self.shard.pending()
+    }
+
+    /// Forgets why the processes of this desk exited that had exited before its journal, which is empty: the reason of
+    /// each is `noproc` from now on, as a monitor of it is told. Each stays exited for ever, and all else is as it was.
+    /// It takes no memory, and gives back what the reasons took, but for 12 bytes a slot.
+    pub fn forget_reasons(&mut self)
+        requires fresh { self.old.shard.journal ≡ [] }
+        ensures { self.new ≡ forgetful_desk self.old }
+    {
+        self.shard.forget_reasons();
+        self.before.forget_reasons();
     }
 
     /// Looks at the lane from another desk of the node to this one, from both of its ends.

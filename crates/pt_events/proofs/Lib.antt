@@ -11,3 +11,4 @@ pub mod Since
 pub mod Agreeing
 pub mod Refusals
 pub mod Leaving
+pub mod Forgetting

@@ -9,3 +9,4 @@ pub mod Since
 pub mod Text
 pub mod Refusals
 pub mod Leaving
+pub mod Forgetting

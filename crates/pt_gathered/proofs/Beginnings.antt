@@ -1,5 +1,5 @@
 -- What the desks of a settled node leave behind is again a beginning.
-use Rattle.std.proofs.Common.{◌≡◌, ℕ, ◌+◌, ◌<◌, ◌≤◌, false, cond, List, [], ◌∷◌, ◌++◌, length, map, get_or, refl, sym, ap, ◌∙◌, subst, arith, ⊎_elim}
+use Rattle.std.proofs.Common.{◌≡◌, inl, inr, ℕ, ◌+◌, ◌<◌, ◌≤◌, false, cond, List, [], ◌∷◌, ◌++◌, length, map, get_or, refl, sym, ap, ◌∙◌, subst, arith, ⊎_elim}
 use Rattle.std.specs.Map.{keys_of}
 use Rattle.std.proofs.lemmas.Bool.{cases_lt}
 use Rattle.std.proofs.lemmas.List.{get_or-map, length-map}
@@ -20,17 +20,18 @@ use Rattle.pt_events.specs.OldRefs.{HasOldRefs}
 use Rattle.pt_events.specs.Locality.{JournalsSay}
 use Rattle.pt_laws.specs.JournalLaws.{MergeIsThere}
 use Rattle.pt_laws.specs.LinkLaws.{MergeKnown, KnownAgain}
-use Rattle.pt_laws.specs.Resumed.{MadeUpTo}
+use Rattle.pt_laws.specs.Resumed.{MadeUpTo, HasAllReasons}
 use Rattle.pt_laws.specs.Words.{HasOneEntryEach, KeepsEachOnce}
 use Rattle.pt_laws.specs.ResumedLaws.{LeftAgain, ResumedStart, StampsNumber, BothNumber, StampsAreNew, OldRefsResumed}
 use Rattle.pt_laws.proofs.lanes.Load.{born_once}
+use Rattle.pt_laws.proofs.living.Resumed.{reasons_stay}
 use Rattle.pt_shard.specs.ShardState.{ShardState, past}
 use Rattle.pt_shard.specs.Begun.{Every}
 use Rattle.pt_shard.specs.Opening.{fresh_shard}
 use Rattle.pt_shard.specs.Restart.{restarted}
 use Rattle.pt_gathered.specs.Gathered.{GatheredState, IsGathered, begins, journals, start_of}
 use Rattle.pt_gathered.specs.Lawful.{IsQuietNode, BeginsAgain}
-use Rattle.pt_gathered.specs.Pasts.{IsBeginningOf}
+use Rattle.pt_gathered.specs.Pasts.{IsOutlineOf}
 use Rattle.pt_gathered.proofs.Starts.{Own, own_each, owned, at_own, above_all, start_same, nobody_beyond}
 use Rattle.pt_gathered.proofs.Once.{once_in, once_all}
 use Rattle.pt_gathered.proofs.Owned.{life_same}
@@ -156,13 +157,17 @@ module _ (g : GatheredState) (whole : IsGathered g) (n : ℕ) where
         ∙ ap outcome (says (begins g) g.config.start g.config.top_version (journals g) merged p (locals g whole) m).0
         ∙ sym (leaves_each (begins g) (events merged) p)
 
+    -- with all reasons, if none was forgotten
+    pub reasons_after : (old : Past) → IsStart (begins g) → HasAllReasons (begins g) old → HasAllReasons (start_of left) (events merged ++ old)
+    reasons_after old once all p = alike p ∙ reasons_stay (begins g) old (events merged) once all p
+
 -- what is numbered up to a stamp is numbered up to a later one
 made_later : (low n : ℕ) (past : Past) → low ≤ n → MadeUpTo low past → MadeUpTo n past
 made_later low n past h made = (λ i k. made.0 i (omega (arith, h, k)), λ r k. made.1 r (omega (arith, h, k)))
 
 module _ (g : GatheredState) (whole : IsGathered g) (quiet : IsQuietNode g) (say : JournalsSay) (new : StampsAreNew) (again : LeftAgain) (resumes : ResumedStart) (known : MergeKnown) (known_again : KnownAgain) (stamps : StampsNumber) (both : BothNumber) (refs : OldRefsResumed) where
   pub from_merge : (n : ℕ) → ((d : ℕ) → clock g.config.start (journals g d) ≤ n) → (x : ShardState) (merged : List Stamped) → IsMerge (journals g) merged
-      → IsBeginningOf (events merged ++ whole.begun.past) n (start_of (map (restarted n) g.shards))
+      → IsOutlineOf (events merged ++ whole.begun.past) n (start_of (map (restarted n) g.shards))
   from_merge n above x merged m =
       let b = whole.begun in
       let low = g.config.start in
@@ -181,7 +186,7 @@ module _ (g : GatheredState) (whole : IsGathered g) (quiet : IsQuietNode g) (say
       record {
         begun = record {
           past = past ++ b.past;
-          left = record { legal = l.legal; quiet = l.quiet; alike = λ p. same p ∙ l.alike p };
+          left = record { legal = l.legal; quiet = l.quiet; alike = λ p. elim (l.alike p) [ inl h ↦ inl (same p ∙ h) | inr h ↦ inr (same p ∙ h) ] };
           known = j.0;
           home = j.1;
           numbered = both n b.past past (made_later low n b.past later b.numbered) (stamps (begins g) low top n (journals g) merged here m above);

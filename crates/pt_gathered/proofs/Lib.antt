@@ -22,3 +22,4 @@ pub mod Places
 pub mod Posted
 pub mod Shards
 pub mod StartStates
+pub mod Forgetting

@@ -5,6 +5,7 @@ ghost use Rattle.pt_gathered.specs.Settling.{Settles, NothingLeft};
 ghost use Rattle.pt_gathered.specs.Lawful.{LanesKeep, KeepsHeadline, IsLegalNode, IsQuietNode, IsBounded, LinksStand};
 ghost use Rattle.pt_gathered.specs.Lawful.{WatchesStand, HoldingsStand, AnswersHold, QuestionsAnswered, BeginsAgain};
 ghost use Rattle.pt_gathered.specs.Pasts.{IsLegalWhole, IsQuietWhole, BeginsAgainAfter};
+ghost use Rattle.pt_gathered.specs.Pasts.{IsLegalOutline, IsQuietOutline, OutlinesAgainAfter};
 
 use crate::at_rest::AtRest;
 use crate::gathered::Gathered;
@@ -27,6 +28,9 @@ pub fn laws_of(gathered: &Gathered)
     ensures whole { IsLegalWhole gathered.now }
     ensures quiet_whole { NothingLeft gathered.now → IsQuietWhole gathered.now }
     ensures after { NothingLeft gathered.now → BeginsAgainAfter gathered.now }
+    ensures outline { IsLegalOutline gathered.now }
+    ensures quiet_outline { NothingLeft gathered.now → IsQuietOutline gathered.now }
+    ensures outline_after { NothingLeft gathered.now → OutlinesAgainAfter gathered.now }
 {
     laws_of_node(gathered.node());
 }
@@ -47,6 +51,9 @@ pub(crate) fn laws_of_node(gathered: &AtRest)
     ensures whole { IsLegalWhole gathered.now }
     ensures quiet_whole { NothingLeft gathered.now → IsQuietWhole gathered.now }
     ensures after { NothingLeft gathered.now → BeginsAgainAfter gathered.now }
+    ensures outline { IsLegalOutline gathered.now }
+    ensures quiet_outline { NothingLeft gathered.now → IsQuietOutline gathered.now }
+    ensures outline_after { NothingLeft gathered.now → OutlinesAgainAfter gathered.now }
 {
     laws::headline_holds();
     laws::merge_is_legal();

@@ -15,7 +15,8 @@ ghost use Rattle.pt_gathered.specs.Quiet.{AreBornLater, AreInTurn, IsSettled, la
 ghost use Rattle.pt_gathered.specs.Settling.{NothingLeft};
 ghost use Rattle.pt_gathered.specs.Lawful.{LanesKeep, KeepsHeadline, IsQuietNode, LinksStand, WatchesStand};
 ghost use Rattle.pt_gathered.specs.Lawful.{HoldingsStand, AnswersHold, QuestionsAnswered, BeginsAgain};
-ghost use Rattle.pt_gathered.specs.Pasts.{GoesOnFrom, IsQuietWhole, BeginsAgainAfter};
+ghost use Rattle.pt_gathered.specs.Pasts.{GoesOnFrom, IsQuietWhole, BeginsAgainAfter, IsQuietOutline};
+ghost use Rattle.pt_gathered.specs.Pasts.{OutlinesAgainAfter};
 
 use crate::at_rest::AtRest;
 use crate::gathered::Gathered;
@@ -215,6 +216,8 @@ impl Settled {
         ensures again { BeginsAgain self.now.gathered }
         ensures whole { IsQuietWhole self.now.gathered }
         ensures after { BeginsAgainAfter self.now.gathered }
+        ensures outline { IsQuietOutline self.now.gathered }
+        ensures outline_after { OutlinesAgainAfter self.now.gathered }
     {
         laws_of_node(&self.node);
     }

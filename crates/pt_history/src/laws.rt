@@ -6,8 +6,9 @@ ghost use Rattle.pt_history.specs.Examples.{TenLines, Cascade, EarlyLink};
 pub use pt_laws::laws::{
     acts_may_come, alive_until_its_end, answers_are_true, headline_holds, journals_have_one_merge,
     journals_tell_their_pids, links_are_held_since, lives_once, load_by_desk_falls, merge_is_legal,
-    messages_keep_their_order, one_down, quiet_monitors, receipts_lower_the_load, resumed_is_legal,
-    sent_came_or_flies, stamps_make_new_ids, taken_or_waiting, watches_are_kept_since,
+    messages_keep_their_order, one_down, quiet_monitors, reasons_may_be_forgotten,
+    receipts_lower_the_load, resumed_is_legal, sent_came_or_flies, stamps_make_new_ids,
+    taken_or_waiting, watches_are_kept_since,
 };
 
 /// A process's trap flag is the last one that it set. If it set none, it is off, or as at the start.

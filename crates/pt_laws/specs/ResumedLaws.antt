@@ -4,10 +4,10 @@ use Rattle.pt_signal.specs.declared.pid.Pid.{Pid}
 use Rattle.pt_signal.specs.declared.reason.Reason.{Reason}
 use Rattle.pt_signal.specs.Process.{ProcessState, fresh}
 use Rattle.pt_events.specs.declared.event.Stamped.{Stamped}
-use Rattle.pt_events.specs.History.{Past, Start, ended, is_ended, life, flying, IsLegal}
+use Rattle.pt_events.specs.History.{Past, Start, ended, at_start, is_ended, life, flying, IsLegal}
 use Rattle.pt_events.specs.Journal.{Journals, IsLocal, IsMerge, clock, events}
 use Rattle.pt_laws.specs.Load.{IsStart, IsQuiet}
-use Rattle.pt_laws.specs.Resumed.{start_after, AllNewTo, MadeUpTo, IsLeftBy}
+use Rattle.pt_laws.specs.Resumed.{start_after, reasonless, without_reasons, AllNewTo, MadeUpTo, IsLeftBy, HasAllReasons}
 use Rattle.pt_events.specs.OldRefs.{HasOldRefs}
 use Rattle.pt_laws.specs.Words.{HasOneEntryEach, KeepsEachOnce}
 
@@ -51,6 +51,25 @@ LeftAgain =
     (start : Start) (old new : Past) → IsStart start → IsLeftBy start old → AllNewTo old new → IsLegal start new
     → IsQuiet start new
     → IsLeftBy (start_after start new) (new ++ old)
+
+-- with all reasons, if none was forgotten before
+abbrev pub ReasonsStay : Type 0
+ReasonsStay =
+    (start : Start) (old new : Past) → IsStart start → HasAllReasons start old
+    → HasAllReasons (start_after start new) (new ++ old)
+
+-- a start that forgets its reasons has each process as before, but of those that ended no reason
+abbrev pub ForgetsEach : Type 0
+ForgetsEach = (start : Start) (p : Pid) → at_start (without_reasons start) p ≡ reasonless (at_start start p)
+
+-- it is again a start, left by the same history, and keeps what the laws on words ask
+abbrev pub ForgettingIsLeft : Type 0
+ForgettingIsLeft =
+    (start : Start) (old : Past) → IsLeftBy start old
+    → IsLeftBy (without_reasons start) old
+    × (IsStart start → IsStart (without_reasons start))
+    × (HasOneEntryEach start → HasOneEntryEach (without_reasons start))
+    × (KeepsEachOnce start → KeepsEachOnce (without_reasons start))
 
 -- new ids -----------------------------------------------------------------------------
 

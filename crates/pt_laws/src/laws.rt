@@ -8,6 +8,7 @@ ghost use Rattle.pt_laws.specs.Taken.{TakenByPosition};
 ghost use Rattle.pt_laws.specs.Laws.{CameOrFlies, SenderFront, MergeLegal};
 ghost use Rattle.pt_laws.specs.ResumedLaws.{ResumedLegal, ResumedSame, ResumedStart, ResumedTwice, EmptyIsLeft};
 ghost use Rattle.pt_laws.specs.ResumedLaws.{LeftAgain, StampsNumber, BothNumber, StampsAreNew, OldRefsResumed};
+ghost use Rattle.pt_laws.specs.ResumedLaws.{ForgetsEach, ForgettingIsLeft, ReasonsStay};
 ghost use Rattle.pt_laws.specs.MonitorLaws.{OneDown, MadeOnce, MadeOnceLocal, EmptyHasOldRefs, MadeOnceOver};
 ghost use Rattle.pt_laws.specs.MonitorLaws.{QuietMonitor, QuietWatch, QuietMonitorOver, QuietWatchOver};
 ghost use Rattle.pt_laws.specs.MonitorLaws.{QuietMonitorSince};
@@ -154,6 +155,15 @@ pub fn resumed_is_legal()
     ensures twice { ResumedTwice }
     ensures empty { EmptyIsLeft }
     ensures again { LeftAgain }
+{}
+
+/// The state that a history leaves behind may forget why processes ended. Each process is there as before, but the
+/// reason of one that ended is `noproc` then. It is still a start that the history left behind, so each law that asks
+/// for such a start holds over it. If no reason is forgotten, each start after it has all reasons.
+pub fn reasons_may_be_forgotten()
+    ensures each { ForgetsEach }
+    ensures left { ForgettingIsLeft }
+    ensures stay { ReasonsStay }
 {}
 
 /// Journals make ids and references that are numbered by their stamps. So those that go on above the stamps of all

@@ -9,6 +9,8 @@ pub mod Resumed
 pub mod Wholes
 pub mod Fresh
 pub mod Pasts
+mod Walked
+pub mod Forgetful
 pub mod Calling
 pub mod RoundByRound
 pub mod Leftless

@@ -4,11 +4,11 @@ use Rattle.std.proofs.lemmas.List.{get_or-map, length-map}
 use Rattle.pt_events.specs.History.{Past}
 use Rattle.pt_signal.specs.declared.config.Config.{Config}
 use Rattle.pt_gathered.specs.Gathered.{GatheredState, start_of}
-use Rattle.pt_gathered.specs.Pasts.{IsBeginningOf}
+use Rattle.pt_gathered.specs.Pasts.{IsBeginningOf, IsOutlineOf}
 use Rattle.pt_desk.specs.DeskState.{DeskState}
 use Rattle.pt_workers.specs.Desks.{AreDesksOf, all_shards}
 use Rattle.pt_node.specs.Gathering.{Gathers}
-use Rattle.pt_node.specs.Pasts.{GoOnFrom, GathersPast}
+use Rattle.pt_node.specs.Pasts.{GoOnFrom, GathersPast, GathersOutline}
 use Rattle.pt_workers.specs.Running.{AllGoOn}
 use Rattle.pt_workers.proofs.Begun.{starts_stay}
 use Rattle.pt_workers.proofs.GoingOn.{still_desks}
@@ -23,6 +23,11 @@ pub gathers_past : (desks : List DeskState) (g : GatheredState) → Gathers desk
 gathers_past desks g gathers past from =
     subst (λ s. IsBeginningOf past g.config.start (start_of s)) (sym gathers.shards)
     (subst (λ (c : Config). IsBeginningOf past c.start (start_of (all_shards desks))) (one_config from.config g.config desks from.node gathers.node) from.begun)
+
+pub gathers_outline : (desks : List DeskState) (g : GatheredState) → Gathers desks g → GathersOutline desks g
+gathers_outline desks g gathers past from =
+    subst (λ s. IsOutlineOf past g.config.start (start_of s)) (sym gathers.shards)
+    (subst (λ (c : Config). IsOutlineOf past c.start (start_of (all_shards desks))) (one_config from.config g.config desks from.node gathers.node) from.begun)
 
 module _ {W : Type 0} where
   -- nor does whatever is done to the desks, each of which goes on

@@ -24,7 +24,7 @@ use Rattle.pt_shard.specs.Outbox.{held_from}
 use Rattle.pt_shard.specs.Restart.{restarted}
 use Rattle.pt_shard.specs.InTurn.{IsInTurn}
 use Rattle.pt_gathered.specs.Gathered.{GatheredState, IsGathered, box_at, hold_at, journals, start_of}
-use Rattle.pt_gathered.specs.Pasts.{IsBeginningOf, GoesOnFrom}
+use Rattle.pt_gathered.specs.Pasts.{IsBeginningOf, IsOutlineOf, GoesOnFrom, GoesOnBut}
 use Rattle.pt_gathered.specs.Quiet.{ends_of}
 use Rattle.pt_gathered.specs.Settling.{NothingLeft}
 use Rattle.pt_gathered.specs.Beginning.{IsBeginning}
@@ -192,6 +192,7 @@ module _ (g : GatheredState) (whole : IsGathered g) (n : ℕ) where
   module _ (tables : List DeskTable) (seats : List Seated) (ready : AreReady (map (restarted n) g.shards) tables seats) where
     module _ (some : 0 < length g.shards) (begins : IsBeginning n (start_of (map (restarted n) g.shards)))
         (after : (past : Past) (merged : List Stamped) → GoesOnFrom past g → IsMerge (journals g) merged → IsBeginningOf (events merged ++ past) n (start_of (map (restarted n) g.shards)))
+        (but : (past : Past) (merged : List Stamped) → GoesOnBut past g → IsMerge (journals g) merged → IsOutlineOf (events merged ++ past) n (start_of (map (restarted n) g.shards)))
         (pairs : List (OutEnds × InEnds)) (pair_count : length pairs ≡ g.config.desks) (node : IsNode (map places pairs))
         (new : (d : ℕ) (p : OutEnds × InEnds) → d < g.config.desks → IsNew g.config.desks g.config.lane (get_or pairs d p))
         (desks : List DeskState) (ends_are : all_ends desks ≡ pairs) (shards_are : all_shards desks ≡ map (restarted n) g.shards) (seats_are : all_seats desks ≡ seats) where
@@ -231,5 +232,10 @@ module _ (g : GatheredState) (whole : IsGathered g) (n : ℕ) where
           config = record g.config { start = n };
           node = resumed_node;
           begun = subst (λ s. IsBeginningOf (events merged ++ past) n (start_of s)) (sym shards_are) (after past merged from m);
+        };
+        outline = λ past merged from m. record {
+          config = record g.config { start = n };
+          node = resumed_node;
+          begun = subst (λ s. IsOutlineOf (events merged ++ past) n (start_of s)) (sym shards_are) (but past merged from m);
         };
       }

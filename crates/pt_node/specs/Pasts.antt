@@ -3,7 +3,7 @@ use Rattle.std.specs.Prelude.{List}
 use Rattle.pt_events.specs.History.{Past}
 use Rattle.pt_signal.specs.declared.config.Config.{Config}
 use Rattle.pt_gathered.specs.Gathered.{GatheredState, start_of}
-use Rattle.pt_gathered.specs.Pasts.{IsBeginningOf, GoesOnFrom}
+use Rattle.pt_gathered.specs.Pasts.{IsBeginningOf, IsOutlineOf, GoesOnFrom, GoesOnBut}
 use Rattle.pt_desk.specs.DeskState.{DeskState}
 use Rattle.pt_workers.specs.Desks.{AreDesksOf, all_shards}
 
@@ -17,3 +17,13 @@ pub record GoOnFrom (past : Past) (desks : List DeskState) : Type 0 where
 -- the gathered node goes on from what its desks went on from
 abbrev pub GathersPast : List DeskState → GatheredState → Type 0
 GathersPast desks g = (past : Past) → GoOnFrom past desks → GoesOnFrom past g
+
+-- the same, of desks that may have forgotten why processes ended in that history
+pub record GoOnBut (past : Past) (desks : List DeskState) : Type 0 where
+  pub config : Config
+  pub node : AreDesksOf config desks
+  pub begun : IsOutlineOf past config.start (start_of (all_shards desks))
+
+-- and of a node that is gathered from them
+abbrev pub GathersOutline : List DeskState → GatheredState → Type 0
+GathersOutline desks g = (past : Past) → GoOnBut past desks → GoesOnBut past g

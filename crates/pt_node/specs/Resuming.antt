@@ -7,11 +7,12 @@ use Rattle.pt_carrier.specs.Ends.{OutEnds, InEnds}
 use Rattle.pt_carrier.specs.Node.{IsNew, IsNode, places}
 use Rattle.pt_shard.specs.Restart.{restarted}
 use Rattle.pt_gathered.specs.Gathered.{GatheredState, journals}
-use Rattle.pt_gathered.specs.Pasts.{GoesOnFrom}
+use Rattle.pt_gathered.specs.Pasts.{GoesOnFrom, GoesOnBut}
 use Rattle.pt_gathered.specs.Quiet.{latest_stamp}
 use Rattle.pt_desk.specs.DeskState.{DeskState}
+use Rattle.pt_desk.specs.Forgetting.{forgetful_desk}
 use Rattle.pt_workers.specs.Desks.{AreDesksOf, all_shards}
-use Rattle.pt_node.specs.Pasts.{GoOnFrom}
+use Rattle.pt_node.specs.Pasts.{GoOnFrom, GoOnBut}
 
 -- the desks of one node whose clocks stand at n: each has an empty journal over what it left behind, and its processes
 -- are as they were; nothing went through their lanes, and nobody has looked in their directory. They go on from what
@@ -24,10 +25,23 @@ pub record AreResumed (g : GatheredState) (n : ℕ) (desks : List DeskState) : T
   pub unread : (d : ℕ) (x : DeskState) → d < length desks → (slice_index_or desks d x).sight.reads ≡ []
   pub whole : (past : Past) (merged : List Stamped) → GoesOnFrom past g → IsMerge (journals g) merged
       → GoOnFrom (events merged ++ past) desks
+  -- or from what it went on from but for the reasons
+  pub outline : (past : Past) (merged : List Stamped) → GoesOnBut past g → IsMerge (journals g) merged
+      → GoOnBut (events merged ++ past) desks
 
 -- they go on at the greatest stamp of the history
 abbrev pub Resumes : GatheredState → List DeskState → Type 0
 Resumes g desks = AreResumed g (latest_stamp g) desks
+
+-- the desks of one node that goes on there and forgets why its processes ended: they are those desks, but of those that
+-- ended before their journals no reason is known any more
+pub record ResumesForgetful (g : GatheredState) (desks : List DeskState) : Type 0 where
+  pub before : List DeskState
+  pub resumes : Resumes g before
+  pub forgets : desks ≡ map forgetful_desk before
+  pub node : AreDesksOf (record g.config { start = latest_stamp g }) desks
+  pub outline : (past : Past) (merged : List Stamped) → GoesOnBut past g → IsMerge (journals g) merged
+      → GoOnBut (events merged ++ past) desks
 
 -- the ends of new lanes among so many desks, each lane with room for so many letters
 pub record AreNewPairs (desks lane : ℕ) (pairs : List (OutEnds × InEnds)) : Type 0 where

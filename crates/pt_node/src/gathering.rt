@@ -8,7 +8,7 @@ ghost use Rattle.pt_gathered.specs.Lawful.{LanesKeep, KeepsHeadline, IsLegalNode
 ghost use Rattle.pt_workers.specs.Desks.{AreDesks, desk_kept};
 ghost use Rattle.pt_node.specs.Gathering.{Gathers, HasJournalsOf, ReadsAreTrue};
 ghost use Rattle.pt_node.specs.Keeping.{IsKeptOf};
-ghost use Rattle.pt_node.specs.Pasts.{GathersPast};
+ghost use Rattle.pt_node.specs.Pasts.{GathersPast, GathersOutline};
 
 use crate::making::{look, make_whole, take_apart};
 use crate::seating::{Kept, Seated, audit_all};
@@ -138,6 +138,7 @@ pub fn gather(alloc: Global, desks: Vec<Desk>) -> Result<Gathered, DesksBack>
     ensures answers { IfOk result (λ g. AnswersHold g) }
     ensures reads { IfOk result (λ g. ReadsAreTrue desks.items g) }
     ensures past { IfOk result (λ g. GathersPast desks.items g) }
+    ensures outline { IfOk result (λ g. GathersOutline desks.items g) }
     ensures back { IfErr result (λ b. map desk_kept b ≡ map desk_kept desks.items) }
 {
     match gather_keeping(alloc, desks) {
@@ -158,6 +159,7 @@ pub fn gather_keeping(alloc: Global, desks: Vec<Desk>) -> Result<(Gathered, Kept
     ensures answers { IfOk result (λ r. AnswersHold r.0) }
     ensures reads { IfOk result (λ r. ReadsAreTrue desks.items r.0) }
     ensures past { IfOk result (λ r. GathersPast desks.items r.0) }
+    ensures outline { IfOk result (λ r. GathersOutline desks.items r.0) }
     ensures kept { IfOk result (λ r. IsKeptOf r.0 r.1) }
     ensures back { IfErr result (λ b. map desk_kept b ≡ map desk_kept desks.items) }
 {

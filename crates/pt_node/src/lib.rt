@@ -56,6 +56,9 @@
 //! [`resume_kept`] keep the directory of exited processes too, so that nothing is made anew for slots that were never
 //! used.
 //!
+//! [`resume_forgetting`] also forgets why processes exited. So a program whose exit reasons never repeat keeps no more of
+//! its exited processes than one whose reasons do.
+//!
 //! Tests: `checks/rows`, `checks/tried/test_calls/nodes.rt.txt`, `checks/tried/test_calls/opening.rt.txt` and
 //! `crates/test_calls/src/nodes.rt`.
 //!
@@ -67,6 +70,8 @@
 //!   and clocks continue. `resume_settled` does the same from a settled node without a list of its pids. (`AreResumed`)
 //! - **Keeping.** `resume_kept` does what `resume_settled` does, in the directory that was kept when the node was
 //!   gathered. No exit is reported anew but those that settling brought. (`IsKeptFor`)
+//! - **Forgetting reasons.** `resume_forgetting` makes the same desks, but the reason of each exited process is `noproc`.
+//!   The laws of a quiet node hold over them, and its history goes on. (`ResumesForgetful`)
 //! - **The node's calls.** Each call of `Node` does what the call of the pid's desk does, and the other desks stay. It
 //!   has no precondition. (`CallsAt`, `CallsTo`)
 //! - **Until still.** `turn_until_still` terminates, and handles no more letters than the load before. (`IsWithinLoad`)
@@ -100,5 +105,7 @@ pub use pt_workers::{
     FreeGate, Gate, Ran, Rested, RunFault, Standing, Stopped, Takes, Task, Work, assign,
     next_woken, release, run, run_single, take_each,
 };
-pub use resuming::{Resting, RestingSettled, resume, resume_kept, resume_settled};
+pub use resuming::{
+    Resting, RestingSettled, resume, resume_forgetting, resume_kept, resume_settled,
+};
 pub use seating::Kept;

@@ -17,7 +17,7 @@ ghost use Rattle.pt_desk.specs.Reaching.{Reaches, has_link_to_make, has_monitor_
 ghost use Rattle.pt_workers.specs.Desks.{AreDesks, AreDesksOf, desk_kept};
 ghost use Rattle.pt_node.specs.Gathering.{Gathers, HasJournalsOf, ReadsAreTrue};
 ghost use Rattle.pt_node.specs.Keeping.{IsKeptFor, IsKeptOf};
-ghost use Rattle.pt_node.specs.Pasts.{GathersPast};
+ghost use Rattle.pt_node.specs.Pasts.{GathersPast, GathersOutline};
 ghost use Rattle.pt_workers.specs.NodeRunning.{RunsNode};
 ghost use Rattle.pt_workers.specs.Running.{AllWork, InRounds, begins_by};
 ghost use Rattle.pt_node.specs.Node.{CallsAt, CallsTo, Inside, OpensNode, ReadsAt, TurnsAll, TurnsAt, node_answered};
@@ -25,7 +25,7 @@ ghost use Rattle.pt_node.specs.Node.{both_turned};
 ghost use Rattle.pt_node.specs.Lending.{IsDeskAt, IsNoTarget, LendsDesk};
 ghost use Rattle.pt_node.specs.Load.{IsWithinLoad};
 ghost use Rattle.pt_node.specs.declared.node_fault.NodeFault.TheVariants.{NoDesk};
-ghost use Rattle.pt_node.specs.Resuming.{Resumes};
+ghost use Rattle.pt_node.specs.Resuming.{Resumes, ResumesForgetful};
 ghost use Rattle.pt_workers.specs.Stillness.{AllDesksGoOn, AreStill, RunsRounds, StoppedAt, count_events};
 
 use crate::gathering::{abandon, gather_keeping};
@@ -33,7 +33,9 @@ use crate::making::look;
 use crate::node_fault::NodeFault;
 use crate::node_running::{run_desks, run_desks_single};
 use crate::opening::open;
-use crate::resuming::{Resting, RestingSettled, resume, resume_kept, resume_settled};
+use crate::resuming::{
+    Resting, RestingSettled, resume, resume_forgetting, resume_kept, resume_settled,
+};
 use crate::seating::Kept;
 use pt_desk::{Desk, Turned};
 use pt_gathered::{Gathered, Quiet, Settled};
@@ -150,6 +152,18 @@ impl Node {
         }
     }
 
+    /// Continues from a settled node and forgets why its processes exited, as
+    /// [`resume_forgetting`](crate::resume_forgetting) does. Fails only if there is no memory.
+    pub fn resume_forgetting(alloc: Global, settled: Settled) -> Result<Node, RestingSettled>
+        ensures resumes { IfOk result (λ desks. ResumesForgetful settled.gathered desks) }
+        ensures resting { IfErr result (λ back. back.settled ≡ settled) }
+    {
+        match resume_forgetting(alloc, settled) {
+            Ok(desks) => Ok(Node { alloc, desks }),
+            Err(back) => Err(back),
+        }
+    }
+
     /// The node of these desks, which are all desks of one [`open`](crate::open) or of one [`resume`](crate::resume),
     /// each once and in order.
     pub fn of_desks(alloc: Global, desks: Vec<Desk>) -> Node
@@ -258,6 +272,7 @@ impl Node {
         ensures answers { IfOk result (λ g. AnswersHold g) }
         ensures reads { IfOk result (λ g. ReadsAreTrue self g) }
         ensures past { IfOk result (λ g. GathersPast self g) }
+        ensures outline { IfOk result (λ g. GathersOutline self g) }
         ensures still { AreStill self → IfOk result (λ g. NothingLeft g) }
         ensures back { IfErr result (λ b. map desk_kept b.node ≡ map desk_kept self) }
     {
@@ -279,6 +294,7 @@ impl Node {
         ensures answers { IfOk result (λ r. AnswersHold r.0) }
         ensures reads { IfOk result (λ r. ReadsAreTrue self r.0) }
         ensures past { IfOk result (λ r. GathersPast self r.0) }
+        ensures outline { IfOk result (λ r. GathersOutline self r.0) }
         ensures kept { IfOk result (λ r. IsKeptOf r.0 r.1) }
         ensures still { AreStill self → IfOk result (λ r. NothingLeft r.0) }
         ensures back { IfErr result (λ b. map desk_kept b.node ≡ map desk_kept self) }

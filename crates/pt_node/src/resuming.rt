@@ -1,6 +1,6 @@
 //! Resuming a quiet node, or one that is settled and has no list of its processes.
 
-ghost use Rattle.std.specs.Prelude.{◌≡◌, ◌≤◌, List, [], length, map, IfErr, IfOk, vec_len};
+ghost use Rattle.std.specs.Prelude.{◌≡◌, ◌≤◌, ◌<◌, ℕ, List, [], length, map, slice_index_or, IfErr, IfOk, vec_len};
 ghost use Rattle.std.specs.Arc.{arc_value};
 ghost use Rattle.std.specs.Vec.{vec_capacity};
 ghost use Rattle.pt_signal.specs.declared.config.TheConstants.{MAX_STAMP};
@@ -10,9 +10,11 @@ ghost use Rattle.pt_shard.specs.Begun.{Every};
 ghost use Rattle.pt_shard.specs.Restart.{restarted};
 ghost use Rattle.pt_accounts.specs.DeskLives.{all_forgotten};
 ghost use Rattle.pt_gathered.specs.Quiet.{latest_stamp};
+ghost use Rattle.pt_desk.specs.DeskState.{DeskState};
+ghost use Rattle.pt_desk.specs.Forgetting.{forgetful_desk};
 ghost use Rattle.pt_node.specs.Seating.{Seated, AreFreshSeats, AreReady};
 ghost use Rattle.pt_node.specs.Keeping.{IsKeptFor};
-ghost use Rattle.pt_node.specs.Resuming.{AreNewPairs, AreResumed, Resumes};
+ghost use Rattle.pt_node.specs.Resuming.{AreNewPairs, AreResumed, Resumes, ResumesForgetful};
 
 use crate::making::make_whole;
 use crate::seating::{Kept, Seated, fresh_seats, kept_seats};
@@ -166,6 +168,36 @@ fn prepare_kept(
     let late = settled.latest_ends(start)?;
     let seats = kept_seats(alloc, settled.desks(), kept, late.as_slice())?;
     take_rest(alloc, config, settled.desks(), seats)
+}
+
+/// Continues from a settled node as [`resume_settled`] does, and forgets why its processes exited: each exited process
+/// stays exited for ever, but its reason is [`Reason::Noproc`](pt_signal::Reason::Noproc) from now on. That is what a
+/// monitor of it is told anyway. So of all processes that a slot ever had only their number is kept, in 12 bytes, also if
+/// each exited for a reason of its own.
+///
+/// Nothing else is forgotten: what lives, what it holds, whether a process was ever spawned, and whether it exited. All
+/// laws of quiet nodes hold as before. The desks continue from the same history, which still tells each reason. The node
+/// does not: what was claimed of a node that knows them all, as the whole history of epochs, is claimed of it without
+/// reasons alone.
+///
+/// Fails only if there is no memory: the settled node then comes back, as it was, and has forgotten nothing.
+pub fn resume_forgetting(alloc: Global, settled: Settled) -> Result<Vec<Desk>, RestingSettled>
+    ensures resumes { IfOk result (λ desks. ResumesForgetful settled.gathered desks.items) }
+    ensures resting { IfErr result (λ back. back.settled ≡ settled) }
+{
+    let mut desks = resume_settled(alloc, settled)?;
+    forget_reasons(desks.as_mut_slice());
+    Ok(desks)
+}
+
+/// Makes each desk forget why processes exited before its journal, which is empty.
+fn forget_reasons(desks: &mut [Desk])
+    requires { (d : ℕ) (x : DeskState) → d < length desks.old → (slice_index_or desks.old d x).shard.journal ≡ [] }
+    ensures { desks.new ≡ map forgetful_desk desks.old }
+{
+    for which in 0..desks.len() {
+        desks[which].forget_reasons();
+    }
 }
 
 /// Takes all memory that it needs to resume a quiet node at this stamp, its latest.

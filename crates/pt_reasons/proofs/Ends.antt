@@ -225,3 +225,18 @@ pushed_longer old runs None r up_to e empty are same up =
     let none : old ≡ [] = empty refl in
     absurd (let h : false ≡ true = sym (ap (last_is r) none) ∙ same in cc)
 pushed_longer old runs (Some run) r up_to e empty are same up = longer runs old run r up_to e are same up
+
+-- the same reason in each place
+pub filled : (old runs : List Run) (run : Run) (r : Reason) (new : List Run) → old ≡ runs ++ run ∷ [] → AreRuns 0 None old → new ≡ record { up_to = run.up_to; reason = r } ∷ []
+    → AreRuns 0 None new × (expanded 0 new ≡ replicate (length (expanded 0 old)) r)
+filled old runs run r new e are n =
+    let was = pop_runs 0 None runs run (subst (AreRuns 0 None) e are) in
+    let all = counted 0 None (runs ++ run ∷ []) (subst (AreRuns 0 None) e are) ∙ end_push 0 runs run in
+    let some = was.1 in
+    let long : run.up_to - 0 ≡ length (expanded 0 old) = omega (arith, ap (λ z. length (expanded 0 z)) e, all) in (
+      subst (AreRuns 0 None) (sym n) (omega (arith, some), (λ h. absurd (cc)), tt),
+      ap (expanded 0) n ∙ nothing (replicate (run.up_to - 0) r) ∙ ap (λ k. replicate k r) long,
+    )
+  where
+    nothing : (xs : List Reason) → xs ++ [] ≡ xs
+    nothing xs = grind (arith, common_steps)

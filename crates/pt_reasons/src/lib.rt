@@ -14,10 +14,12 @@
 //!   (`listed`)
 //! - **Runs.** `runs` returns the runs in order. Each is of one reason at least, and no two that follow one another have
 //!   the same reason. So there are as many runs as changes of reason, and one. (`AreRuns`)
+//! - **Filled.** After `fill` there are as many reasons as before, and each is the given one. (`listed`)
 //! - **Failures.** `push` fails only for want of memory, or if 2^32 - 1 reasons are kept. Nothing has changed then.
 #![tactic(auto)]
 
 ghost use Rattle.std.specs.Prelude.{◌≡◌, ◌+◌, ◌-◌, ◌*◌, ◌≤◌, ◌<◌, ◌^◌, ◌++◌, ◌∷◌, [], OnOk, OnErr, None, length, slice_get};
+ghost use Rattle.std.specs.Prelude.{min, replicate};
 ghost use Rattle.pt_reasons.specs.Runs.{AreRuns, expanded};
 ghost use Rattle.pt_reasons.specs.Runs as spec;
 
@@ -113,6 +115,22 @@ impl Reasons {
             self.runs.pop();
         }
         self.runs.push_reserved(Run { up_to, reason });
+    }
+
+    /// Puts this reason in the place of each. One run is left, and room for one more if there was any; the other memory
+    /// is given back. It takes no memory.
+    pub fn fill(&mut self, reason: Reason)
+        ensures listed { self.new.listed ≡ replicate (length self.old.listed) reason }
+        ensures room { min 1 self.old.room ≤ self.new.room }
+    {
+        if let Some(run) = self.runs.pop() {
+            self.runs.clear();
+            self.runs.push_reserved(Run {
+                up_to: run.up_to,
+                reason,
+            });
+            self.runs.shrink_to(2);
+        }
     }
 
     /// Adds a reason.

@@ -16,6 +16,7 @@ mod Bearing
 mod Standing
 mod Left
 mod Restarting
+mod Forgetful
 mod InTurn
 mod Acted
 mod Taken

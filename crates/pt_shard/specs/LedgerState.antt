@@ -10,6 +10,7 @@ use Rattle.pt_signal.specs.declared.config.TheConstants.{MAX_STAMP}
 use Rattle.pt_events.specs.History.{Start}
 use Rattle.pt_events.specs.Journal.{events}
 use Rattle.pt_events.specs.Leaving.{start_after}
+use Rattle.pt_events.specs.Forgetting.{without_reasons}
 use Rattle.pt_shard.specs.declared.stop.Stop.{Stop}
 use Rattle.pt_shard.specs.declared.stop.Stop.TheVariants.{Memory, Worn}
 use Rattle.pt_shard.specs.Boxes.{put_out}
@@ -71,6 +72,10 @@ restarted_book n b = record {
   keeps = b.keeps;
   lost = b.lost;
 }
+
+-- a start without reasons
+abbrev pub forgetful_book : Book → Book
+forgetful_book b = record b { start = without_reasons b.start }
 
 abbrev pub HasRoomAt : ℕ → LedgerState → Type 0
 HasRoomAt e s = 0 < slice_index_or s.rooms e 0

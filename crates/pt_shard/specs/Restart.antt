@@ -1,6 +1,7 @@
--- A desk goes on: an empty journal over what the one so far left behind.
+-- A desk goes on: an empty journal over what the one so far left behind, and what it may forget of that.
 use Rattle.std.specs.Prelude.{ℕ, []}
 use Rattle.pt_events.specs.Leaving.{start_after}
+use Rattle.pt_events.specs.Forgetting.{without_reasons}
 use Rattle.pt_shard.specs.ShardState.{ShardState, past}
 
 -- with its clock at n; the processes are as they were, and so is what waits and what was lost
@@ -17,3 +18,7 @@ restarted n d = record {
   keeps = d.keeps;
   lost = d.lost;
 }
+
+-- of those that ended before its journal no reason is known any more
+abbrev pub forgetful : ShardState → ShardState
+forgetful d = record d { start = without_reasons d.start }

@@ -12,7 +12,7 @@ ghost use Rattle.std.specs.Option.{option_copied, option_to_list};
 ghost use Rattle.pt_shard.specs.ShardState.{came_event};
 ghost use Rattle.pt_signal.specs.declared.config.TheConstants.{MAX_DESKS};
 ghost use Rattle.pt_signal.specs.Boxes.{one_more};
-ghost use Rattle.pt_shard.specs.LedgerState.{Book, wrote, restarted_book, Prepares, HasNoNeed, HasRoomAt, HasRoomFor};
+ghost use Rattle.pt_shard.specs.LedgerState.{Book, wrote, restarted_book, forgetful_book, Prepares, HasNoNeed, HasRoomAt, HasRoomFor};
 ghost use Rattle.pt_shard.specs.LedgerState.{HasLossRoom, HasRoomToAll, HasRoomToEnd, is_of_desk, losing};
 ghost use Rattle.pt_process.specs.Peers.{peers_held};
 ghost use Rattle.pt_shard.specs.LettersState.{LettersState};
@@ -134,6 +134,13 @@ impl Ledger {
         self.origin = self.origin.left_behind(&self.journal);
         self.journal.clear();
         self.clock = start;
+    }
+
+    /// Forgets why the processes exited that had exited before the journal.
+    pub(crate) fn forget_reasons(&mut self)
+        ensures { self.new.book ≡ forgetful_book self.old.book }
+    {
+        self.origin = self.origin.without_reasons();
     }
 
     pub(crate) fn clock(&self) -> u64

@@ -74,6 +74,8 @@
 //!   as it exited, with its reason, and each message that came to a process that was not alive. (`AreLosses`,
 //!   `AddsLosses`)
 //! - **Resuming.** `restart` empties the journal over the state that it leaves. Each process is what it was.
+//! - **Forgetting reasons.** After `forget_reasons` each process is what it was, but the reason of each exited one is
+//!   `noproc`. (`forgetful`)
 #![tactic(auto)]
 
 mod acts;

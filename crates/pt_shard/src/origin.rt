@@ -9,6 +9,7 @@ ghost use Rattle.std.specs.Borrow.{ftrue};
 ghost use Rattle.pt_events.specs.History.{Start};
 ghost use Rattle.pt_events.specs.Journal.{events};
 ghost use Rattle.pt_events.specs.Leaving.{start_after};
+ghost use Rattle.pt_events.specs.Forgetting.{without_reasons};
 
 use pt_events::Journal;
 use std::marker::Model;
@@ -45,6 +46,13 @@ impl Origin {
     {
         // the clause alone reads it
         let _ = journal;
+        Origin {}
+    }
+
+    /// The same start, but that no reason is known of the processes that had exited.
+    pub fn without_reasons(&self) -> Origin
+        ensures { result.start ≡ without_reasons self.now.start }
+    {
         Origin {}
     }
 }

@@ -1,6 +1,6 @@
 //! A desk without its lanes.
 
-ghost use Rattle.std.specs.Prelude.{◌≡◌, true, ◌<◌, ◌≤◌, ◌^◌, ◌-◌, min, length, slice_get, Some, None};
+ghost use Rattle.std.specs.Prelude.{◌≡◌, [], true, ◌<◌, ◌≤◌, ◌^◌, ◌-◌, min, length, slice_get, Some, None};
 ghost use Rattle.std.specs.Prelude.{IfOk, OnOk, drop, Ok, Err, cond, false, is_some, option_to_list, ◌==◌, ◌++◌};
 ghost use Rattle.pt_shard.specs.declared.fault.Fault.TheVariants.{Gone, Myself};
 ghost use Rattle.pt_signal.specs.Values.{same_pid};
@@ -8,10 +8,11 @@ ghost use Rattle.std.specs.Option.{option_copied};
 ghost use Rattle.pt_signal.specs.declared.signal.Signal.{Signal};
 ghost use Rattle.pt_events.specs.declared.event.Event.{Event};
 ghost use Rattle.pt_shard.specs.ShardState.{phase_of, lives, state_in, box, Handles};
-ghost use Rattle.pt_shard.specs.Restart.{restarted};
+ghost use Rattle.pt_shard.specs.Restart.{restarted, forgetful};
 ghost use Rattle.pt_shard.specs.InTurn.{IsInTurn};
 ghost use Rattle.pt_events.specs.History.{is_unborn};
 ghost use Rattle.pt_events.specs.Leaving.{outcome};
+ghost use Rattle.pt_events.specs.Forgetting.{reasonless};
 ghost use Rattle.pt_signal.specs.declared.pid.Pid.{Pid};
 ghost use Rattle.pt_signal.specs.Settings.{IsInRange};
 ghost use Rattle.pt_shard.specs.Opening.{fresh_shard};
@@ -105,6 +106,18 @@ impl Shard {
             ledger,
             processes,
         }
+    }
+
+    /// Forgets why the processes exited that had exited before the journal, which is empty: their reason is `noproc` from
+    /// now on. Each stays exited for ever, and all else is as it was.
+    pub fn forget_reasons(&mut self)
+        requires fresh { self.old.journal ≡ [] }
+        ensures forgets { self.new ≡ forgetful self.old }
+        ensures processes { (p : Pid) → phase_of self.new p ≡ reasonless (phase_of self.old p) }
+        ensures known { (p : Pid) → knows self.new p ≡ knows self.old p }
+        ensures fit { IsFit self.new }
+    {
+        self.ledger.forget_reasons();
     }
 
     /// The number of the desk.

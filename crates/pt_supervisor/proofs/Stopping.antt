@@ -15,9 +15,11 @@ use Rattle.pt_events.specs.declared.event.Stamped.{Stamped}
 use Rattle.pt_events.specs.History.{Past, Start, Phase, unborn, living, ended, at_start, is_ended, is_living, life, alive}
 use Rattle.pt_events.specs.Journal.{IsHome, IsLocal, events}
 use Rattle.pt_events.specs.Leaving.{outcome}
+use Rattle.pt_events.specs.Forgetting.{reasonless}
 use Rattle.pt_laws.specs.Laws.{MergeLegal}
 use Rattle.pt_laws.specs.Links.{IsBornHome}
 use Rattle.pt_laws.specs.LinkLaws.{MergeKnown}
+use Rattle.pt_laws.specs.Resumed.{IsKnownAs}
 use Rattle.pt_shard.specs.ShardState.{ShardState}
 use Rattle.pt_gathered.specs.Gathered.{GatheredState, begins, journals}
 use Rattle.pt_gathered.specs.Pasts.{GoesOnFrom}
@@ -134,6 +136,15 @@ outcome_ended unborn h = h
 outcome_ended (living s) h = h
 outcome_ended (ended r s) h = refl
 
+reasonless_ended : (f : Phase) → is_ended f ≡ true → is_ended (reasonless f) ≡ true
+reasonless_ended unborn h = h
+reasonless_ended (living s) h = h
+reasonless_ended (ended r s) h = refl
+
+known_ended : (f left : Phase) → IsKnownAs f left → is_ended left ≡ true → is_ended f ≡ true
+known_ended f left (inl is) over = ap is_ended is ∙ outcome_ended left over
+known_ended f left (inr is) over = ap is_ended is ∙ reasonless_ended left over
+
 ended_stays : (start : Start) (past : Past) (q : Pid) → is_ended (at_start start q) ≡ true → is_ended (life start past q) ≡ true
 ended_stays start [] q h = h
 ended_stays start (e ∷ past) q h = ended_later q e (life start past q) (ended_stays start past q h)
@@ -144,7 +155,7 @@ gone_before past g from p q same_desk any since =
     let b = from.begun in
     let over : is_ended (life [] b.past q) ≡ true =
     ended_told [] p q same_desk b.past b.left.legal b.known (subst (λ (x : Past). list_any (link_tells p q) x ≡ true) (sym from.past_is) any) in
-    not_alive (life (begins g) since q) (ended_stays (begins g) since q (ap is_ended (b.left.alike q) ∙ outcome_ended (life [] b.past q) over))
+    not_alive (life (begins g) since q) (ended_stays (begins g) since q (known_ended (at_start (begins g) q) (life [] b.past q) (b.left.alike q) over))
 
 module _ {B : Type 0} (part : PartOf B) (law : MergeLegal) (known : MergeKnown) where
   holds_still : (past : Past) (r : Role B) (reason : Reason) (s : Standing) (d : ShardState) → StandsStill (Keeps past part) r d → r.next ≡ Stop reason → part r.behaviour ≡ Some s → HoldsAs past (Some s) (Stop reason) r.pid d

@@ -20,7 +20,7 @@ use Rattle.pt_signal.proofs.Same.{same_pid_is}
 use Rattle.pt_events.proofs.Local.{AllHome}
 use Rattle.pt_events.proofs.Homes.{life_home}
 use Rattle.pt_events.proofs.Telling.{AllLocal, head_local, tail_local, all_home}
-use Rattle.pt_laws.proofs.living.Resumed.{over_alive, over_unborn, over_living, over_flying, over_legal}
+use Rattle.pt_laws.proofs.living.Resumed.{known, over_alive, over_unborn, over_living, over_flying, over_legal}
 use Rattle.pt_events.proofs.Phases.{was_unborn}
 use Rattle.pt_laws.proofs.linking.Takings.{has, empty_entry}
 use Rattle.pt_laws.proofs.linking.Sides.{before, here, over}
@@ -142,7 +142,7 @@ home_joined (_ ∷ new) old h k = home_joined new old h k
 module _ (start : Start) (old : Past) (left : IsLeftBy start old) where
   pub known_joined : (new : Past) → IsKnownSaid start new → IsKnownSaid [] old → IsKnownSaid [] (new ++ old)
   known_joined [] h k = k
-  known_joined (Said a b x ∷ new) h k = (λ e. sym (over_unborn [] start old left.alike new b) ∙ h.0 e, known_joined new h.1 k)
+  known_joined (Said a b x ∷ new) h k = (λ e. sym (over_unborn [] start old (known start old left) new b) ∙ h.0 e, known_joined new h.1 k)
   known_joined (_ ∷ new) h k = known_joined new h k
 
   pub links_over : (new : Past) → IsKnownSaid [] old → IsBornHome old → AllNewTo old new → IsLegal start new
@@ -150,12 +150,12 @@ module _ (start : Start) (old : Past) (left : IsLeftBy start old) where
       → IsKnownSaid start new → IsBornHome new → (p q : Pid) → same_pid p q ≡ false
       → alive start new p ≡ true → LinksAgree start new p q
   links_over new k b fresh_ids l s k2 b2 p q n lives =
-      let joined = over_legal [] start old left.legal left.quiet left.alike new fresh_ids l in
+      let joined = over_legal [] start old left.legal left.quiet (known start old left) new fresh_ids l in
       let free = born_free [] (new ++ old) joined (known_joined new k2 k) (home_joined new old b2 b) in
-      let law = links_agree (new ++ old) joined (sym (over_flying [] start old left.legal left.quiet left.alike new) ∙ s) free p q n
-      (sym (over_alive [] start old left.alike new p) ∙ lives) in
-      let same = over_living [] start old left.alike new p lives in (
-        λ h i. ap (λ f. holds_id (held (state_of f).links q) i) same ∙ law.0 (sym (over_alive [] start old left.alike new q) ∙ h) i
-            ∙ ap (λ f. holds_id (held (state_of f).links p) i) (sym (over_living [] start old left.alike new q h)),
-        λ h. ap (λ f. held (state_of f).links q) same ∙ law.1 (sym (over_alive [] start old left.alike new q) ∙ h),
+      let law = links_agree (new ++ old) joined (sym (over_flying [] start old left.legal left.quiet (known start old left) new) ∙ s) free p q n
+      (sym (over_alive [] start old (known start old left) new p) ∙ lives) in
+      let same = over_living [] start old (known start old left) new p lives in (
+        λ h i. ap (λ f. holds_id (held (state_of f).links q) i) same ∙ law.0 (sym (over_alive [] start old (known start old left) new q) ∙ h) i
+            ∙ ap (λ f. holds_id (held (state_of f).links p) i) (sym (over_living [] start old (known start old left) new q h)),
+        λ h. ap (λ f. held (state_of f).links q) same ∙ law.1 (sym (over_alive [] start old (known start old left) new q) ∙ h),
       )

@@ -1,20 +1,17 @@
 -- Monitors of a history that goes on from another one: those that were open at its start count as made.
-use Rattle.std.proofs.Common.{◌≡◌, ℕ, ◌+◌, ◌≤◌, Bool, true, false, List, [], ◌∷◌, ◌++◌, refl, sym, ap, ◌∙◌, subst, arith, le_refl}
+use Rattle.std.proofs.Common.{◌≡◌, ◌+◌, ◌≤◌, Bool, true, false, [], ◌∷◌, ◌++◌, refl, sym, ap, ◌∙◌, arith}
 use Rattle.std.proofs.lemmas.Bool.{and_parts, both_ways}
 use Rattle.pt_signal.specs.declared.pid.Pid.{Pid}
 use Rattle.pt_signal.specs.declared.ids.Ref.{Ref}
 use Rattle.pt_signal.specs.declared.signal.Signal.{Signal}
-use Rattle.pt_signal.specs.declared.reason.Reason.{Reason}
 use Rattle.pt_signal.specs.Values.{same_pid, same_ref}
-use Rattle.pt_signal.specs.Process.{ProcessState, fresh}
-use Rattle.pt_events.specs.History.{Past, Start, Phase, unborn, living, ended, life, at_start, state, state_of, is_living, arrived_since, alive, IsLegal}
+use Rattle.pt_events.specs.History.{Past, Start, Phase, unborn, living, ended, life, at_start, state, state_of, is_living, is_ended, alive, IsLegal}
 use Rattle.pt_laws.specs.Load.{IsQuiet}
-use Rattle.pt_laws.specs.Resumed.{outcome, AllNewTo, IsLeftBy}
-use Rattle.pt_events.specs.Counting.{count}
-use Rattle.pt_laws.specs.Watch.{is_monitor, is_demonitor, is_down_item, said_times, said_to, is_open, open_in, kept_in}
+use Rattle.pt_laws.specs.Resumed.{reasonless, AllNewTo, IsLeftBy}
+use Rattle.pt_laws.specs.Watch.{is_monitor, said_to, is_open, open_in, kept_in}
 use Rattle.pt_laws.specs.MonitorLaws.{demonitors_and_downs, times_made, QuietMonitorOver}
 use Rattle.pt_laws.proofs.living.Acts.{legal_acts}
-use Rattle.pt_laws.proofs.living.Resumed.{over_legal, over_living, over_end}
+use Rattle.pt_laws.proofs.living.Resumed.{known, life_over, over_life, over_legal, over_living, over_alive}
 use Rattle.pt_laws.proofs.living.StartAfter.{said_times-append}
 use Rattle.pt_laws.proofs.monitoring.Counts.{count_narrower}
 use Rattle.pt_laws.proofs.monitoring.Downs.{opens, count_law}
@@ -30,32 +27,32 @@ open_in_less w t m unborn = omega arith
 open_in_less w t m (living s) = count_narrower (is_open m t) (λ e. same_ref m e.0) (λ e h. (and_parts (same_pid t e.1) (same_ref m e.0) h).1) s.watching
 open_in_less w t m (ended r s) = omega arith
 
-open_outcome : (w t : Pid) (m : Ref) (f : Phase) → open_in w t m (outcome f) ≡ open_in w t m f
-open_outcome w t m unborn = refl
-open_outcome w t m (living s) = refl
-open_outcome w t m (ended r s) = refl
+open_reasonless : (w t : Pid) (m : Ref) (f : Phase) → open_in w t m (reasonless f) ≡ open_in w t m f
+open_reasonless w t m unborn = refl
+open_reasonless w t m (living s) = refl
+open_reasonless w t m (ended r s) = refl
 
 module _ (law : QuietMonitorOver) (start : Start) (old past : Past) (w t : Pid) (m : Ref) (left : IsLeftBy start old) (new : AllNewTo old past)
     (legal : IsLegal start past) (quiet : IsQuiet start past) (lives : alive start past w ≡ true) where
   all_legal : IsLegal [] (past ++ old)
-  all_legal = over_legal [] start old left.legal left.quiet left.alike past new legal
+  all_legal = over_legal [] start old left.legal left.quiet (known start old left) past new legal
 
   -- a live process holds at the start what it held
   same_start : opens m (state_of (at_start start w)).watching ≡ opens m (state [] old w).watching
   same_start = go (life [] old w) refl
     where
       go : (f : Phase) → life [] old w ≡ f → opens m (state_of (at_start start w)).watching ≡ opens m (state [] old w).watching
-      go unborn e = rw (left.alike w, e) refl
-      go (living s) e = rw (left.alike w, e) refl
+      go unborn e = ap (λ f. opens m (state_of f).watching) (over_life [] start old (known start old left) w (ap is_ended e) [])
+      go (living s) e = ap (λ f. opens m (state_of f).watching) (over_life [] start old (known start old left) w (ap is_ended e) [])
       go (ended r s) e =
-          let gone : alive start past w ≡ false = ap is_living (over_end [] start old left.alike w r s e past) in
+          let gone : alive start past w ≡ false = over_alive [] start old (known start old left) past w ∙ ap is_living (life_over [] old w r s e past) in
           absurd (both_ways (alive start past w) gone lives)
 
   same_now : opens m (state start past w).watching ≡ opens m (state [] (past ++ old) w).watching
-  same_now = ap (λ f. opens m (state_of f).watching) (over_living [] start old left.alike past w lives)
+  same_now = ap (λ f. opens m (state_of f).watching) (over_living [] start old (known start old left) past w lives)
 
   open_then : open_in w t m (at_start start w) ≡ open_in w t m (life [] old w)
-  open_then = ap (open_in w t m) (left.alike w) ∙ open_outcome w t m (life [] old w)
+  open_then = sym (open_reasonless w t m (at_start start w)) ∙ ap (open_in w t m) (known start old left w) ∙ open_reasonless w t m (life [] old w)
 
   pub since_start : times_made start past w t m ≡ 1
       → (demonitors_and_downs start past w m + kept_in w t m (life start past t) ≡ 1) × (open_in w t m (life start past w) ≡ kept_in w t m (life start past t))

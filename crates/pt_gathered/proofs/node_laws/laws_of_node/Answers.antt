@@ -1,7 +1,7 @@
--- `laws_of_node`: its clauses `lanes`, `headline`, `legal`, `bounded`, `quiet`, `links`, `watches`, `held`, `answers`, `questions`, `again`, `whole`, `quiet_whole` and `after`.
+-- `laws_of_node`: its clauses `lanes`, `headline`, `legal`, `bounded`, `quiet`, `links`, `watches`, `held`, `answers`, `questions`, `again`, `whole`, `quiet_whole`, `after`, `outline`, `quiet_outline` and `outline_after`.
 use Rattle.pt_gathered.proofs.Lawful.{lanes_agree, keeps_headline, legal_node, is_bounded, quiet_node, links_stand, watches_stand, holdings_stand, answers_hold, questions_answered}
 use Rattle.pt_gathered.proofs.Beginnings.{begins_again}
-use Rattle.pt_gathered.proofs.Pasts.{legal_whole, quiet_whole, begins_after}
+use Rattle.pt_gathered.proofs.Pasts.{legal_whole, quiet_whole, begins_after, legal_outline, quiet_outline, outlines_after}
 use Rattle.pt_gathered.proofs.node_laws.laws_of_node.Goals as goal
 
 pub returns-clause-lanes : goal.returns-clause-lanes
@@ -63,4 +63,20 @@ returns-clause-after c none =
     let quiet = quiet_node c.args.gathered.now whole c.merge_is_legal.ensures c.receipts_lower_the_load.ensures.empty none in
     let new = c.stamps_make_new_ids.ensures in
     begins_after c.args.gathered.now whole quiet c.journals_tell_their_pids.ensures.journals new.new c.resumed_is_legal.ensures.again c.resumed_is_legal.ensures.start
+    c.merge_known.ensures c.resumed_links.ensures.again new.numbers new.both new.open
+
+pub returns-clause-outline : goal.returns-clause-outline
+returns-clause-outline c = legal_outline c.args.gathered.now c.desks-desks.ensures.gathered c.merge_is_legal.ensures c.stamps_make_new_ids.ensures.new
+
+pub returns-clause-quiet_outline : goal.returns-clause-quiet_outline
+returns-clause-quiet_outline c none =
+    let whole = c.desks-desks.ensures.gathered in
+    quiet_outline c.args.gathered.now whole (quiet_node c.args.gathered.now whole c.merge_is_legal.ensures c.receipts_lower_the_load.ensures.empty none) c.stamps_make_new_ids.ensures.new
+
+pub returns-clause-outline_after : goal.returns-clause-outline_after
+returns-clause-outline_after c none =
+    let whole = c.desks-desks.ensures.gathered in
+    let quiet = quiet_node c.args.gathered.now whole c.merge_is_legal.ensures c.receipts_lower_the_load.ensures.empty none in
+    let new = c.stamps_make_new_ids.ensures in
+    outlines_after c.args.gathered.now whole quiet c.journals_tell_their_pids.ensures.journals new.new c.resumed_is_legal.ensures.again c.resumed_is_legal.ensures.start
     c.merge_known.ensures c.resumed_links.ensures.again new.numbers new.both new.open

@@ -1,5 +1,5 @@
 -- `resumed_is_legal`: its clauses `legal`, `same`, `start`, `twice`, `empty` and `again`.
-use Rattle.std.proofs.Common.{refl}
+use Rattle.std.proofs.Common.{inl, refl}
 use Rattle.pt_laws.proofs.living.Resumed.{resumed, same_life, same_end, same_flying, all_new, left_again}
 use Rattle.pt_laws.proofs.living.StartAfter.{is_start, one_entry_each, keeps_once}
 use Rattle.pt_laws.proofs.living.Twice.{twice}
@@ -19,7 +19,7 @@ pub returns-clause-twice : goal.returns-clause-twice
 returns-clause-twice c start one two ok = twice start ok one two
 
 pub returns-clause-empty : goal.returns-clause-empty
-returns-clause-empty c = (record { legal = tt; quiet = refl; alike = λ p. refl }, all_new)
+returns-clause-empty c = (record { legal = tt; quiet = refl; alike = λ p. inl refl }, all_new)
 
 pub returns-clause-again : goal.returns-clause-again
 returns-clause-again c = left_again

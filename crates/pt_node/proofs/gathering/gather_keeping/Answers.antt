@@ -1,4 +1,4 @@
--- `gather_keeping`: its clauses `one`, `tables`, `gathered`, `accounted`, `seated`, `journals`, `reads`, `past` and `back`, and what its calls of `reunite`, `audit_all`, `of` and `make_whole` ask.
+-- `gather_keeping`: its clauses `one`, `tables`, `gathered`, `accounted`, `seated`, `journals`, `reads`, `past`, `outline` and `back`, and what its calls of `reunite`, `audit_all`, `of` and `make_whole` ask.
 use Rattle.std.proofs.Common.{◌≡◌, List, map, get_or, sym, ap, ◌∙◌, subst}
 use Rattle.std.specs.Arc.{arc_value}
 use Rattle.std.proofs.lemmas.Simd.{map-map}
@@ -8,10 +8,10 @@ use Rattle.pt_gathered.specs.Tables.{AreTables}
 use Rattle.pt_desk.specs.DeskState.{DeskState}
 use Rattle.pt_workers.specs.Desks.{AreDesksOf, AreAccounted, AreWhole, all_ends, all_shards}
 use Rattle.pt_node.specs.Gathering.{ReadsAreTrue}
-use Rattle.pt_node.specs.Pasts.{GathersPast}
+use Rattle.pt_node.specs.Pasts.{GathersPast, GathersOutline}
 use Rattle.pt_node.specs.Seating.{Seated, AreSeated, AreOf, AreAudited, all_seats, together}
 use Rattle.pt_node.specs.Keeping.{IsKeptOf}
-use Rattle.pt_node.proofs.Pasts.{gathers_past}
+use Rattle.pt_node.proofs.Pasts.{gathers_past, gathers_outline}
 use Rattle.pt_node.proofs.SeatsOf.{whole_seated, of_one}
 use Rattle.pt_node.proofs.Tables.{are_tables}
 use Rattle.pt_node.proofs.Together.{gathered_whole, reads_true, kept_of, same_journals}
@@ -91,6 +91,18 @@ returns-in-Ok-reunite-clause-past c =
     = subst (AreLeft (all_ends desks)) (sym c.fill.ensures) (subst (λ p. AreLeft p (lists c.in-Ok-reunite.left.lanes.items)) c.take_apart.ensures.pairs c.in-Ok-reunite.ensures.ok) in
     subst (GathersPast desks) (sym c.of-gathered.ensures)
     (gathers_past desks (record { config = c.config-config.result; shards = c.take_apart.new.shards.items; lanes = c.fill.new.lanes.items })
+    (record { node = subst (λ k. AreDesksOf k desks) (sym config_is) node; shards = c.take_apart.ensures.shards; left = left }))
+
+pub returns-in-Ok-reunite-clause-outline : goal.returns-in-Ok-reunite-clause-outline
+returns-in-Ok-reunite-clause-outline c =
+    let desks = c.args.desks.items in
+    let node = c.requires.1 in
+    let r = c.index.result.now in
+    let config_is : c.config-config.result ≡ c.requires.0 = c.config-config.ensures ∙ ap (λ (d : DeskState). d.shard.config) c.index.ensures ∙ node.configs 0 r node.some in
+    let left : AreLeft (all_ends desks) c.fill.new.lanes.items
+    = subst (AreLeft (all_ends desks)) (sym c.fill.ensures) (subst (λ p. AreLeft p (lists c.in-Ok-reunite.left.lanes.items)) c.take_apart.ensures.pairs c.in-Ok-reunite.ensures.ok) in
+    subst (GathersOutline desks) (sym c.of-gathered.ensures)
+    (gathers_outline desks (record { config = c.config-config.result; shards = c.take_apart.new.shards.items; lanes = c.fill.new.lanes.items })
     (record { node = subst (λ k. AreDesksOf k desks) (sym config_is) node; shards = c.take_apart.ensures.shards; left = left }))
 
 pub returns-in-Err-clause-back : goal.returns-in-Err-clause-back

@@ -1,14 +1,8 @@
 -- `forget_all`: its loop over `which`.
-use Rattle.std.proofs.Common.{◌≡◌, ℕ, zero, suc, ◌+◌, ◌<◌, List, [], ◌∷◌, ◌++◌, length, map, take, drop, set, get_or, sym, ap, ◌∙◌, arith}
-use Rattle.pt_accounts.specs.DeskLives.{DeskTable, all_forgotten}
+use Rattle.std.proofs.Common.{◌≡◌, suc, ◌+◌, ◌++◌, map, take, drop, set, get_or, sym, ap, ◌∙◌, arith}
+use Rattle.pt_accounts.specs.DeskLives.{all_forgotten}
+use Rattle.pt_node.proofs.Walked.{walked}
 use Rattle.pt_node.proofs.resuming.forget_all.Goals as goal
-
--- one more of a list is changed
-walked : (f : DeskTable → DeskTable) (xs : List DeskTable) (k : ℕ) (x y : DeskTable) → k < length xs → x ≡ get_or (map f (take k xs) ++ drop k xs) k x → y ≡ f x
-    → set (map f (take k xs) ++ drop k xs) k y ≡ map f (take (suc k) xs) ++ drop (suc k) xs
-walked f [] k x y h is gives = absurd (omega arith)
-walked f (z ∷ xs) zero x y h is gives = ap (λ w. w ∷ xs) (gives ∙ ap f is)
-walked f (z ∷ xs) (suc k) x y h is gives = ap (λ w. f z ∷ w) (walked f xs k x y (omega arith) is gives)
 
 pub loop-which-preserved : goal.loop-which-preserved
 loop-which-preserved c =

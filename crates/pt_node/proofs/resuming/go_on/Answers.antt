@@ -45,5 +45,5 @@ returns c =
     let pairs = c.requires.pairs in
     let above = subst (λ k. (d : ℕ) → clock g.config.start (journals g d) ≤ k) (c.clock-clock.ensures.latest ∙ sym c.requires.latest) c.clock-clock.ensures.journals in
     resumed_desks g told.gathered n (map all_forgotten lives) seats c.requires.seats
-    told.gathered.some (c.laws.ensures.again n above) (λ past merged from m. c.laws.ensures.after past merged n from m above) c.args.room.pairs.items pairs.count pairs.node pairs.new
+    told.gathered.some (c.laws.ensures.again n above) (λ past merged from m. c.laws.ensures.after past merged n from m above) (λ past merged from m. c.laws.ensures.outline_after past merged n from m above) c.args.room.pairs.items pairs.count pairs.node pairs.new
     c.make_whole.new.desks.items c.make_whole.ensures.pairs (c.make_whole.ensures.shards ∙ are) c.make_whole.ensures.seats

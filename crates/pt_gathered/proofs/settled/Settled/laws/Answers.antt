@@ -1,8 +1,8 @@
--- `Settled::laws`: its clauses `nothing_left`, `lanes`, `headline`, `quiet`, `links`, `watches`, `answers`, `questions`, `again`, `whole` and `after`.
+-- `Settled::laws`: its clauses `nothing_left`, `lanes`, `headline`, `quiet`, `links`, `watches`, `answers`, `questions`, `again`, `whole`, `after`, `outline` and `outline_after`.
 use Rattle.std.proofs.Common.{subst}
 use Rattle.pt_gathered.specs.Settling.{NothingLeft}
 use Rattle.pt_gathered.specs.Lawful.{LanesKeep, KeepsHeadline, IsQuietNode, LinksStand, WatchesStand, HoldingsStand, AnswersHold, QuestionsAnswered, BeginsAgain}
-use Rattle.pt_gathered.specs.Pasts.{IsQuietWhole, BeginsAgainAfter}
+use Rattle.pt_gathered.specs.Pasts.{IsQuietWhole, BeginsAgainAfter, IsQuietOutline, OutlinesAgainAfter}
 use Rattle.pt_gathered.specs.Quiet.{QuietState}
 use Rattle.pt_gathered.proofs.settled.Settled.laws.Goals as goal
 
@@ -41,3 +41,9 @@ returns-clause-whole c = subst (λ (q : QuietState). IsQuietWhole q.gathered) c.
 
 pub returns-clause-after : goal.returns-clause-after
 returns-clause-after c = subst (λ (q : QuietState). BeginsAgainAfter q.gathered) c.self.view_is (c.laws_of_node.ensures.after c.self.invariant.nothing_left)
+
+pub returns-clause-outline : goal.returns-clause-outline
+returns-clause-outline c = subst (λ (q : QuietState). IsQuietOutline q.gathered) c.self.view_is (c.laws_of_node.ensures.quiet_outline c.self.invariant.nothing_left)
+
+pub returns-clause-outline_after : goal.returns-clause-outline_after
+returns-clause-outline_after c = subst (λ (q : QuietState). OutlinesAgainAfter q.gathered) c.self.view_is (c.laws_of_node.ensures.outline_after c.self.invariant.nothing_left)

@@ -1,7 +1,7 @@
--- `Node::gather_keeping`: its clauses `still` and `past`.
+-- `Node::gather_keeping`: its clauses `still`, `past` and `outline`.
 use Rattle.std.proofs.Common.{subst}
 use Rattle.pt_node.specs.Gathering.{Gathers}
-use Rattle.pt_node.specs.Pasts.{GathersPast}
+use Rattle.pt_node.specs.Pasts.{GathersPast, GathersOutline}
 use Rattle.pt_node.proofs.Leftless.{still_gathered}
 use Rattle.pt_node.proofs.node.Node.gather_keeping.Goals as goal
 
@@ -12,3 +12,6 @@ returns-in-Ok-clause-still c = λ still.
 
 pub returns-in-Ok-clause-past : goal.returns-in-Ok-clause-past
 returns-in-Ok-clause-past c = subst (λ desks. GathersPast desks c.in-Ok.both.0) c.self.view_is c.in-Ok.ensures.past
+
+pub returns-in-Ok-clause-outline : goal.returns-in-Ok-clause-outline
+returns-in-Ok-clause-outline c = subst (λ desks. GathersOutline desks c.in-Ok.both.0) c.self.view_is c.in-Ok.ensures.outline
