@@ -32,8 +32,8 @@
 //! - **In every merge.** Each of these is what the definitions give for every merge of the journals.
 //! - **Order.** `Lives::pids` lists the pids by desk, slot and version.
 //! - **Reading on.** `DeskLives::read` reads each event once, and `forget` makes the start of the next journal.
-//! - **Forgetting reasons.** After `forget_reasons` each process is there as before. An exited one stays exited, and its
-//!   reason is `noproc`. (`BeginsBare`)
+//! - **Forgetting reasons.** After `forget_reasons` each process is there as before. An exited one stays exited, and
+//!   its reason is `noproc`. (`BeginsBare`)
 #![tactic(auto)]
 
 mod account;

@@ -8,8 +8,8 @@ use Rattle.pt_events.specs.OldRefs.{HasOldRefs}
 use Rattle.pt_laws.specs.Resumed.{IsLeftBy, MadeUpTo}
 use Rattle.pt_laws.specs.Words.{HasOneEntryEach, KeepsEachOnce}
 
--- a legal and quiet history, as desks make them, has left it behind, and what was made before is numbered up to low; why
--- processes ended may be forgotten
+-- a legal and quiet history, as desks make them, has left it behind, and what was made before is numbered up to low;
+-- why processes ended may be forgotten
 pub record IsBeginning (low : ℕ) (start : Start) : Type 0 where
   pub past : Past
   pub left : IsLeftBy start past

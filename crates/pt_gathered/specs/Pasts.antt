@@ -57,8 +57,8 @@ BeginsAgainAfter g =
 abbrev pub GoesOnBut : Past → GatheredState → Type 0
 GoesOnBut past g = IsOutlineOf past g.config.start (begins g)
 
--- all that is said above of a node that forgot nothing, but for the reasons: it is one legal history, in which the letters
--- left over are those in flight
+-- all that is said above of a node that forgot nothing, but for the reasons: it is one legal history, in which the
+-- letters left over are those in flight
 abbrev pub IsLegalOutline : GatheredState → Type 0
 IsLegalOutline g =
     (past : Past) (merged : List Stamped) → GoesOnBut past g → IsMerge (journals g) merged

@@ -56,8 +56,8 @@
 //! [`resume_kept`] keep the directory of exited processes too, so that nothing is made anew for slots that were never
 //! used.
 //!
-//! [`resume_forgetting`] also forgets why processes exited. So a program whose exit reasons never repeat keeps no more of
-//! its exited processes than one whose reasons do.
+//! [`resume_forgetting`] also forgets why processes exited. So a program whose exit reasons never repeat keeps no more
+//! of its exited processes than one whose reasons do.
 //!
 //! Tests: `checks/rows`, `checks/tried/test_calls/nodes.rt.txt`, `checks/tried/test_calls/opening.rt.txt` and
 //! `crates/test_calls/src/nodes.rt`.
@@ -70,7 +70,7 @@
 //!   and clocks continue. `resume_settled` does the same from a settled node without a list of its pids. (`AreResumed`)
 //! - **Keeping.** `resume_kept` does what `resume_settled` does, in the directory that was kept when the node was
 //!   gathered. No exit is reported anew but those that settling brought. (`IsKeptFor`)
-//! - **Forgetting reasons.** `resume_forgetting` makes the same desks, but the reason of each exited process is `noproc`.
+//! - **Forgetting reasons.** `resume_forgetting` makes the same desks, but the reason of each exited one is `noproc`.
 //!   The laws of a quiet node hold over them, and its history goes on. (`ResumesForgetful`)
 //! - **The node's calls.** Each call of `Node` does what the call of the pid's desk does, and the other desks stay. It
 //!   has no precondition. (`CallsAt`, `CallsTo`)

@@ -108,8 +108,8 @@ impl Shard {
         }
     }
 
-    /// Forgets why the processes exited that had exited before the journal, which is empty: their reason is `noproc` from
-    /// now on. Each stays exited for ever, and all else is as it was.
+    /// Forgets why the processes exited that had exited before the journal, which is empty: their reason is `noproc`
+    /// from now on. Each stays exited for ever, and all else is as it was.
     pub fn forget_reasons(&mut self)
         requires fresh { self.old.journal ≡ [] }
         ensures forgets { self.new ≡ forgetful self.old }
