@@ -1,5 +1,6 @@
 -- What contracts see of a directory and of a seat.
-use Rattle.std.specs.Prelude.{◌≡◌, ℕ, ◌&&◌, cond, eqb, nat_lt, ◌<◌, ◌≤◌, List, [], ◌∷◌, ◌++◌, take, drop, filter, Option, MatchOption, All}
+use Rattle.std.specs.Prelude.{◌≡◌, ℕ, ◌&&◌, cond, eqb, nat_lt, ◌<◌, ◌≤◌, List, [], ◌∷◌, ◌++◌, take, drop, filter}
+use Rattle.std.specs.Prelude.{Option, MatchOption, All}
 use mathlib.Core.Option.{some}
 use lib.ListN.{get_elem?}
 use Rattle.atomic_table.specs.Seated.{TableId}
@@ -7,7 +8,8 @@ use Rattle.pt_signal.specs.declared.pid.Pid.{Pid}
 use Rattle.pt_directory.specs.declared.view.Read.{Read}
 use Rattle.pt_directory.specs.declared.view.Death.{Death}
 use Rattle.pt_directory.specs.declared.view.View.{View}
-use Rattle.pt_directory.specs.Views.{new_death, new_read, is_of, deaths_at, last_version, Covers, first_deaths, later_deaths}
+use Rattle.pt_directory.specs.Views.{new_death, new_read, is_of, deaths_at, last_version, Covers}
+use Rattle.pt_directory.specs.Views.{first_deaths, later_deaths}
 
 -- which directory it is: the name is its own, whatever directories there are
 pub record DirectoryState : Type 0 where

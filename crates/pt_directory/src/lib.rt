@@ -14,7 +14,7 @@
 //!
 //! A seat is used by one thread at a time, through `&mut`. It may be moved or lent to any thread, and different seats
 //! may step at the same time, each with the shared directory. Only the home of a desk tells of that desk's deaths. No
-//! call waits for another thread, and only `open` and `reopen` take memory.
+//! call waits for another thread, and only `open`, `reopen` and `go_on` take memory.
 //!
 //! # What holds
 //!
@@ -26,7 +26,8 @@
 //! # Cost
 //!
 //! A probe is one load, or two where the process has ended; a death is two stores. The two words of a slot stand
-//! beside each other, in 16 bytes a slot, and `open` takes twice that while it makes them.
+//! beside each other, in 16 bytes a slot, and `open` takes twice that while it makes them. Seats that were joined are
+//! made anew by [`Directory::go_on`] in the same words, at a load for each desk and for each pid that it is given.
 //!
 //! Tests: `checks/tried/test_calls/directory.rt.txt` and `checks/rows/refused.txt`.
 //!
@@ -39,13 +40,16 @@
 //! - **Answers are true.** Once the seats are joined, `audit` shows that each process read as exited had exited, no
 //!   later than the stamp that was read.
 //! - **Resuming.** `reopen` makes a directory that has the latest exit of each slot.
+//! - **Keeping.** `go_on` makes the seats anew in the same directory. Each has told what was told of its desk before, and
+//!   of the given exits those that were not told yet. (`late_seat`)
 //!
 //! # For proofs above
 //!
 //! A contract sees a directory as `DirectoryState` and a seat as `SeatState` of `specs/Seats.antt`: whose home the seat
 //! is, its reads and the deaths it told, oldest first. Each call adds what it did at the end of one list. A crate above
 //! keeps that the deaths are those of a desk's journal, and for each of its own claims that somebody has ended a read
-//! with a smaller stamp; joining the seats and an audit then turn each of these reads into a death of some journal.
+//! with a smaller stamp; joining the seats and an audit then turn each of these reads into a death of some journal. The
+//! mark of a seat is for that crate alone: it parts the deaths before a journal from those of the journal.
 //! The rule that all steps keep is `specs/Rule.antt`.
 #![tactic(auto)]
 

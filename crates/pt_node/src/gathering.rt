@@ -147,8 +147,8 @@ pub fn gather(alloc: Global, desks: Vec<Desk>) -> Result<Gathered, DesksBack>
     }
 }
 
-/// Brings the desks of a node together, as [`gather`] does, and returns what is kept of their directory too. So the node
-/// that was settled can be resumed by [`resume_kept`](crate::resume_kept), which makes no directory anew.
+/// Brings the desks of a node together, as [`gather`] does, and returns what is kept of their directory too. So once the
+/// node is settled, [`resume_kept`](crate::resume_kept) resumes it and makes no directory anew.
 pub fn gather_keeping(alloc: Global, desks: Vec<Desk>) -> Result<(Gathered, Kept), DesksBack>
     requires { AreDesks desks.items }
     ensures gathers { IfOk result (λ r. Gathers desks.items r.0) }

@@ -120,9 +120,9 @@ pub fn resume_settled(alloc: Global, settled: Settled) -> Result<Vec<Desk>, Rest
     }
 }
 
-/// Continues from a settled node as [`resume_settled`] does, in the directory that was kept when it was gathered. So time
-/// and memory grow with what happened since the desks were opened or resumed last and with the live processes, and the
-/// directory costs nothing for its slots.
+/// Continues from a settled node as [`resume_settled`] does, in the directory that was kept when it was gathered. So
+/// time and memory grow with what happened since the desks were opened or resumed last, with the live processes and
+/// with the slots that were ever used. A slot that was never used costs nothing.
 ///
 /// Fails only if there is no memory: the settled node then comes back, as it was. What was kept is dropped, and
 /// `resume_settled` resumes the node.
