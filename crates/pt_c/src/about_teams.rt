@@ -1,53 +1,17 @@
 //! What the library reports of the codes and structs of teams, so that a header or a wrapper can be compared with it.
 
 ghost use Rattle.std.specs.Prelude.{◌≡◌};
-ghost use Rattle.pt_c.specs.AboutTeams.{all_team_codes, sample_child, sample_child_spec, sample_notice, sample_supervisor_spec};
+ghost use Rattle.pt_calls.specs.AboutTeams.{all_team_codes, sample_child, sample_child_spec, sample_notice, sample_supervisor_spec};
 
-use crate::about::{pt_about_job, sample_pid};
-use pt_supervisor::{Restart, Shutdown, Strategy};
-use pt_team_handles::crossing::{restart_code, shutdown_code, strategy_code};
+use pt_calls::about_teams::{self, PtTeamCodes};
 use pt_team_handles::types::{PtChild, PtChildSpec, PtNotice, PtSupervisorSpec};
-use std::mem::size_of;
-
-/// Each code of supervisors, and the size of each struct of teams that crosses, in bytes.
-#[repr(C)]
-#[derive(Clone, Copy)]
-pub struct PtTeamCodes {
-    pub one_for_one: u32,
-    pub one_for_all: u32,
-    pub rest_for_one: u32,
-    pub permanent: u32,
-    pub transient: u32,
-    pub temporary: u32,
-    pub infinity: u32,
-    pub after: u32,
-    pub brutal_kill: u32,
-    pub supervisor_spec: usize,
-    pub child_spec: usize,
-    pub child: usize,
-    pub notice: usize,
-}
 
 /// Writes each code, from the same functions as the calls, and the sizes.
 #[unsafe(no_mangle)]
 pub extern "C" fn pt_about_teams(out: &mut PtTeamCodes)
     ensures { out.new ≡ all_team_codes }
 {
-    *out = PtTeamCodes {
-        one_for_one: strategy_code(Strategy::OneForOne),
-        one_for_all: strategy_code(Strategy::OneForAll),
-        rest_for_one: strategy_code(Strategy::RestForOne),
-        permanent: restart_code(Restart::Permanent),
-        transient: restart_code(Restart::Transient),
-        temporary: restart_code(Restart::Temporary),
-        infinity: shutdown_code(Shutdown::Infinity),
-        after: shutdown_code(Shutdown::After(0)),
-        brutal_kill: shutdown_code(Shutdown::BrutalKill),
-        supervisor_spec: size_of::<PtSupervisorSpec>(),
-        child_spec: size_of::<PtChildSpec>(),
-        child: size_of::<PtChild>(),
-        notice: size_of::<PtNotice>(),
-    };
+    about_teams::teams(out);
 }
 
 /// Writes a sample of a supervisor: its fields have the numbers 1, 2, 3 and so on in order, a bool being true.
@@ -55,14 +19,7 @@ pub extern "C" fn pt_about_teams(out: &mut PtTeamCodes)
 pub extern "C" fn pt_about_supervisor_spec(out: &mut PtSupervisorSpec)
     ensures { out.new ≡ sample_supervisor_spec }
 {
-    *out = PtSupervisorSpec {
-        strategy: 1,
-        timed: true,
-        has_parent: true,
-        parent: sample_pid(4),
-        most: 7,
-        span: 8,
-    };
+    about_teams::supervisor_spec(out);
 }
 
 /// Writes a sample of what a supervisor knows of a child: its fields have the numbers 1, 2, 3 and so on in order.
@@ -70,12 +27,7 @@ pub extern "C" fn pt_about_supervisor_spec(out: &mut PtSupervisorSpec)
 pub extern "C" fn pt_about_child_spec(out: &mut PtChildSpec)
     ensures { out.new ≡ sample_child_spec }
 {
-    *out = PtChildSpec {
-        tag: 1,
-        restart: 2,
-        shutdown: 3,
-        time: 4,
-    };
+    about_teams::child_spec(out);
 }
 
 /// Writes a sample of a child: its fields have the numbers 1, 2, 3 and so on in order, a bool being true.
@@ -83,14 +35,7 @@ pub extern "C" fn pt_about_child_spec(out: &mut PtChildSpec)
 pub extern "C" fn pt_about_child(out: &mut PtChild)
     ensures { out.new ≡ sample_child }
 {
-    *out = PtChild {
-        has_pid: true,
-        wanted: true,
-        pid: sample_pid(3),
-        restart: 6,
-        shutdown: 7,
-        time: 8,
-    };
+    about_teams::child(out);
 }
 
 /// Writes a sample of a notice: its fields have the numbers 1, 2, 3 and so on in order, a bool being true.
@@ -98,8 +43,5 @@ pub extern "C" fn pt_about_child(out: &mut PtChild)
 pub extern "C" fn pt_about_notice(out: &mut PtNotice)
     ensures { out.new ≡ sample_notice }
 {
-    pt_about_job(&mut out.job);
-    out.has_supervisor = true;
-    out.again = true;
-    out.supervisor = sample_pid(36);
+    about_teams::notice(out);
 }

@@ -10,14 +10,11 @@ ghost use Rattle.pt_asking.specs.Calls.{AsksServer, ExpiresCode, HearsItem, Read
 ghost use Rattle.pt_asking.specs.About.{asking_about};
 
 use pt_asking::about::{PtAskingAbout, about};
-use pt_asking::asking::{ask, ask_until};
-use pt_asking::hearing::{expire, hear};
-use pt_asking::replying::{reply, request_of};
+use pt_asking::replying::request_of;
 use pt_asking::types::{PtCall, PtHeard, PtRequest};
-use pt_structs::codes::EMPTY;
-use pt_structs::crossing::pid_in;
+use pt_calls::asking;
 use pt_structs::types::{PtItem, PtPid};
-use pt_table::desk_handle::{DeskHandle, claim, hold};
+use pt_table::desk_handle::DeskHandle;
 use std::alloc::Global;
 
 /// Asks a server, as `Pending::ask` does: it monitors the server, and sends the request under the monitor's number. It
@@ -34,15 +31,7 @@ pub extern "C" fn pt_ask(
     ensures { CallsThrough h.old.state h.new.state result (out.new ≡ out.old)
         (AsksServer (pid_crossed me) (pid_crossed server) asks false 0 result out.old out.new) }
 {
-    let Some(mut place) = claim(alloc, h) else {
-        return EMPTY;
-    };
-    let code = match &mut place.desk {
-        Some(desk) => ask(desk, pid_in(me), pid_in(server), asks, out),
-        None => EMPTY,
-    };
-    *h = hold(place);
-    code
+    asking::ask(alloc, h, me, server, asks, out)
 }
 
 /// Asks a server, as `Pending::ask_until` does: the call ends at the moment `deadline` if it is open then.
@@ -59,15 +48,7 @@ pub extern "C" fn pt_ask_until(
     ensures { CallsThrough h.old.state h.new.state result (out.new ≡ out.old)
         (AsksServer (pid_crossed me) (pid_crossed server) asks true deadline result out.old out.new) }
 {
-    let Some(mut place) = claim(alloc, h) else {
-        return EMPTY;
-    };
-    let code = match &mut place.desk {
-        Some(desk) => ask_until(desk, pid_in(me), pid_in(server), asks, deadline, out),
-        None => EMPTY,
-    };
-    *h = hold(place);
-    code
+    asking::ask_until(alloc, h, me, server, asks, deadline, out)
 }
 
 /// Reads an item that the client got, as `Pending::hear` does. It writes to `out` what the item means to the call, and the
@@ -83,15 +64,7 @@ pub extern "C" fn pt_hear(
     ensures { CallsThrough h.old.state h.new.state result ((call.new ≡ call.old) × (out.new ≡ out.old))
         (HearsItem item result call.old call.new out.old out.new) }
 {
-    let Some(mut place) = claim(alloc, h) else {
-        return EMPTY;
-    };
-    let code = match &mut place.desk {
-        Some(desk) => hear(desk, call, item, out),
-        None => EMPTY,
-    };
-    *h = hold(place);
-    code
+    asking::hear(alloc, h, call, item, out)
 }
 
 /// Reports the time, as `Pending::expire` does. It writes to `out` whether the call ends by its deadline now.
@@ -106,15 +79,7 @@ pub extern "C" fn pt_expire(
     ensures { CallsThrough h.old.state h.new.state result ((call.new ≡ call.old) × (out.new ≡ out.old))
         (ExpiresCode now result call.old call.new out.new) }
 {
-    let Some(mut place) = claim(alloc, h) else {
-        return EMPTY;
-    };
-    let code = match &mut place.desk {
-        Some(desk) => expire(desk, call, now, out),
-        None => EMPTY,
-    };
-    *h = hold(place);
-    code
+    asking::expire(alloc, h, call, now, out)
 }
 
 /// The request that the item is, as `request_of` returns it; 8 if it is none.
@@ -136,15 +101,7 @@ pub extern "C" fn pt_reply(
 ) -> u32
     ensures { CallsThrough h.old.state h.new.state result (Unit {0}) (RepliesCode (pid_crossed me) request n result) }
 {
-    let Some(mut place) = claim(alloc, h) else {
-        return EMPTY;
-    };
-    let code = match &mut place.desk {
-        Some(desk) => reply(desk, pid_in(me), request, n),
-        None => EMPTY,
-    };
-    *h = hold(place);
-    code
+    asking::reply(alloc, h, me, request, n)
 }
 
 /// Writes a sample of each struct of calls, and its size: the fields have the numbers 1, 2, 3 and so on in order, a bool being

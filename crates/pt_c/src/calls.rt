@@ -9,14 +9,9 @@ ghost use Rattle.pt_table.specs.Answers.{CallsThrough, SpawnsOnDesk, SpawnsChild
 ghost use Rattle.pt_table.specs.Answers.{AsksOnDesk, Traps, TakesOnDesk, Exits, TurnsOnce};
 ghost use Rattle.pt_structs.specs.Crossing.{pid_crossed, ref_in, body_in};
 
-use pt_structs::codes::{DONE, EMPTY};
-use pt_structs::crossing::{body_in, pid_in, ref_in};
+use pt_calls::desks;
 use pt_structs::types::{PtBody, PtItem, PtPick, PtPid, PtReason, PtRef, PtTurned};
-use pt_table::desk_handle::{DeskHandle, claim, hold};
-use pt_table::doing::{
-    ask_alive, demonitor, exit, exit_signal, link, monitor, receive, send, spawn, spawn_child,
-    trap, turn, unlink,
-};
+use pt_table::desk_handle::DeskHandle;
 use std::alloc::Global;
 
 /// Spawns a process without a parent, as `Desk::spawn` does. It writes the pid to `out` if it returns 0.
@@ -24,15 +19,7 @@ use std::alloc::Global;
 pub extern "C" fn pt_spawn(alloc: Global, h: &mut DeskHandle, out: &mut PtPid) -> u32
     ensures { CallsThrough h.old.state h.new.state result (out.new ≡ out.old) (SpawnsOnDesk result out.old out.new) }
 {
-    let Some(mut place) = claim(alloc, h) else {
-        return EMPTY;
-    };
-    let code = match &mut place.desk {
-        Some(desk) => spawn(desk, out),
-        None => EMPTY,
-    };
-    *h = hold(place);
-    code
+    desks::spawn(alloc, h, out)
 }
 
 /// Spawns a child of the parent, linked with it if `linked` is true, as `Desk::spawn_child` does. It writes the pid to
@@ -48,15 +35,7 @@ pub extern "C" fn pt_spawn_child(
     ensures { CallsThrough h.old.state h.new.state result (out.new ≡ out.old)
         (SpawnsChild (pid_crossed parent) linked result out.old out.new) }
 {
-    let Some(mut place) = claim(alloc, h) else {
-        return EMPTY;
-    };
-    let code = match &mut place.desk {
-        Some(desk) => spawn_child(desk, pid_in(parent), linked, out),
-        None => EMPTY,
-    };
-    *h = hold(place);
-    code
+    desks::spawn_child(alloc, h, parent, linked, out)
 }
 
 /// Sends a message, as `Desk::send` does.
@@ -70,15 +49,7 @@ pub extern "C" fn pt_send(
 ) -> u32
     ensures { CallsThrough h.old.state h.new.state result (Unit {0}) (SendsOnDesk (pid_crossed from) (pid_crossed to) (body_in body) result) }
 {
-    let Some(mut place) = claim(alloc, h) else {
-        return EMPTY;
-    };
-    let code = match &mut place.desk {
-        Some(desk) => send(desk, pid_in(from), pid_in(to), body_in(body)),
-        None => EMPTY,
-    };
-    *h = hold(place);
-    code
+    desks::send(alloc, h, from, to, body)
 }
 
 /// Sends an exit signal that no link carries, as `Desk::exit_signal` does. It returns 16 if the code in `reason` is that
@@ -94,15 +65,7 @@ pub extern "C" fn pt_exit_signal(
     ensures { CallsThrough h.old.state h.new.state result (Unit {0})
         (SendsExit (pid_crossed from) (pid_crossed to) reason result) }
 {
-    let Some(mut place) = claim(alloc, h) else {
-        return EMPTY;
-    };
-    let code = match &mut place.desk {
-        Some(desk) => exit_signal(desk, pid_in(from), pid_in(to), reason),
-        None => EMPTY,
-    };
-    *h = hold(place);
-    code
+    desks::exit_signal(alloc, h, from, to, reason)
 }
 
 /// Links p with another process, as `Desk::link` does.
@@ -110,15 +73,7 @@ pub extern "C" fn pt_exit_signal(
 pub extern "C" fn pt_link(alloc: Global, h: &mut DeskHandle, p: PtPid, to: PtPid) -> u32
     ensures { CallsThrough h.old.state h.new.state result (Unit {0}) (Links (pid_crossed p) (pid_crossed to) result) }
 {
-    let Some(mut place) = claim(alloc, h) else {
-        return EMPTY;
-    };
-    let code = match &mut place.desk {
-        Some(desk) => link(desk, pid_in(p), pid_in(to)),
-        None => EMPTY,
-    };
-    *h = hold(place);
-    code
+    desks::link(alloc, h, p, to)
 }
 
 /// Removes the link of p with another process, as `Desk::unlink` does.
@@ -126,15 +81,7 @@ pub extern "C" fn pt_link(alloc: Global, h: &mut DeskHandle, p: PtPid, to: PtPid
 pub extern "C" fn pt_unlink(alloc: Global, h: &mut DeskHandle, p: PtPid, to: PtPid) -> u32
     ensures { CallsThrough h.old.state h.new.state result (Unit {0}) (Unlinks (pid_crossed p) (pid_crossed to) result) }
 {
-    let Some(mut place) = claim(alloc, h) else {
-        return EMPTY;
-    };
-    let code = match &mut place.desk {
-        Some(desk) => unlink(desk, pid_in(p), pid_in(to)),
-        None => EMPTY,
-    };
-    *h = hold(place);
-    code
+    desks::unlink(alloc, h, p, to)
 }
 
 /// Monitors a process, as `Desk::monitor` does. It writes the reference to `out` if it returns 0.
@@ -149,15 +96,7 @@ pub extern "C" fn pt_monitor(
     ensures { CallsThrough h.old.state h.new.state result (out.new ≡ out.old)
         (WatchesOnDesk (pid_crossed w) (pid_crossed t) result out.old out.new) }
 {
-    let Some(mut place) = claim(alloc, h) else {
-        return EMPTY;
-    };
-    let code = match &mut place.desk {
-        Some(desk) => monitor(desk, pid_in(w), pid_in(t), out),
-        None => EMPTY,
-    };
-    *h = hold(place);
-    code
+    desks::monitor(alloc, h, w, t, out)
 }
 
 /// Cancels a monitor, as `Desk::demonitor` does. It writes to `wrote` whether there was an event, if it returns 0.
@@ -173,15 +112,7 @@ pub extern "C" fn pt_demonitor(
     ensures { CallsThrough h.old.state h.new.state result (wrote.new ≡ wrote.old)
         (UnwatchesOnDesk (pid_crossed w) (ref_in monitor) flush result wrote.old wrote.new) }
 {
-    let Some(mut place) = claim(alloc, h) else {
-        return EMPTY;
-    };
-    let code = match &mut place.desk {
-        Some(desk) => demonitor(desk, pid_in(w), ref_in(monitor), flush, wrote),
-        None => EMPTY,
-    };
-    *h = hold(place);
-    code
+    desks::demonitor(alloc, h, w, monitor, flush, wrote)
 }
 
 /// Asks whether a process is alive, as `Desk::ask_alive` does. It writes the reference to `out` if it returns 0.
@@ -196,15 +127,7 @@ pub extern "C" fn pt_ask_alive(
     ensures { CallsThrough h.old.state h.new.state result (out.new ≡ out.old)
         (AsksOnDesk (pid_crossed p) (pid_crossed t) result out.old out.new) }
 {
-    let Some(mut place) = claim(alloc, h) else {
-        return EMPTY;
-    };
-    let code = match &mut place.desk {
-        Some(desk) => ask_alive(desk, pid_in(p), pid_in(t), out),
-        None => EMPTY,
-    };
-    *h = hold(place);
-    code
+    desks::ask_alive(alloc, h, p, t, out)
 }
 
 /// Sets whether p traps exits, as `Desk::trap` does. It writes to `was` whether p did before, if it returns 0.
@@ -218,15 +141,7 @@ pub extern "C" fn pt_trap(
 ) -> u32
     ensures { CallsThrough h.old.state h.new.state result (was.new ≡ was.old) (Traps (pid_crossed p) on result was.old was.new) }
 {
-    let Some(mut place) = claim(alloc, h) else {
-        return EMPTY;
-    };
-    let code = match &mut place.desk {
-        Some(desk) => trap(desk, pid_in(p), on, was),
-        None => EMPTY,
-    };
-    *h = hold(place);
-    code
+    desks::trap(alloc, h, p, on, was)
 }
 
 /// Takes the first matching item, as `Desk::receive` does. It writes the item to `out` if it returns 0, and returns 8
@@ -242,15 +157,7 @@ pub extern "C" fn pt_receive(
     ensures { CallsThrough h.old.state h.new.state result (out.new ≡ out.old)
         (TakesOnDesk (pid_crossed p) pick result out.old out.new) }
 {
-    let Some(mut place) = claim(alloc, h) else {
-        return EMPTY;
-    };
-    let code = match &mut place.desk {
-        Some(desk) => receive(desk, pid_in(p), pick, out),
-        None => EMPTY,
-    };
-    *h = hold(place);
-    code
+    desks::receive(alloc, h, p, pick, out)
 }
 
 /// Makes p exit, as `Desk::exit` does. It returns 16 if the code in `reason` is that of no reason, and then nothing has
@@ -259,15 +166,7 @@ pub extern "C" fn pt_receive(
 pub extern "C" fn pt_exit(alloc: Global, h: &mut DeskHandle, p: PtPid, reason: PtReason) -> u32
     ensures { CallsThrough h.old.state h.new.state result (Unit {0}) (Exits (pid_crossed p) reason result) }
 {
-    let Some(mut place) = claim(alloc, h) else {
-        return EMPTY;
-    };
-    let code = match &mut place.desk {
-        Some(desk) => exit(desk, pid_in(p), reason),
-        None => EMPTY,
-    };
-    *h = hold(place);
-    code
+    desks::exit(alloc, h, p, reason)
 }
 
 /// Posts letters, and then handles at most `budget` letters, as `Desk::turn` does. It writes to `out` what it did if it
@@ -277,16 +176,5 @@ pub extern "C" fn pt_turn(alloc: Global, h: &mut DeskHandle, budget: u32, out: &
     ensures { CallsThrough h.old.state h.new.state result (out.new ≡ out.old)
         (λ old new. (result ≡ 0) × TurnsOnce budget out.new old new) }
 {
-    let Some(mut place) = claim(alloc, h) else {
-        return EMPTY;
-    };
-    let code = match &mut place.desk {
-        Some(desk) => {
-            *out = turn(desk, budget);
-            DONE
-        }
-        None => EMPTY,
-    };
-    *h = hold(place);
-    code
+    desks::turn(alloc, h, budget, out)
 }

@@ -7,24 +7,18 @@
 ghost use Rattle.std.specs.Prelude.{◌≡◌, length};
 ghost use Rattle.pt_crew.specs.Crews.{crew_size, queue, was_refused};
 ghost use Rattle.pt_hands.specs.Pulling.{crew_of, hand_views};
-ghost use Rattle.pt_table.specs.Answers.{CallsThrough, ReadsThrough, ShowsCode, full, value_behind};
+ghost use Rattle.pt_table.specs.Answers.{CallsThrough, ReadsThrough, ShowsCode};
 ghost use Rattle.pt_table.specs.Crewing.{CrewBeginsAgain, CrewSteps, CrewTells, NotesIfOwn, SpawnsChildInCrew, SpawnsInCrew, TellsTime};
 ghost use Rattle.pt_structs.specs.Crossing.{pid_crossed};
 ghost use Rattle.pt_structs.specs.Jobs.{next_out};
 ghost use Rattle.pt_table.specs.Owning.{IfOwn, is_own};
-ghost use Rattle.pt_c.specs.Crews.{AnswersInOrder, OpensCrew, SetsCrewTime};
-ghost use Rattle.pt_c.specs.Nodes.{GivesUp};
+ghost use Rattle.pt_calls.specs.Crews.{AnswersInOrder, OpensCrew, SetsCrewTime};
+ghost use Rattle.pt_handles.specs.Handles.{GivesUp};
 
-use crate::node::end_code;
-use pt_hands::Hands;
-use pt_structs::codes::{DONE, EMPTY, FILLED, MEMORY};
-use pt_structs::crossing::pid_in;
+use pt_calls::crews;
 use pt_structs::types::{PtAnswer, PtJob, PtNext, PtPid, PtTurned};
-use pt_table::crew_handle::{CrewHandle, claim, filled, hold, is_full, spare};
-use pt_table::crewing::{
-    answer_all, begin_again, is_idle, next, next_time, note_loss, spawn, spawn_child, step, tag,
-};
-use pt_table::desk_handle::{DeskHandle, claim as claim_desk, hold as hold_desk};
+use pt_table::crew_handle::CrewHandle;
+use pt_table::desk_handle::DeskHandle;
 use std::alloc::Global;
 
 /// Begins a crew, with no process and at the time 0. It is that of the desk on which it spawns its first process or makes
@@ -35,14 +29,7 @@ use std::alloc::Global;
 pub extern "C" fn pt_crew_open(alloc: Global, c: &mut CrewHandle) -> u32
     ensures { OpensCrew result c.old.state c.new.state }
 {
-    if is_full(alloc, c) {
-        return FILLED;
-    }
-    let Ok(place) = spare(alloc) else {
-        return MEMORY;
-    };
-    *c = filled(place, Hands::new(alloc));
-    DONE
+    crews::open(alloc, c)
 }
 
 /// Gives up a crew. Its processes stay on their desk, and are of no crew.
@@ -50,10 +37,7 @@ pub extern "C" fn pt_crew_open(alloc: Global, c: &mut CrewHandle) -> u32
 pub extern "C" fn pt_crew_give_up(alloc: Global, c: &mut CrewHandle) -> u32
     ensures { GivesUp result c.old.state c.new.state }
 {
-    match claim(alloc, c) {
-        Some(place) => end_code(place.crew.is_some()),
-        None => EMPTY,
-    }
+    crews::give_up(alloc, c)
 }
 
 /// Spawns a process on the desk with this tag, which does `first` next, as `Hands::spawn` does. It writes the pid to
@@ -71,37 +55,7 @@ pub extern "C" fn pt_crew_spawn(
         (λ old new. CallsThrough h.old.state h.new.state result ((new ≡ old) × (out.new ≡ out.old))
         (λ d e. SpawnsInCrew tag first result out.old out.new old d new e)) }
 {
-    let Some(mut held) = claim(alloc, c) else {
-        return EMPTY;
-    };
-    let code = match &mut held.crew {
-        Some(crew) => spawn_on(alloc, crew, h, tag, first, out),
-        None => EMPTY,
-    };
-    *c = hold(held);
-    code
-}
-
-fn spawn_on(
-    alloc: Global,
-    crew: &mut Hands,
-    h: &mut DeskHandle,
-    tag: u64,
-    first: PtNext,
-    out: &mut PtPid,
-) -> u32
-    ensures { CallsThrough h.old.state h.new.state result ((crew.new ≡ crew.old) × (out.new ≡ out.old))
-        (λ d e. SpawnsInCrew tag first result out.old out.new crew.old d crew.new e) }
-{
-    let Some(mut place) = claim_desk(alloc, h) else {
-        return EMPTY;
-    };
-    let code = match &mut place.desk {
-        Some(desk) => spawn(crew, desk, tag, first, out),
-        None => EMPTY,
-    };
-    *h = hold_desk(place);
-    code
+    crews::spawn(alloc, c, h, tag, first, out)
 }
 
 /// Spawns a child of the parent with this tag, linked with it if `linked` is true, as `Hands::spawn_child` does. It writes
@@ -121,39 +75,7 @@ pub extern "C" fn pt_crew_spawn_child(
         (λ old new. CallsThrough h.old.state h.new.state result ((new ≡ old) × (out.new ≡ out.old))
         (λ d e. SpawnsChildInCrew (pid_crossed parent) linked tag first result out.old out.new old d new e)) }
 {
-    let Some(mut held) = claim(alloc, c) else {
-        return EMPTY;
-    };
-    let code = match &mut held.crew {
-        Some(crew) => spawn_child_on(alloc, crew, h, parent, linked, tag, first, out),
-        None => EMPTY,
-    };
-    *c = hold(held);
-    code
-}
-
-fn spawn_child_on(
-    alloc: Global,
-    crew: &mut Hands,
-    h: &mut DeskHandle,
-    parent: PtPid,
-    linked: bool,
-    tag: u64,
-    first: PtNext,
-    out: &mut PtPid,
-) -> u32
-    ensures { CallsThrough h.old.state h.new.state result ((crew.new ≡ crew.old) × (out.new ≡ out.old))
-        (λ d e. SpawnsChildInCrew (pid_crossed parent) linked tag first result out.old out.new crew.old d crew.new e) }
-{
-    let Some(mut place) = claim_desk(alloc, h) else {
-        return EMPTY;
-    };
-    let code = match &mut place.desk {
-        Some(desk) => spawn_child(crew, desk, pid_in(parent), linked, tag, first, out),
-        None => EMPTY,
-    };
-    *h = hold_desk(place);
-    code
+    crews::spawn_child(alloc, c, h, parent, linked, tag, first, out)
 }
 
 /// Does a turn of the desk, and then a step of the crew, which hands out at most as many jobs as `jobs` has places. The
@@ -176,41 +98,7 @@ pub extern "C" fn pt_crew_step(
         × (turned.new ≡ turned.old))
         ((result ≡ 0) × CrewSteps budget jobs.old old d turned.new count.new jobs.new new e))) }
 {
-    let Some(mut held) = claim(alloc, c) else {
-        return EMPTY;
-    };
-    let code = match &mut held.crew {
-        Some(crew) => step_on(alloc, crew, h, budget, jobs, count, turned),
-        None => EMPTY,
-    };
-    *c = hold(held);
-    code
-}
-
-fn step_on(
-    alloc: Global,
-    crew: &mut Hands,
-    h: &mut DeskHandle,
-    budget: u32,
-    jobs: &mut [PtJob],
-    count: &mut usize,
-    turned: &mut PtTurned,
-) -> u32
-    ensures { CallsThrough h.old.state h.new.state result ((crew.new ≡ crew.old) × (jobs.new ≡ jobs.old)
-        × (count.new ≡ count.old) × (turned.new ≡ turned.old))
-        (λ d e. IfOwn (is_own crew.old d) result ((crew.new ≡ crew.old) × (e ≡ d) × (jobs.new ≡ jobs.old)
-        × (count.new ≡ count.old) × (turned.new ≡ turned.old))
-        ((result ≡ 0) × CrewSteps budget jobs.old crew.old d turned.new count.new jobs.new crew.new e)) }
-{
-    let Some(mut place) = claim_desk(alloc, h) else {
-        return EMPTY;
-    };
-    let code = match &mut place.desk {
-        Some(desk) => step(crew, desk, budget, jobs, count, turned),
-        None => EMPTY,
-    };
-    *h = hold_desk(place);
-    code
+    crews::step(alloc, c, h, budget, jobs, count, turned)
 }
 
 /// Takes the answers in order, up to the first that is refused. `taken` is the number of those taken then.
@@ -227,15 +115,7 @@ pub extern "C" fn pt_crew_answer(
     ensures { CallsThrough c.old.state c.new.state result (taken.new ≡ taken.old)
         (λ old new. AnswersInOrder answers.now result taken.new old new) }
 {
-    let Some(mut held) = claim(alloc, c) else {
-        return EMPTY;
-    };
-    let code = match &mut held.crew {
-        Some(crew) => answer_all(crew, answers, taken),
-        None => EMPTY,
-    };
-    *c = hold(held);
-    code
+    crews::answer(alloc, c, answers, taken)
 }
 
 /// Says what time it is in the calls that follow.
@@ -243,18 +123,7 @@ pub extern "C" fn pt_crew_answer(
 pub extern "C" fn pt_crew_set_time(alloc: Global, c: &mut CrewHandle, now: u64) -> u32
     ensures { CallsThrough c.old.state c.new.state result (Unit {0}) (λ old new. SetsCrewTime now result old new) }
 {
-    let Some(mut held) = claim(alloc, c) else {
-        return EMPTY;
-    };
-    let code = match &mut held.crew {
-        Some(crew) => {
-            crew.set_time(now);
-            DONE
-        }
-        None => EMPTY,
-    };
-    *c = hold(held);
-    code
+    crews::set_time(alloc, c, now)
 }
 
 /// Notes what the loss with this number of the desk tells, as `Hands::note_loss` does: the reason of an exit. It returns 8
@@ -270,30 +139,7 @@ pub extern "C" fn pt_crew_note_loss(
         (λ old new. ReadsThrough h.old.state h.new.state result (new ≡ old)
         (λ d. NotesIfOwn place result old d new)) }
 {
-    let Some(mut held) = claim(alloc, c) else {
-        return EMPTY;
-    };
-    let code = match &mut held.crew {
-        Some(crew) => note_loss_on(alloc, crew, h, place),
-        None => EMPTY,
-    };
-    *c = hold(held);
-    code
-}
-
-fn note_loss_on(alloc: Global, crew: &mut Hands, h: &mut DeskHandle, place: usize) -> u32
-    ensures { ReadsThrough h.old.state h.new.state result (crew.new ≡ crew.old)
-        (λ d. NotesIfOwn place result crew.old d crew.new) }
-{
-    let Some(held) = claim_desk(alloc, h) else {
-        return EMPTY;
-    };
-    let code = match &held.desk {
-        Some(desk) => note_loss(crew, desk, place),
-        None => EMPTY,
-    };
-    *h = hold_desk(held);
-    code
+    crews::note_loss(alloc, c, h, place)
 }
 
 /// Continues over the desk of the same number in a node that was resumed, as `Hands::begin_again` does. It may be called
@@ -302,15 +148,7 @@ fn note_loss_on(alloc: Global, crew: &mut Hands, h: &mut DeskHandle, place: usiz
 pub extern "C" fn pt_crew_begin_again(alloc: Global, c: &mut CrewHandle) -> u32
     ensures { CallsThrough c.old.state c.new.state result (Unit {0}) (λ old new. CrewBeginsAgain result old new) }
 {
-    let Some(mut held) = claim(alloc, c) else {
-        return EMPTY;
-    };
-    let code = match &mut held.crew {
-        Some(crew) => begin_again(crew),
-        None => EMPTY,
-    };
-    *c = hold(held);
-    code
+    crews::begin_again(alloc, c)
 }
 
 /// The earliest time until which a process waits that is not in the queue; 8 if there is no such process.
@@ -319,15 +157,7 @@ pub extern "C" fn pt_crew_next_time(alloc: Global, c: &mut CrewHandle, out: &mut
     ensures { ReadsThrough c.old.state c.new.state result (out.new ≡ out.old)
         (λ crew. TellsTime crew result out.old out.new) }
 {
-    let Some(held) = claim(alloc, c) else {
-        return EMPTY;
-    };
-    let code = match &held.crew {
-        Some(crew) => next_time(crew, out),
-        None => EMPTY,
-    };
-    *c = hold(held);
-    code
+    crews::next_time(alloc, c, out)
 }
 
 /// The tag of a process; 8 if it is none of the crew.
@@ -336,15 +166,7 @@ pub extern "C" fn pt_crew_tag(alloc: Global, c: &mut CrewHandle, p: PtPid, out: 
     ensures { ReadsThrough c.old.state c.new.state result (out.new ≡ out.old)
         (λ crew. ShowsCode result out.old out.new (λ v. v.tag) (hand_views crew (pid_crossed p))) }
 {
-    let Some(held) = claim(alloc, c) else {
-        return EMPTY;
-    };
-    let code = match &held.crew {
-        Some(crew) => tag(crew, pid_in(p), out),
-        None => EMPTY,
-    };
-    *c = hold(held);
-    code
+    crews::tag(alloc, c, p, out)
 }
 
 /// What a process does next; 8 if it is none of the crew.
@@ -353,15 +175,7 @@ pub extern "C" fn pt_crew_next(alloc: Global, c: &mut CrewHandle, p: PtPid, out:
     ensures { ReadsThrough c.old.state c.new.state result (out.new ≡ out.old)
         (λ crew. ShowsCode result out.old out.new (λ v. next_out v.next) (hand_views crew (pid_crossed p))) }
 {
-    let Some(held) = claim(alloc, c) else {
-        return EMPTY;
-    };
-    let code = match &held.crew {
-        Some(crew) => next(crew, pid_in(p), out),
-        None => EMPTY,
-    };
-    *c = hold(held);
-    code
+    crews::next(alloc, c, p, out)
 }
 
 /// The number of processes of the crew.
@@ -370,18 +184,7 @@ pub extern "C" fn pt_crew_len(alloc: Global, c: &mut CrewHandle, out: &mut usize
     ensures { ReadsThrough c.old.state c.new.state result (out.new ≡ out.old)
         (λ crew. (result ≡ 0) × (out.new ≡ crew_size (crew_of crew))) }
 {
-    let Some(held) = claim(alloc, c) else {
-        return EMPTY;
-    };
-    let code = match &held.crew {
-        Some(crew) => {
-            *out = crew.len();
-            DONE
-        }
-        None => EMPTY,
-    };
-    *c = hold(held);
-    code
+    crews::len(alloc, c, out)
 }
 
 /// The number of processes of the crew that may have something to do.
@@ -390,18 +193,7 @@ pub extern "C" fn pt_crew_queued(alloc: Global, c: &mut CrewHandle, out: &mut us
     ensures { ReadsThrough c.old.state c.new.state result (out.new ≡ out.old)
         (λ crew. (result ≡ 0) × (out.new ≡ length (queue (crew_of crew)))) }
 {
-    let Some(held) = claim(alloc, c) else {
-        return EMPTY;
-    };
-    let code = match &held.crew {
-        Some(crew) => {
-            *out = crew.queued();
-            DONE
-        }
-        None => EMPTY,
-    };
-    *c = hold(held);
-    code
+    crews::queued(alloc, c, out)
 }
 
 /// Whether no process is in the queue, and all that happened on the desk was read.
@@ -416,30 +208,7 @@ pub extern "C" fn pt_crew_is_idle(
         (λ crew. ReadsThrough h.old.state h.new.state result (out.new ≡ out.old)
         (λ d. CrewTells result crew d out.old out.new)) }
 {
-    let Some(held) = claim(alloc, c) else {
-        return EMPTY;
-    };
-    let code = match &held.crew {
-        Some(crew) => is_idle_on(alloc, crew, h, out),
-        None => EMPTY,
-    };
-    *c = hold(held);
-    code
-}
-
-fn is_idle_on(alloc: Global, crew: &Hands, h: &mut DeskHandle, out: &mut bool) -> u32
-    ensures { ReadsThrough h.old.state h.new.state result (out.new ≡ out.old)
-        (λ d. CrewTells result crew.now d out.old out.new) }
-{
-    let Some(place) = claim_desk(alloc, h) else {
-        return EMPTY;
-    };
-    let code = match &place.desk {
-        Some(desk) => is_idle(crew, desk, out),
-        None => EMPTY,
-    };
-    *h = hold_desk(place);
-    code
+    crews::is_idle(alloc, c, h, out)
 }
 
 /// Whether a process was refused memory or a stamp in the last step.
@@ -448,16 +217,5 @@ pub extern "C" fn pt_crew_refused(alloc: Global, c: &mut CrewHandle, out: &mut b
     ensures { ReadsThrough c.old.state c.new.state result (out.new ≡ out.old)
         (λ crew. (result ≡ 0) × (out.new ≡ was_refused (crew_of crew))) }
 {
-    let Some(held) = claim(alloc, c) else {
-        return EMPTY;
-    };
-    let code = match &held.crew {
-        Some(crew) => {
-            *out = crew.refused();
-            DONE
-        }
-        None => EMPTY,
-    };
-    *c = hold(held);
-    code
+    crews::refused(alloc, c, out)
 }

@@ -1,22 +1,16 @@
 //! Going on with a node and its teams, in one call.
 
-ghost use Rattle.std.specs.Prelude.{◌≡◌, map};
+ghost use Rattle.std.specs.Prelude.{map};
 ghost use Rattle.pt_workers.specs.Desks.{AreDesks};
 ghost use Rattle.pt_table.specs.Answers.{values};
-ghost use Rattle.pt_team_handles.specs.GoingOn.{AllTeamsGoOn};
-ghost use Rattle.pt_c.specs.Nodes.{IsWholeNode};
-ghost use Rattle.pt_c.specs.GoingOn.{GoOnWith, ResumesWith, TeamsNodeGoesOn};
+ghost use Rattle.pt_nodes.specs.Nodes.{IsWholeNode};
+ghost use Rattle.pt_nodes.specs.GoingOn.{TeamsNodeGoesOn};
 
-use crate::going_on::{gather_first, settle_first};
-use crate::node::pt_history_give_up;
-use crate::settled::{pt_resume_settled, pt_settled_history};
-use pt_node::{OpenError, Setting};
-use pt_structs::codes::{DONE, EMPTY, FILLED, WRONG_DESK, open_code};
+use pt_nodes::going_on_teams;
 use pt_table::desk_handle::DeskHandle;
 use pt_table::gathered_handle::GatheredHandle;
-use pt_table::history_handle::{HistoryHandle, claim, hold, is_full as has_history};
+use pt_table::history_handle::HistoryHandle;
 use pt_table::settled_handle::SettledHandle;
-use pt_team_handles::rows::{are_own, count_teams, go_on_all};
 use pt_team_handles::team_handle::TeamHandle;
 use std::alloc::Global;
 
@@ -59,68 +53,5 @@ pub extern "C" fn pt_teams_go_on(
           history = history.new.state;
         }) }
 {
-    let count = count_teams(alloc, teams);
-    if count != teams.len() {
-        return EMPTY;
-    }
-    if teams.len() != desks.len() {
-        return open_code(OpenError::Bounds(Setting::Desks));
-    }
-    if has_history(alloc, history) {
-        return FILLED;
-    }
-    if !are_own(alloc, teams) {
-        return WRONG_DESK;
-    }
-    let first = gather_first(alloc, desks, gathered, settled);
-    if first != DONE {
-        return first;
-    }
-    let second = settle_first(alloc, gathered, settled);
-    if second != DONE {
-        return second;
-    }
-    resume_teams(alloc, teams, desks, settled, history)
-}
-
-/// Resumes the node. The teams go on with its history, which `history` has then.
-fn resume_teams(
-    alloc: Global,
-    teams: &mut [TeamHandle],
-    desks: &mut [DeskHandle],
-    settled: &mut SettledHandle,
-    history: &mut HistoryHandle,
-) -> u32
-    ensures { ResumesWith AllTeamsGoOn result (map (λ h. h.state) teams.old) (map (λ h. h.state) teams.new)
-        (map (λ h. h.state) desks.old) (map (λ h. h.state) desks.new) settled.old.state settled.new.state
-        history.old.state history.new.state }
-{
-    let mut told = HistoryHandle::none();
-    let read = pt_settled_history(alloc, settled, &mut told);
-    if read != DONE {
-        return read;
-    }
-    let resumed = pt_resume_settled(alloc, settled, desks);
-    if resumed != DONE {
-        // (a handle that goes out of scope frees nothing)
-        pt_history_give_up(alloc, &mut told);
-        return resumed;
-    }
-    go_on_with(alloc, teams, &mut told);
-    *history = told;
-    DONE
-}
-
-/// The teams go on with the history of the handle, if there is one.
-fn go_on_with(alloc: Global, teams: &mut [TeamHandle], told: &mut HistoryHandle)
-    ensures teams { GoOnWith AllTeamsGoOn told.old.state (map (λ h. h.state) teams.old) (map (λ h. h.state) teams.new) }
-    ensures same { told.new.state ≡ told.old.state }
-{
-    let Some(place) = claim(alloc, told) else {
-        return;
-    };
-    if let Some(history) = &place.history {
-        go_on_all(alloc, teams, history.events.as_slice());
-    }
-    *told = hold(place);
+    going_on_teams::teams_go_on(alloc, teams, desks, gathered, settled, history)
 }

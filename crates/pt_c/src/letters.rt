@@ -4,9 +4,8 @@ ghost use Rattle.std.specs.Prelude.{◌≡◌};
 ghost use Rattle.pt_table.specs.Answers.{CallsThrough, ReadsThrough};
 ghost use Rattle.pt_doors.specs.Letters.{HasLettersCode, desks_with};
 
-use pt_doors::letters::{has_letters, letters_out};
-use pt_structs::codes::{DONE, EMPTY};
-use pt_table::desk_handle::{DeskHandle, claim, filled, hold};
+use pt_calls::letters;
+use pt_table::desk_handle::DeskHandle;
 use std::alloc::Global;
 
 /// The desks for which letters wait in the outbox of the desk, a bit for each, the lowest that of desk 0. The next turn
@@ -16,17 +15,7 @@ pub extern "C" fn pt_letters_out(alloc: Global, h: &mut DeskHandle, out: &mut u6
     ensures { ReadsThrough h.old.state h.new.state result (out.new ≡ out.old)
         (λ d. (result ≡ 0) × (out.new ≡ desks_with d.shard.outbox)) }
 {
-    let Some(mut place) = claim(alloc, h) else {
-        return EMPTY;
-    };
-    let Some(desk) = place.desk.take() else {
-        *h = hold(place);
-        return EMPTY;
-    };
-    let (desk, desks) = letters_out(desk);
-    *out = desks;
-    *h = filled(place, desk);
-    DONE
+    letters::letters_out(alloc, h, out)
 }
 
 /// Whether a letter waits: in the outbox or the hold of the desk, or in a lane to it that shows one. The desk looks at its
@@ -36,15 +25,5 @@ pub extern "C" fn pt_has_letters(alloc: Global, h: &mut DeskHandle, out: &mut bo
     ensures { CallsThrough h.old.state h.new.state result (out.new ≡ out.old)
         (λ old new. HasLettersCode result old out.new new) }
 {
-    let Some(mut place) = claim(alloc, h) else {
-        return EMPTY;
-    };
-    let Some(desk) = place.desk.take() else {
-        *h = hold(place);
-        return EMPTY;
-    };
-    let (desk, has) = has_letters(desk);
-    *out = has;
-    *h = filled(place, desk);
-    DONE
+    letters::has_letters(alloc, h, out)
 }

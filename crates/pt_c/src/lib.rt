@@ -1,13 +1,14 @@
 //! The process table for C: a static library, whose header is `bindings/c/pundewo.h`.
 //!
 //! C keeps opaque handles of one pointer: for a desk, a gathered node, a settled one with and without the list of its
-//! pids, a history, a crew, a team, timers, names, and the two ends of a way in. An export takes the value out of the
-//! handle, makes the call of Rattle that has its name, and puts the value back. By its contract, its code and what it
-//! writes are that call's answer, and if it fails, all is as it was. An empty handle is a code, too.
+//! pids, a history, a crew, a team, timers, names, and the two ends of a way in. An export is one call of a library below,
+//! which takes the value out of the handle, makes the call of Rattle that has its name, and puts the value back. By its
+//! contract, its code and what it writes are that call's answer, and if it fails, all is as it was. An empty handle is a
+//! code, too.
 //!
 //! Values with an enum or an option in Rattle cross as plain structs with a code (`pt_structs::types`). `about` reports
-//! codes, sizes and fields, to be compared with a header. `pt_table` has what is not exported, `pt_tools` that of
-//! timers, `pt_asking` that of calls, `pt_doors` that of a way in, and `pt_team_handles` that of teams.
+//! codes, sizes and fields, to be compared with a header. `pt_calls` has the calls on a desk, a crew and a team,
+//! `pt_nodes` those on a node, `pt_tools` those of timers and names, and `pt_doors` those of a way in.
 //!
 //! Tests: `bindings/run.sh`.
 //!
@@ -46,7 +47,6 @@ mod going_on_teams;
 mod letters;
 mod losses;
 mod names;
-mod naming;
 mod node;
 mod reads;
 mod resuming;

@@ -8,10 +8,9 @@ ghost use Rattle.pt_table.specs.Answers.{CallsThrough, ReadsThrough, ShowsCode};
 ghost use Rattle.pt_structs.specs.Crossing.{item_out};
 ghost use Rattle.pt_table.specs.Losing.{KeepsLosses, PassesLoss, item_lost, loss_numbered, loss_out};
 
-use pt_structs::codes::EMPTY;
+use pt_calls::losses;
 use pt_structs::types::{PtItem, PtLoss};
-use pt_table::desk_handle::{DeskHandle, claim, hold};
-use pt_table::losing::{keep_losses, loss_at, loss_item, next_loss};
+use pt_table::desk_handle::DeskHandle;
 use std::alloc::Global;
 
 /// Sets whether what the desk loses from now on is kept until it is told, as `Desk::keep_losses` does.
@@ -19,15 +18,7 @@ use std::alloc::Global;
 pub extern "C" fn pt_keep_losses(alloc: Global, h: &mut DeskHandle, on: bool) -> u32
     ensures { CallsThrough h.old.state h.new.state result (Unit {0}) (KeepsLosses on result) }
 {
-    let Some(mut place) = claim(alloc, h) else {
-        return EMPTY;
-    };
-    let code = match &mut place.desk {
-        Some(desk) => keep_losses(desk, on),
-        None => EMPTY,
-    };
-    *h = hold(place);
-    code
+    losses::keep_losses(alloc, h, on)
 }
 
 /// The loss with this number among those that were not told, the oldest first. It writes it to `out` if it returns 0, and
@@ -42,15 +33,7 @@ pub extern "C" fn pt_loss_at(
     ensures { ReadsThrough h.old.state h.new.state result (out.new ≡ out.old)
         (λ d. ShowsCode result out.old out.new loss_out (loss_numbered d place)) }
 {
-    let Some(held) = claim(alloc, h) else {
-        return EMPTY;
-    };
-    let code = match &held.desk {
-        Some(desk) => loss_at(desk, place, out),
-        None => EMPTY,
-    };
-    *h = hold(held);
-    code
+    losses::loss_at(alloc, h, place, out)
 }
 
 /// The item with this number of that loss, the oldest first. It writes it to `out` if it returns 0, and returns 8 if there
@@ -66,15 +49,7 @@ pub extern "C" fn pt_loss_item(
     ensures { ReadsThrough h.old.state h.new.state result (out.new ≡ out.old)
         (λ d. ShowsCode result out.old out.new item_out (item_lost (loss_numbered d place) item)) }
 {
-    let Some(held) = claim(alloc, h) else {
-        return EMPTY;
-    };
-    let code = match &held.desk {
-        Some(desk) => loss_item(desk, place, item, out),
-        None => EMPTY,
-    };
-    *h = hold(held);
-    code
+    losses::loss_item(alloc, h, place, item, out)
 }
 
 /// The oldest loss was told: it is kept no longer. It returns 8 if none was kept.
@@ -82,13 +57,5 @@ pub extern "C" fn pt_loss_item(
 pub extern "C" fn pt_next_loss(alloc: Global, h: &mut DeskHandle) -> u32
     ensures { CallsThrough h.old.state h.new.state result (Unit {0}) (PassesLoss result) }
 {
-    let Some(mut place) = claim(alloc, h) else {
-        return EMPTY;
-    };
-    let code = match &mut place.desk {
-        Some(desk) => next_loss(desk),
-        None => EMPTY,
-    };
-    *h = hold(place);
-    code
+    losses::next_loss(alloc, h)
 }

@@ -7,18 +7,15 @@ ghost use Rattle.std.specs.Prelude.{◌≡◌, length};
 ghost use Rattle.pt_names.specs.State.{name_at, pid_of};
 ghost use Rattle.pt_table.specs.Answers.{CallsThrough, ReadsThrough, ShowsCode};
 ghost use Rattle.pt_structs.specs.Crossing.{pid_crossed, pid_out, ref_in};
-ghost use Rattle.pt_c.specs.Naming.{ChecksName, ForgetsHolder, IfIsName, RegistersName, UnregistersName};
-ghost use Rattle.pt_c.specs.Naming.{name_crossed, name_out};
-ghost use Rattle.pt_c.specs.Nodes.{GivesUp};
-ghost use Rattle.pt_c.specs.Tools.{OpensNames};
+ghost use Rattle.pt_calls.specs.Naming.{ChecksName, ForgetsHolder, IfIsName, RegistersName, UnregistersName};
+ghost use Rattle.pt_calls.specs.Naming.{name_crossed, name_out};
+ghost use Rattle.pt_handles.specs.Handles.{GivesUp};
+ghost use Rattle.pt_tools.specs.Opening.{OpensNames};
 
-use crate::naming::{PtHolder, PtName, check, forget, name_of, register, unregister, whereis};
-use crate::node::end_code;
-use pt_names::Names;
-use pt_structs::codes::{DONE, EMPTY, FILLED, MEMORY};
-use pt_structs::crossing::{pid_in, ref_in};
+use pt_calls::names;
+use pt_calls::naming::{PtHolder, PtName};
 use pt_structs::types::{PtPid, PtRef};
-use pt_tools::names_handle::{NamesHandle, claim, filled, hold, is_full, spare};
+use pt_tools::names_handle::NamesHandle;
 use std::alloc::Global;
 
 /// Begins names, of which no process has one. The handle must be empty: it returns 10 if it is not.
@@ -26,14 +23,7 @@ use std::alloc::Global;
 pub extern "C" fn pt_names_open(alloc: Global, n: &mut NamesHandle) -> u32
     ensures { OpensNames result n.old.state n.new.state }
 {
-    if is_full(alloc, n) {
-        return FILLED;
-    }
-    let Ok(place) = spare(alloc) else {
-        return MEMORY;
-    };
-    *n = filled(place, Names::new(alloc));
-    DONE
+    names::open(alloc, n)
 }
 
 /// Gives up names. The processes stay as they are.
@@ -41,10 +31,7 @@ pub extern "C" fn pt_names_open(alloc: Global, n: &mut NamesHandle) -> u32
 pub extern "C" fn pt_names_give_up(alloc: Global, n: &mut NamesHandle) -> u32
     ensures { GivesUp result n.old.state n.new.state }
 {
-    match claim(alloc, n) {
-        Some(place) => end_code(place.names.is_some()),
-        None => EMPTY,
-    }
+    names::give_up(alloc, n)
 }
 
 /// Gives a process a name, and keeps the monitor with it, as `Names::register` does. It returns 20 if a process has the
@@ -61,15 +48,7 @@ pub extern "C" fn pt_names_register(
         (λ old new. IfIsName (name_crossed name.now) result (new ≡ old)
         (λ a. RegistersName a (pid_crossed p) (ref_in monitor) result old new)) }
 {
-    let Some(mut held) = claim(alloc, n) else {
-        return EMPTY;
-    };
-    let code = match &mut held.names {
-        Some(names) => register(names, name, pid_in(p), ref_in(monitor)),
-        None => EMPTY,
-    };
-    *n = hold(held);
-    code
+    names::register(alloc, n, name, p, monitor)
 }
 
 /// Checks whether the process can have the name, as `Names::check` does: it returns 0, 20 or 21.
@@ -79,15 +58,7 @@ pub extern "C" fn pt_names_check(alloc: Global, n: &mut NamesHandle, name: &[u8]
         (λ names. IfIsName (name_crossed name.now) result (Unit {0})
         (λ a. ChecksName a (pid_crossed p) result names)) }
 {
-    let Some(held) = claim(alloc, n) else {
-        return EMPTY;
-    };
-    let code = match &held.names {
-        Some(names) => check(names, name, pid_in(p)),
-        None => EMPTY,
-    };
-    *n = hold(held);
-    code
+    names::check(alloc, n, name, p)
 }
 
 /// The process that has the name; 8 if no process has it.
@@ -102,15 +73,7 @@ pub extern "C" fn pt_names_whereis(
         (λ names. IfIsName (name_crossed name.now) result (out.new ≡ out.old)
         (λ a. ShowsCode result out.old out.new pid_out (pid_of names a))) }
 {
-    let Some(held) = claim(alloc, n) else {
-        return EMPTY;
-    };
-    let code = match &held.names {
-        Some(names) => whereis(names, name, out),
-        None => EMPTY,
-    };
-    *n = hold(held);
-    code
+    names::whereis(alloc, n, name, out)
 }
 
 /// Removes a name, and writes to `out` who had it, with its monitor; 8 if no process has it.
@@ -125,15 +88,7 @@ pub extern "C" fn pt_names_unregister(
         (λ old new. IfIsName (name_crossed name.now) result ((new ≡ old) × (out.new ≡ out.old))
         (λ a. UnregistersName a result out.old out.new old new)) }
 {
-    let Some(mut held) = claim(alloc, n) else {
-        return EMPTY;
-    };
-    let code = match &mut held.names {
-        Some(names) => unregister(names, name, out),
-        None => EMPTY,
-    };
-    *n = hold(held);
-    code
+    names::unregister(alloc, n, name, out)
 }
 
 /// Removes the name of a process that has exited, and writes it to `out`; 8 if it has none.
@@ -147,15 +102,7 @@ pub extern "C" fn pt_names_forget(
     ensures { CallsThrough n.old.state n.new.state result (out.new ≡ out.old)
         (λ old new. ForgetsHolder (pid_crossed p) result out.old out.new old new) }
 {
-    let Some(mut held) = claim(alloc, n) else {
-        return EMPTY;
-    };
-    let code = match &mut held.names {
-        Some(names) => forget(names, pid_in(p), out),
-        None => EMPTY,
-    };
-    *n = hold(held);
-    code
+    names::forget(alloc, n, p, out)
 }
 
 /// The name of a process; 8 if it has none.
@@ -169,15 +116,7 @@ pub extern "C" fn pt_names_name_of(
     ensures { ReadsThrough n.old.state n.new.state result (out.new ≡ out.old)
         (λ names. ShowsCode result out.old out.new name_out (name_at names (pid_crossed p))) }
 {
-    let Some(held) = claim(alloc, n) else {
-        return EMPTY;
-    };
-    let code = match &held.names {
-        Some(names) => name_of(names, pid_in(p), out),
-        None => EMPTY,
-    };
-    *n = hold(held);
-    code
+    names::name_of(alloc, n, p, out)
 }
 
 /// The number of names.
@@ -186,16 +125,5 @@ pub extern "C" fn pt_names_len(alloc: Global, n: &mut NamesHandle, out: &mut usi
     ensures { ReadsThrough n.old.state n.new.state result (out.new ≡ out.old)
         (λ names. (result ≡ 0) × (out.new ≡ length names.holders)) }
 {
-    let Some(held) = claim(alloc, n) else {
-        return EMPTY;
-    };
-    let code = match &held.names {
-        Some(names) => {
-            *out = names.len();
-            DONE
-        }
-        None => EMPTY,
-    };
-    *n = hold(held);
-    code
+    names::len(alloc, n, out)
 }

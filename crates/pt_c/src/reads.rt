@@ -14,18 +14,13 @@ ghost use Rattle.pt_table.specs.Waking.{Woken, NobodyIsMissed};
 ghost use Rattle.pt_table.specs.Reading.{TellsCount, TellsPid, TellsAccount, TellsLinked, TellsKept, TellsWatching};
 ghost use Rattle.pt_structs.specs.Crossing.{pid_crossed, pid_out, ref_in, ref_out, ids_out, item_out, event_out, left_out};
 
-use pt_structs::codes::{DONE, EMPTY};
-use pt_structs::crossing::{pid_in, ref_in};
+use pt_calls::reads;
+use pt_nodes::reads as node_reads;
 use pt_structs::types::{PtAccount, PtEvent, PtIds, PtItem, PtLeftOver, PtPid, PtRef};
-use pt_table::desk_handle::{DeskHandle, claim as claim_desk, hold as hold_desk};
-use pt_table::gathered_handle::{GatheredHandle, claim as claim_gathered, hold as hold_gathered};
-use pt_table::history_handle::{HistoryHandle, claim as claim_history, hold as hold_history};
-use pt_table::looking::{
-    account, event_at, history_event, history_left, kept, link_at, link_count, linked, lives_in,
-    monitor_at, monitor_count, next_woken, peek, pid_at, pid_count, quiet_linked, traps, vacant,
-    waiting, watcher_at, watcher_count, watching,
-};
-use pt_table::quiet_handle::{QuietHandle, claim as claim_quiet, hold as hold_quiet};
+use pt_table::desk_handle::DeskHandle;
+use pt_table::gathered_handle::GatheredHandle;
+use pt_table::history_handle::HistoryHandle;
+use pt_table::quiet_handle::QuietHandle;
 use std::alloc::Global;
 
 /// The stamp of the newest event, or the start of the clock.
@@ -33,18 +28,7 @@ use std::alloc::Global;
 pub extern "C" fn pt_clock(alloc: Global, h: &mut DeskHandle, out: &mut u64) -> u32
     ensures { ReadsThrough h.old.state h.new.state result (out.new ≡ out.old) (λ d. (result ≡ 0) × (out.new ≡ d.shard.clock)) }
 {
-    let Some(held) = claim_desk(alloc, h) else {
-        return EMPTY;
-    };
-    let code = match &held.desk {
-        Some(desk) => {
-            *out = desk.clock();
-            DONE
-        }
-        None => EMPTY,
-    };
-    *h = hold_desk(held);
-    code
+    reads::clock(alloc, h, out)
 }
 
 /// The number of the desk.
@@ -52,18 +36,7 @@ pub extern "C" fn pt_clock(alloc: Global, h: &mut DeskHandle, out: &mut u64) -> 
 pub extern "C" fn pt_number(alloc: Global, h: &mut DeskHandle, out: &mut u8) -> u32
     ensures { ReadsThrough h.old.state h.new.state result (out.new ≡ out.old) (λ d. (result ≡ 0) × (out.new ≡ d.shard.number)) }
 {
-    let Some(held) = claim_desk(alloc, h) else {
-        return EMPTY;
-    };
-    let code = match &held.desk {
-        Some(desk) => {
-            *out = desk.number();
-            DONE
-        }
-        None => EMPTY,
-    };
-    *h = hold_desk(held);
-    code
+    reads::number(alloc, h, out)
 }
 
 /// Whether p is alive on the desk.
@@ -72,18 +45,7 @@ pub extern "C" fn pt_alive(alloc: Global, h: &mut DeskHandle, p: PtPid, out: &mu
     ensures { ReadsThrough h.old.state h.new.state result (out.new ≡ out.old)
         (λ d. (result ≡ 0) × (out.new ≡ lives d.shard (pid_crossed p))) }
 {
-    let Some(held) = claim_desk(alloc, h) else {
-        return EMPTY;
-    };
-    let code = match &held.desk {
-        Some(desk) => {
-            *out = desk.alive_here(pid_in(p));
-            DONE
-        }
-        None => EMPTY,
-    };
-    *h = hold_desk(held);
-    code
+    reads::alive(alloc, h, p, out)
 }
 
 /// Whether p may be the target of a call. If it may not, calls with this target return 7.
@@ -92,18 +54,7 @@ pub extern "C" fn pt_knows(alloc: Global, h: &mut DeskHandle, p: PtPid, out: &mu
     ensures { ReadsThrough h.old.state h.new.state result (out.new ≡ out.old)
         (λ d. (result ≡ 0) × (out.new ≡ knows d.shard (pid_crossed p))) }
 {
-    let Some(held) = claim_desk(alloc, h) else {
-        return EMPTY;
-    };
-    let code = match &held.desk {
-        Some(desk) => {
-            *out = desk.knows(pid_in(p));
-            DONE
-        }
-        None => EMPTY,
-    };
-    *h = hold_desk(held);
-    code
+    reads::knows(alloc, h, p, out)
 }
 
 /// The number of letters that wait in the outbox and the hold.
@@ -111,18 +62,7 @@ pub extern "C" fn pt_knows(alloc: Global, h: &mut DeskHandle, p: PtPid, out: &mu
 pub extern "C" fn pt_pending(alloc: Global, h: &mut DeskHandle, out: &mut u64) -> u32
     ensures { ReadsThrough h.old.state h.new.state result (out.new ≡ out.old) (λ d. (result ≡ 0) × (out.new ≡ pending_in d)) }
 {
-    let Some(held) = claim_desk(alloc, h) else {
-        return EMPTY;
-    };
-    let code = match &held.desk {
-        Some(desk) => {
-            *out = desk.pending();
-            DONE
-        }
-        None => EMPTY,
-    };
-    *h = hold_desk(held);
-    code
+    reads::pending(alloc, h, out)
 }
 
 /// The pid that the next process spawned here will have; 8 if no slot is free.
@@ -131,15 +71,7 @@ pub extern "C" fn pt_vacant(alloc: Global, h: &mut DeskHandle, out: &mut PtPid) 
     ensures { ReadsThrough h.old.state h.new.state result (out.new ≡ out.old)
         (λ d. ShowsCode result out.old out.new pid_out d.shard.vacant) }
 {
-    let Some(held) = claim_desk(alloc, h) else {
-        return EMPTY;
-    };
-    let code = match &held.desk {
-        Some(desk) => vacant(desk, out),
-        None => EMPTY,
-    };
-    *h = hold_desk(held);
-    code
+    reads::vacant(alloc, h, out)
 }
 
 /// The number of items that wait in the mailbox of p; 8 if p is not alive on the desk.
@@ -148,15 +80,7 @@ pub extern "C" fn pt_waiting(alloc: Global, h: &mut DeskHandle, p: PtPid, out: &
     ensures { ReadsThrough h.old.state h.new.state result (out.new ≡ out.old)
         (λ d. ShowsCode result out.old out.new length (waits_in d (pid_crossed p))) }
 {
-    let Some(held) = claim_desk(alloc, h) else {
-        return EMPTY;
-    };
-    let code = match &held.desk {
-        Some(desk) => waiting(desk, pid_in(p), out),
-        None => EMPTY,
-    };
-    *h = hold_desk(held);
-    code
+    reads::waiting(alloc, h, p, out)
 }
 
 /// The item at this place in the mailbox of p, 0 the oldest, which stays there; 8 if there is none.
@@ -171,15 +95,7 @@ pub extern "C" fn pt_peek(
     ensures { ReadsThrough h.old.state h.new.state result (out.new ≡ out.old)
         (λ d. ShowsCode result out.old out.new item_out (item_numbered (waits_in d (pid_crossed p)) place)) }
 {
-    let Some(held) = claim_desk(alloc, h) else {
-        return EMPTY;
-    };
-    let code = match &held.desk {
-        Some(desk) => peek(desk, pid_in(p), place, out),
-        None => EMPTY,
-    };
-    *h = hold_desk(held);
-    code
+    reads::peek(alloc, h, p, place, out)
 }
 
 /// The ids under which p is linked with another process, by p's own half of the link; 8 if there are none.
@@ -194,15 +110,7 @@ pub extern "C" fn pt_linked(
     ensures { ReadsThrough h.old.state h.new.state result (out.new ≡ out.old)
         (λ d. ShowsCode result out.old out.new ids_out (linked_on_desk d (pid_crossed p) (pid_crossed peer))) }
 {
-    let Some(held) = claim_desk(alloc, h) else {
-        return EMPTY;
-    };
-    let code = match &held.desk {
-        Some(desk) => linked(desk, pid_in(p), pid_in(peer), out),
-        None => EMPTY,
-    };
-    *h = hold_desk(held);
-    code
+    reads::linked(alloc, h, p, peer, out)
 }
 
 /// The number of processes that p is linked with; 8 if p is not alive on the desk.
@@ -211,15 +119,7 @@ pub extern "C" fn pt_link_count(alloc: Global, h: &mut DeskHandle, p: PtPid, out
     ensures { ReadsThrough h.old.state h.new.state result (out.new ≡ out.old)
         (λ d. ShowsCode result out.old out.new length (links_on_desk d (pid_crossed p))) }
 {
-    let Some(held) = claim_desk(alloc, h) else {
-        return EMPTY;
-    };
-    let code = match &held.desk {
-        Some(desk) => link_count(desk, pid_in(p), out),
-        None => EMPTY,
-    };
-    *h = hold_desk(held);
-    code
+    reads::link_count(alloc, h, p, out)
 }
 
 /// The process that p is linked with at this place, 0 the oldest link, and the ids of the link; 8 if there is none.
@@ -236,15 +136,7 @@ pub extern "C" fn pt_link_at(
         (λ d. ShowsCode result peer.old peer.new (λ l. pid_out l.0) (nth_link (links_on_desk d (pid_crossed p)) place)
         × ShowsCode result ids.old ids.new (λ l. ids_out l.1) (nth_link (links_on_desk d (pid_crossed p)) place)) }
 {
-    let Some(held) = claim_desk(alloc, h) else {
-        return EMPTY;
-    };
-    let code = match &held.desk {
-        Some(desk) => link_at(desk, pid_in(p), place, peer, ids),
-        None => EMPTY,
-    };
-    *h = hold_desk(held);
-    code
+    reads::link_at(alloc, h, p, place, peer, ids)
 }
 
 /// The number of open monitors of p; 8 if p is not alive on the desk.
@@ -258,15 +150,7 @@ pub extern "C" fn pt_monitor_count(
     ensures { ReadsThrough h.old.state h.new.state result (out.new ≡ out.old)
         (λ d. ShowsCode result out.old out.new length (monitors_on_desk d (pid_crossed p))) }
 {
-    let Some(held) = claim_desk(alloc, h) else {
-        return EMPTY;
-    };
-    let code = match &held.desk {
-        Some(desk) => monitor_count(desk, pid_in(p), out),
-        None => EMPTY,
-    };
-    *h = hold_desk(held);
-    code
+    reads::monitor_count(alloc, h, p, out)
 }
 
 /// The open monitor of p at this place, 0 the oldest, and its target; 8 if there is none.
@@ -283,15 +167,7 @@ pub extern "C" fn pt_monitor_at(
         (λ d. ShowsCode result monitor.old monitor.new (λ m. ref_out m.0) (nth_monitor (monitors_on_desk d (pid_crossed p)) place)
         × ShowsCode result target.old target.new (λ m. pid_out m.1) (nth_monitor (monitors_on_desk d (pid_crossed p)) place)) }
 {
-    let Some(held) = claim_desk(alloc, h) else {
-        return EMPTY;
-    };
-    let code = match &held.desk {
-        Some(desk) => monitor_at(desk, pid_in(p), place, monitor, target),
-        None => EMPTY,
-    };
-    *h = hold_desk(held);
-    code
+    reads::monitor_at(alloc, h, p, place, monitor, target)
 }
 
 /// The number of monitors that others have of p; 8 if p is not alive on the desk.
@@ -305,15 +181,7 @@ pub extern "C" fn pt_watcher_count(
     ensures { ReadsThrough h.old.state h.new.state result (out.new ≡ out.old)
         (λ d. ShowsCode result out.old out.new length (watchers_on_desk d (pid_crossed p))) }
 {
-    let Some(held) = claim_desk(alloc, h) else {
-        return EMPTY;
-    };
-    let code = match &held.desk {
-        Some(desk) => watcher_count(desk, pid_in(p), out),
-        None => EMPTY,
-    };
-    *h = hold_desk(held);
-    code
+    reads::watcher_count(alloc, h, p, out)
 }
 
 /// The monitor that another process has of p at this place, 0 the oldest, and its owner; 8 if there is none.
@@ -330,15 +198,7 @@ pub extern "C" fn pt_watcher_at(
         (λ d. ShowsCode result monitor.old monitor.new (λ m. ref_out m.0) (nth_monitor (watchers_on_desk d (pid_crossed p)) place)
         × ShowsCode result watcher.old watcher.new (λ m. pid_out m.1) (nth_monitor (watchers_on_desk d (pid_crossed p)) place)) }
 {
-    let Some(held) = claim_desk(alloc, h) else {
-        return EMPTY;
-    };
-    let code = match &held.desk {
-        Some(desk) => watcher_at(desk, pid_in(p), place, monitor, watcher),
-        None => EMPTY,
-    };
-    *h = hold_desk(held);
-    code
+    reads::watcher_at(alloc, h, p, place, monitor, watcher)
 }
 
 /// Whether p traps exits; 8 if p is not alive on the desk.
@@ -347,15 +207,7 @@ pub extern "C" fn pt_traps(alloc: Global, h: &mut DeskHandle, p: PtPid, out: &mu
     ensures { ReadsThrough h.old.state h.new.state result (out.new ≡ out.old)
         (λ d. ShowsCode result out.old out.new (λ on. on) (traps_on_desk d (pid_crossed p))) }
 {
-    let Some(held) = claim_desk(alloc, h) else {
-        return EMPTY;
-    };
-    let code = match &held.desk {
-        Some(desk) => traps(desk, pid_in(p), out),
-        None => EMPTY,
-    };
-    *h = hold_desk(held);
-    code
+    reads::traps(alloc, h, p, out)
 }
 
 /// The live process in this slot of the desk; 8 if there is none.
@@ -364,15 +216,7 @@ pub extern "C" fn pt_lives_in(alloc: Global, h: &mut DeskHandle, slot: u32, out:
     ensures { ReadsThrough h.old.state h.new.state result (out.new ≡ out.old)
         (λ d. ShowsCode result out.old out.new pid_out (living_in d.shard slot)) }
 {
-    let Some(held) = claim_desk(alloc, h) else {
-        return EMPTY;
-    };
-    let code = match &held.desk {
-        Some(desk) => lives_in(desk, slot, out),
-        None => EMPTY,
-    };
-    *h = hold_desk(held);
-    code
+    reads::lives_in(alloc, h, slot, out)
 }
 
 /// The number of events of the desk's journal.
@@ -381,18 +225,7 @@ pub extern "C" fn pt_event_count(alloc: Global, h: &mut DeskHandle, out: &mut us
     ensures { ReadsThrough h.old.state h.new.state result (out.new ≡ out.old)
         (λ d. (result ≡ 0) × (out.new ≡ event_count_in d)) }
 {
-    let Some(held) = claim_desk(alloc, h) else {
-        return EMPTY;
-    };
-    let code = match &held.desk {
-        Some(desk) => {
-            *out = desk.journal().events().len();
-            DONE
-        }
-        None => EMPTY,
-    };
-    *h = hold_desk(held);
-    code
+    reads::event_count(alloc, h, out)
 }
 
 /// The event at this place of the desk's journal, 0 the oldest; 8 if there is none.
@@ -406,15 +239,7 @@ pub extern "C" fn pt_event_at(
     ensures { ReadsThrough h.old.state h.new.state result (out.new ≡ out.old)
         (λ d. ShowsCode result out.old out.new event_out (event_numbered d place)) }
 {
-    let Some(held) = claim_desk(alloc, h) else {
-        return EMPTY;
-    };
-    let code = match &held.desk {
-        Some(desk) => event_at(desk, place, out),
-        None => EMPTY,
-    };
-    *h = hold_desk(held);
-    code
+    reads::event_at(alloc, h, place, out)
 }
 
 /// The number of desks of the node.
@@ -423,18 +248,7 @@ pub extern "C" fn pt_gathered_desks(alloc: Global, g: &mut GatheredHandle, out: 
     ensures { ReadsThrough g.old.state g.new.state result (out.new ≡ out.old)
         (λ d. (result ≡ 0) × (out.new ≡ length d.shards)) }
 {
-    let Some(held) = claim_gathered(alloc, g) else {
-        return EMPTY;
-    };
-    let code = match &held.gathered {
-        Some(gathered) => {
-            *out = gathered.desks();
-            DONE
-        }
-        None => EMPTY,
-    };
-    *g = hold_gathered(held);
-    code
+    node_reads::gathered_desks(alloc, g, out)
 }
 
 /// The number of desks of the settled node.
@@ -443,18 +257,7 @@ pub extern "C" fn pt_quiet_desks(alloc: Global, q: &mut QuietHandle, out: &mut u
     ensures { ReadsThrough q.old.state q.new.state result (out.new ≡ out.old)
         (λ d. (result ≡ 0) × (out.new ≡ length d.gathered.shards)) }
 {
-    let Some(held) = claim_quiet(alloc, q) else {
-        return EMPTY;
-    };
-    let code = match &held.quiet {
-        Some(quiet) => {
-            *out = quiet.desks();
-            DONE
-        }
-        None => EMPTY,
-    };
-    *q = hold_quiet(held);
-    code
+    node_reads::quiet_desks(alloc, q, out)
 }
 
 /// The number of letters that settling handled.
@@ -462,18 +265,7 @@ pub extern "C" fn pt_quiet_desks(alloc: Global, q: &mut QuietHandle, out: &mut u
 pub extern "C" fn pt_quiet_handled(alloc: Global, q: &mut QuietHandle, out: &mut u64) -> u32
     ensures { ReadsThrough q.old.state q.new.state result (out.new ≡ out.old) (λ d. (result ≡ 0) × (out.new ≡ d.handled)) }
 {
-    let Some(held) = claim_quiet(alloc, q) else {
-        return EMPTY;
-    };
-    let code = match &held.quiet {
-        Some(quiet) => {
-            *out = quiet.handled();
-            DONE
-        }
-        None => EMPTY,
-    };
-    *q = hold_quiet(held);
-    code
+    node_reads::quiet_handled(alloc, q, out)
 }
 
 /// The number of processes ever spawned.
@@ -481,15 +273,7 @@ pub extern "C" fn pt_quiet_handled(alloc: Global, q: &mut QuietHandle, out: &mut
 pub extern "C" fn pt_quiet_pid_count(alloc: Global, q: &mut QuietHandle, out: &mut usize) -> u32
     ensures { ReadsThrough q.old.state q.new.state result (out.new ≡ out.old) (λ d. TellsCount d result out.new) }
 {
-    let Some(held) = claim_quiet(alloc, q) else {
-        return EMPTY;
-    };
-    let code = match &held.quiet {
-        Some(quiet) => pid_count(quiet, out),
-        None => EMPTY,
-    };
-    *q = hold_quiet(held);
-    code
+    node_reads::quiet_pid_count(alloc, q, out)
 }
 
 /// The pid at this place among all ever spawned, by shard, slot and version; 8 if there is none.
@@ -502,15 +286,7 @@ pub extern "C" fn pt_quiet_pid_at(
 ) -> u32
     ensures { ReadsThrough q.old.state q.new.state result (out.new ≡ out.old) (λ d. TellsPid d place result out.old out.new) }
 {
-    let Some(held) = claim_quiet(alloc, q) else {
-        return EMPTY;
-    };
-    let code = match &held.quiet {
-        Some(quiet) => pid_at(quiet, place, out),
-        None => EMPTY,
-    };
-    *q = hold_quiet(held);
-    code
+    node_reads::quiet_pid_at(alloc, q, place, out)
 }
 
 /// What became of p, as `Quiet::account` returns it; 8 if it was never spawned.
@@ -524,15 +300,7 @@ pub extern "C" fn pt_quiet_account(
     ensures { ReadsThrough q.old.state q.new.state result (out.new ≡ out.old)
         (λ d. TellsAccount d (pid_crossed p) result out.old out.new) }
 {
-    let Some(held) = claim_quiet(alloc, q) else {
-        return EMPTY;
-    };
-    let code = match &held.quiet {
-        Some(quiet) => account(quiet, pid_in(p), out),
-        None => EMPTY,
-    };
-    *q = hold_quiet(held);
-    code
+    node_reads::quiet_account(alloc, q, p, out)
 }
 
 /// The ids under which p is linked with another process, or was just after its own exit; 8 if there are none.
@@ -547,15 +315,7 @@ pub extern "C" fn pt_quiet_linked(
     ensures { ReadsThrough q.old.state q.new.state result (out.new ≡ out.old)
         (λ d. TellsLinked d (pid_crossed p) (pid_crossed peer) result out.old out.new) }
 {
-    let Some(held) = claim_quiet(alloc, q) else {
-        return EMPTY;
-    };
-    let code = match &held.quiet {
-        Some(quiet) => quiet_linked(quiet, pid_in(p), pid_in(peer), out),
-        None => EMPTY,
-    };
-    *q = hold_quiet(held);
-    code
+    node_reads::quiet_linked(alloc, q, p, peer, out)
 }
 
 /// Whether a process keeps a watch of this reference, or did just after its own exit.
@@ -570,15 +330,7 @@ pub extern "C" fn pt_quiet_kept(
     ensures { ReadsThrough q.old.state q.new.state result (out.new ≡ out.old)
         (λ d. TellsKept d (pid_crossed target) (ref_in monitor) result out.new) }
 {
-    let Some(held) = claim_quiet(alloc, q) else {
-        return EMPTY;
-    };
-    let code = match &held.quiet {
-        Some(quiet) => kept(quiet, pid_in(target), ref_in(monitor), out),
-        None => EMPTY,
-    };
-    *q = hold_quiet(held);
-    code
+    node_reads::quiet_kept(alloc, q, target, monitor, out)
 }
 
 /// Whether a process's monitor of this reference is open.
@@ -593,15 +345,7 @@ pub extern "C" fn pt_quiet_watching(
     ensures { ReadsThrough q.old.state q.new.state result (out.new ≡ out.old)
         (λ d. TellsWatching d (pid_crossed watcher) (ref_in monitor) result out.new) }
 {
-    let Some(held) = claim_quiet(alloc, q) else {
-        return EMPTY;
-    };
-    let code = match &held.quiet {
-        Some(quiet) => watching(quiet, pid_in(watcher), ref_in(monitor), out),
-        None => EMPTY,
-    };
-    *q = hold_quiet(held);
-    code
+    node_reads::quiet_watching(alloc, q, watcher, monitor, out)
 }
 
 /// The number of events of the history.
@@ -610,18 +354,7 @@ pub extern "C" fn pt_history_count(alloc: Global, h: &mut HistoryHandle, out: &m
     ensures { ReadsThrough h.old.state h.new.state result (out.new ≡ out.old)
         (λ d. (result ≡ 0) × (out.new ≡ length d.events)) }
 {
-    let Some(held) = claim_history(alloc, h) else {
-        return EMPTY;
-    };
-    let code = match &held.history {
-        Some(history) => {
-            *out = history.events.len();
-            DONE
-        }
-        None => EMPTY,
-    };
-    *h = hold_history(held);
-    code
+    node_reads::history_count(alloc, h, out)
 }
 
 /// The event at this place of the history, 0 the first; 8 if there is none.
@@ -635,15 +368,7 @@ pub extern "C" fn pt_history_at(
     ensures { ReadsThrough h.old.state h.new.state result (out.new ≡ out.old)
         (λ d. ShowsCode result out.old out.new event_out (slice_get d.events place)) }
 {
-    let Some(held) = claim_history(alloc, h) else {
-        return EMPTY;
-    };
-    let code = match &held.history {
-        Some(history) => history_event(history, place, out),
-        None => EMPTY,
-    };
-    *h = hold_history(held);
-    code
+    node_reads::history_at(alloc, h, place, out)
 }
 
 /// The number of letters left over at the end of the history.
@@ -655,18 +380,7 @@ pub extern "C" fn pt_history_left_count(
 ) -> u32
     ensures { ReadsThrough h.old.state h.new.state result (out.new ≡ out.old) (λ d. (result ≡ 0) × (out.new ≡ length d.left)) }
 {
-    let Some(held) = claim_history(alloc, h) else {
-        return EMPTY;
-    };
-    let code = match &held.history {
-        Some(history) => {
-            *out = history.left.len();
-            DONE
-        }
-        None => EMPTY,
-    };
-    *h = hold_history(held);
-    code
+    node_reads::history_left_count(alloc, h, out)
 }
 
 /// The letter at this place among those left over; 8 if there is none.
@@ -680,15 +394,7 @@ pub extern "C" fn pt_history_left_at(
     ensures { ReadsThrough h.old.state h.new.state result (out.new ≡ out.old)
         (λ d. ShowsCode result out.old out.new left_out (slice_get d.left place)) }
 {
-    let Some(held) = claim_history(alloc, h) else {
-        return EMPTY;
-    };
-    let code = match &held.history {
-        Some(history) => history_left(history, place, out),
-        None => EMPTY,
-    };
-    *h = hold_history(held);
-    code
+    node_reads::history_left_at(alloc, h, place, out)
 }
 
 /// The next process that got a signal, or exited by its own call, from the event at place `at` of the journal on. `at`
@@ -699,7 +405,6 @@ pub extern "C" fn pt_history_left_at(
 /// event only the process that is returned for it may get an item or exit. A returned one need not have got an item,
 /// since a signal may queue nothing.
 #[unsafe(no_mangle)]
-#[tactic(auto, using(pt_table::proofs::Waking::nobody_is_missed))]
 pub extern "C" fn pt_next_woken(
     alloc: Global,
     h: &mut DeskHandle,
@@ -710,13 +415,5 @@ pub extern "C" fn pt_next_woken(
     ensures next { ReadsThrough h.old.state h.new.state result ((at.new ≡ at.old) × (out.new ≡ out.old))
         (λ d. Woken result at.old at.new out.old out.new (reverse d.shard.journal)) }
 {
-    let Some(held) = claim_desk(alloc, h) else {
-        return EMPTY;
-    };
-    let code = match &held.desk {
-        Some(desk) => next_woken(desk, at, out),
-        None => EMPTY,
-    };
-    *h = hold_desk(held);
-    code
+    reads::next_woken(alloc, h, at, out)
 }

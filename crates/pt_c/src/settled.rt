@@ -1,28 +1,16 @@
 //! A settled node without the list of its pids: settling, reading, listing, resuming and giving up.
 
 ghost use Rattle.std.specs.Prelude.{◌≡◌, length, map};
-ghost use Rattle.std.specs.Option.{option_map};
 ghost use Rattle.pt_table.specs.Answers.{ReadsThrough, value_behind};
-ghost use Rattle.pt_c.specs.Nodes.{SettlesAs, ListsAs, ResumesAs, GivesUp, HandleTells, Writes, IsQuietHistoryOf};
+ghost use Rattle.pt_nodes.specs.Nodes.{SettlesAs, ListsAs, ResumesAs, HandleTells, IsQuietHistoryOf};
+ghost use Rattle.pt_handles.specs.Handles.{GivesUp};
 
-use crate::node::end_code;
-use pt_node::{OpenError, Setting, Settled, resume_settled};
-use pt_structs::codes::{DONE, EMPTY, FILLED, MEMORY, open_code, stop_code};
+use pt_nodes::settled;
 use pt_table::desk_handle::DeskHandle;
-use pt_table::gathered_handle::{
-    GatheredHandle, filled as filled_gathered, is_full as has_gathered, take_out as take_gathered,
-};
-use pt_table::held::History;
-use pt_table::history_handle::{
-    HistoryHandle, filled as filled_history, is_full as has_history, spare as spare_history,
-};
-use pt_table::quiet_handle::{
-    QuietHandle, filled as filled_quiet, is_full as has_quiet, spare as spare_quiet,
-};
-use pt_table::rows::{count_full, fill_all, spare_places};
-use pt_table::settled_handle::{
-    SettledHandle, claim, filled, hold, is_full as has_settled, spare, take_out,
-};
+use pt_table::gathered_handle::GatheredHandle;
+use pt_table::history_handle::HistoryHandle;
+use pt_table::quiet_handle::QuietHandle;
+use pt_table::settled_handle::SettledHandle;
 use std::alloc::Global;
 
 /// Settles the node, as `Gathered::settle_unlisted` does: without the list of all pids that ever were. `out` has the
@@ -38,26 +26,7 @@ pub extern "C" fn pt_settle_unlisted(
 ) -> u32
     ensures { SettlesAs result g.old.state g.new.state out.old.state out.new.state }
 {
-    if !has_gathered(alloc, g) {
-        return EMPTY;
-    }
-    if has_settled(alloc, out) {
-        return FILLED;
-    }
-    let Ok(empty) = spare(alloc) else {
-        return MEMORY;
-    };
-    let (place, gathered) = take_gathered(alloc, g).unwrap();
-    match gathered.settle_unlisted() {
-        Ok(settled) => {
-            *out = filled(empty, settled);
-            DONE
-        }
-        Err(back) => {
-            *g = filled_gathered(place, back.gathered);
-            stop_code(Some(back.fault))
-        }
-    }
+    settled::settle_unlisted(alloc, g, out)
 }
 
 /// The settled node with the list of its pids, as `Settled::into_quiet` makes it. `out` has it then, and the handle of the
@@ -73,26 +42,7 @@ pub extern "C" fn pt_settled_into_quiet(
 ) -> u32
     ensures { ListsAs result s.old.state s.new.state out.old.state out.new.state }
 {
-    if !has_settled(alloc, s) {
-        return EMPTY;
-    }
-    if has_quiet(alloc, out) {
-        return FILLED;
-    }
-    let Ok(empty) = spare_quiet(alloc) else {
-        return MEMORY;
-    };
-    let (place, settled) = take_out(alloc, s).unwrap();
-    match settled.into_quiet() {
-        Ok(quiet) => {
-            *out = filled_quiet(empty, quiet);
-            DONE
-        }
-        Err(settled) => {
-            *s = filled(place, settled);
-            MEMORY
-        }
-    }
+    settled::settled_into_quiet(alloc, s, out)
 }
 
 /// Continues from a settled node without the list of its pids, as `resume_settled` does. Each handle gets one of its
@@ -109,43 +59,7 @@ pub extern "C" fn pt_resume_settled(
 ) -> u32
     ensures { ResumesAs result s.old.state s.new.state (map (λ h. h.state) desks.old) (map (λ h. h.state) desks.new) }
 {
-    let Some(count) = desk_count(alloc, s) else {
-        return EMPTY;
-    };
-    if count_full(alloc, desks) != 0 {
-        return FILLED;
-    }
-    if count != desks.len() {
-        return open_code(OpenError::Bounds(Setting::Desks));
-    }
-    let Ok(places) = spare_places(alloc, desks.len()) else {
-        return MEMORY;
-    };
-    let (place, settled) = take_out(alloc, s).unwrap();
-    match resume_settled(alloc, settled) {
-        Ok(list) => {
-            fill_all(desks, places, list);
-            DONE
-        }
-        Err(back) => {
-            *s = filled(place, back.settled);
-            MEMORY
-        }
-    }
-}
-
-/// The number of desks of the settled node, if there is one.
-fn desk_count(alloc: Global, s: &mut SettledHandle) -> Option<usize>
-    ensures same { s.new.state ≡ s.old.state }
-    ensures count { result ≡ option_map (λ d. length d.gathered.shards) (value_behind s.old.state) }
-{
-    let place = claim(alloc, s)?;
-    let count = match &place.settled {
-        Some(settled) => Some(usize::from(settled.desks())),
-        None => None,
-    };
-    *s = hold(place);
-    count
+    settled::resume_unlisted(alloc, s, desks)
 }
 
 /// The history of the settled node, as `Settled::history` returns it. `out` has it then, with no letter left over.
@@ -160,34 +74,7 @@ pub extern "C" fn pt_settled_history(
     ensures tells { HandleTells result (value_behind s.old.state) IsQuietHistoryOf out.old.state out.new.state }
     ensures same { s.new.state ≡ s.old.state }
 {
-    let Some(place) = claim(alloc, s) else {
-        return EMPTY;
-    };
-    let code = match &place.settled {
-        Some(settled) => tell_settled(alloc, settled, out),
-        None => EMPTY,
-    };
-    *s = hold(place);
-    code
-}
-
-fn tell_settled(alloc: Global, settled: &Settled, out: &mut HistoryHandle) -> u32
-    ensures { Writes result (IsQuietHistoryOf settled.now) out.old.state out.new.state }
-{
-    if has_history(alloc, out) {
-        return FILLED;
-    }
-    match settled.history() {
-        Ok(events) => match spare_history(alloc) {
-            Ok(place) => {
-                let left = Vec::new(alloc);
-                *out = filled_history(place, History { events, left });
-                DONE
-            }
-            Err(_) => MEMORY,
-        },
-        Err(_) => MEMORY,
-    }
+    settled::settled_history(alloc, s, out)
 }
 
 /// The number of desks of the node.
@@ -196,18 +83,7 @@ pub extern "C" fn pt_settled_desks(alloc: Global, s: &mut SettledHandle, out: &m
     ensures { ReadsThrough s.old.state s.new.state result (out.new ≡ out.old)
         (λ d. (result ≡ 0) × (out.new ≡ length d.gathered.shards)) }
 {
-    let Some(held) = claim(alloc, s) else {
-        return EMPTY;
-    };
-    let code = match &held.settled {
-        Some(settled) => {
-            *out = settled.desks();
-            DONE
-        }
-        None => EMPTY,
-    };
-    *s = hold(held);
-    code
+    settled::settled_desks(alloc, s, out)
 }
 
 /// The number of letters that settling handled.
@@ -216,18 +92,7 @@ pub extern "C" fn pt_settled_handled(alloc: Global, s: &mut SettledHandle, out: 
     ensures { ReadsThrough s.old.state s.new.state result (out.new ≡ out.old)
         (λ d. (result ≡ 0) × (out.new ≡ d.handled)) }
 {
-    let Some(held) = claim(alloc, s) else {
-        return EMPTY;
-    };
-    let code = match &held.settled {
-        Some(settled) => {
-            *out = settled.handled();
-            DONE
-        }
-        None => EMPTY,
-    };
-    *s = hold(held);
-    code
+    settled::settled_handled(alloc, s, out)
 }
 
 /// Gives up a settled node without the list of its pids.
@@ -235,8 +100,5 @@ pub extern "C" fn pt_settled_handled(alloc: Global, s: &mut SettledHandle, out: 
 pub extern "C" fn pt_settled_give_up(alloc: Global, s: &mut SettledHandle) -> u32
     ensures { GivesUp result s.old.state s.new.state }
 {
-    match claim(alloc, s) {
-        Some(place) => end_code(place.settled.is_some()),
-        None => EMPTY,
-    }
+    settled::give_up_settled(alloc, s)
 }

@@ -15,11 +15,11 @@ ghost use Rattle.pt_team_handles.specs.Teaming.{TellsChild, TellsChildCount, Tel
 ghost use Rattle.pt_team_handles.specs.Through.{TeamAnswersInOrder, BeginsAgainIn, GivesUpTeam, GoesOnIn, OpensTeam, SetsTeamTime};
 ghost use Rattle.pt_team_handles.specs.Through.{StepsIfOwn, SupervisesIn};
 
-use pt_structs::codes::EMPTY;
+use pt_calls::teams;
 use pt_structs::crossing::pid_in;
 use pt_structs::types::{PtAnswer, PtNext, PtPid, PtTurned};
-use pt_table::desk_handle::{DeskHandle, claim, hold};
-use pt_table::history_handle::{HistoryHandle, claim as claim_history, hold as hold_history};
+use pt_table::desk_handle::DeskHandle;
+use pt_table::history_handle::HistoryHandle;
 use pt_team_handles::calls;
 use pt_team_handles::team_handle::TeamHandle;
 use pt_team_handles::types::{PtChild, PtChildSpec, PtNotice, PtSupervisorSpec};
@@ -59,15 +59,7 @@ pub extern "C" fn pt_team_spawn(
         (λ d e. CallsThrough t.old.state t.new.state result ((e ≡ d) × (out.new ≡ out.old))
         (λ old new. SpawnsInTeam tag first result out.old out.new old d new e)) }
 {
-    let Some(mut place) = claim(alloc, h) else {
-        return EMPTY;
-    };
-    let code = match &mut place.desk {
-        Some(desk) => calls::spawn(alloc, t, desk, tag, first, out),
-        None => EMPTY,
-    };
-    *h = hold(place);
-    code
+    teams::spawn(alloc, t, h, tag, first, out)
 }
 
 /// Spawns a child of the parent with this tag, linked with it if `linked` is true, as `Team::spawn_child` does. It writes
@@ -87,15 +79,7 @@ pub extern "C" fn pt_team_spawn_child(
         (λ d e. CallsThrough t.old.state t.new.state result ((e ≡ d) × (out.new ≡ out.old))
         (λ old new. SpawnsChildInTeam (pid_crossed parent) linked tag first result out.old out.new old d new e)) }
 {
-    let Some(mut place) = claim(alloc, h) else {
-        return EMPTY;
-    };
-    let code = match &mut place.desk {
-        Some(desk) => calls::spawn_child(alloc, t, desk, pid_in(parent), linked, tag, first, out),
-        None => EMPTY,
-    };
-    *h = hold(place);
-    code
+    teams::spawn_child(alloc, t, h, parent, linked, tag, first, out)
 }
 
 /// Spawns a supervisor on the desk with this tag, which starts its children when it runs, as `Team::spawn_supervisor`
@@ -114,15 +98,7 @@ pub extern "C" fn pt_team_spawn_supervisor(
         (λ d e. CallsThrough t.old.state t.new.state result ((e ≡ d) × (out.new ≡ out.old))
         (λ old new. SpawnsBossInTeam tag spec children.now result out.old out.new old d new e)) }
 {
-    let Some(mut place) = claim(alloc, h) else {
-        return EMPTY;
-    };
-    let code = match &mut place.desk {
-        Some(desk) => calls::spawn_supervisor(alloc, t, desk, tag, spec, children, out),
-        None => EMPTY,
-    };
-    *h = hold(place);
-    code
+    teams::spawn_supervisor(alloc, t, h, tag, spec, children, out)
 }
 
 /// Says that a running process is a supervisor from now on, which starts its children when it runs, as `Team::supervise`
@@ -160,15 +136,7 @@ pub extern "C" fn pt_team_step(
         × (count.new ≡ count.old) × (turned.new ≡ turned.old))
         (λ old new. StepsIfOwn budget result notices.old notices.new count.old count.new turned.old turned.new old d new e)) }
 {
-    let Some(mut place) = claim(alloc, h) else {
-        return EMPTY;
-    };
-    let code = match &mut place.desk {
-        Some(desk) => calls::step(alloc, t, desk, budget, notices, count, turned),
-        None => EMPTY,
-    };
-    *h = hold(place);
-    code
+    teams::step(alloc, t, h, budget, notices, count, turned)
 }
 
 /// Takes the answers in order, up to the first that is refused. `taken` is the number of those taken then.
@@ -208,15 +176,7 @@ pub extern "C" fn pt_team_note_loss(
     ensures { ReadsThrough h.old.state h.new.state result (t.new.state ≡ t.old.state)
         (λ d. CallsThrough t.old.state t.new.state result (Unit {0}) (λ old new. TeamNotesIfOwn place result old d new)) }
 {
-    let Some(held) = claim(alloc, h) else {
-        return EMPTY;
-    };
-    let code = match &held.desk {
-        Some(desk) => calls::note_loss(alloc, t, desk, place),
-        None => EMPTY,
-    };
-    *h = hold(held);
-    code
+    teams::note_loss(alloc, t, h, place)
 }
 
 /// Continues over the desk of the same number in a node that was resumed, as `Team::begin_again` does. It may be called
@@ -239,15 +199,7 @@ pub extern "C" fn pt_team_go_on(
     ensures { ReadsThrough history.old.state history.new.state result (t.new.state ≡ t.old.state)
         (λ told. CallsThrough t.old.state t.new.state result (Unit {0}) (λ old new. GoesOnIn told.events result old new)) }
 {
-    let Some(place) = claim_history(alloc, history) else {
-        return EMPTY;
-    };
-    let code = match &place.history {
-        Some(told) => calls::go_on(alloc, t, told.events.as_slice()),
-        None => EMPTY,
-    };
-    *history = hold_history(place);
-    code
+    teams::go_on(alloc, t, history)
 }
 
 /// The earliest time until which a process waits that is not in the queue; 8 if there is no such process.
@@ -316,15 +268,7 @@ pub extern "C" fn pt_team_is_idle(
         (λ d. ReadsThrough t.old.state t.new.state result (out.new ≡ out.old)
         (λ own. TeamTells result own d out.old out.new)) }
 {
-    let Some(held) = claim(alloc, h) else {
-        return EMPTY;
-    };
-    let code = match &held.desk {
-        Some(desk) => calls::is_idle(alloc, t, desk, out),
-        None => EMPTY,
-    };
-    *h = hold(held);
-    code
+    teams::is_idle(alloc, t, h, out)
 }
 
 /// The number of the children of a supervisor; 8 if the process is no supervisor of the team.

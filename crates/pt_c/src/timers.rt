@@ -7,14 +7,11 @@ ghost use Rattle.std.specs.Prelude.{◌≡◌, length};
 ghost use Rattle.pt_timers.specs.State.{body_of};
 ghost use Rattle.pt_table.specs.Answers.{CallsThrough, ReadsThrough, ShowsCode};
 ghost use Rattle.pt_tools.specs.Timing.{CancelsTimer, FiresTimer, ShowsDue, ShowsNextTimer, StartsTimer, timer_in};
-ghost use Rattle.pt_c.specs.Nodes.{GivesUp};
-ghost use Rattle.pt_c.specs.Tools.{OpensTimers};
+ghost use Rattle.pt_handles.specs.Handles.{GivesUp};
+ghost use Rattle.pt_tools.specs.Opening.{OpensTimers};
 
-use crate::node::end_code;
-use pt_structs::codes::{DONE, EMPTY, FILLED, MEMORY};
-use pt_timers::Timers;
-use pt_tools::timers_handle::{TimersHandle, claim, filled, hold, is_full, spare};
-use pt_tools::timing::{cancel, get, next, peek_due, pop_due, start};
+use pt_tools::timers;
+use pt_tools::timers_handle::TimersHandle;
 use pt_tools::types::{PtFired, PtTimer};
 use std::alloc::Global;
 
@@ -23,14 +20,7 @@ use std::alloc::Global;
 pub extern "C" fn pt_timers_open(alloc: Global, t: &mut TimersHandle) -> u32
     ensures { OpensTimers result t.old.state t.new.state }
 {
-    if is_full(alloc, t) {
-        return FILLED;
-    }
-    let Ok(place) = spare(alloc) else {
-        return MEMORY;
-    };
-    *t = filled(place, Timers::new(alloc));
-    DONE
+    timers::open(alloc, t)
 }
 
 /// Gives up timers: none of them fires.
@@ -38,10 +28,7 @@ pub extern "C" fn pt_timers_open(alloc: Global, t: &mut TimersHandle) -> u32
 pub extern "C" fn pt_timers_give_up(alloc: Global, t: &mut TimersHandle) -> u32
     ensures { GivesUp result t.old.state t.new.state }
 {
-    match claim(alloc, t) {
-        Some(place) => end_code(place.timers.is_some()),
-        None => EMPTY,
-    }
+    timers::give_up(alloc, t)
 }
 
 /// Starts a timer that is due at this time, with this number, as `Timers::start` does. It writes the timer to `out` if it
@@ -57,15 +44,7 @@ pub extern "C" fn pt_timers_start(
     ensures { CallsThrough t.old.state t.new.state result (out.new ≡ out.old)
         (λ old new. StartsTimer at body result out.old out.new old new) }
 {
-    let Some(mut held) = claim(alloc, t) else {
-        return EMPTY;
-    };
-    let code = match &mut held.timers {
-        Some(timers) => start(timers, at, body, out),
-        None => EMPTY,
-    };
-    *t = hold(held);
-    code
+    timers::start(alloc, t, at, body, out)
 }
 
 /// Cancels a timer, which never fires then. It returns 8 if the timer is not pending.
@@ -74,15 +53,7 @@ pub extern "C" fn pt_timers_cancel(alloc: Global, t: &mut TimersHandle, timer: P
     ensures { CallsThrough t.old.state t.new.state result (Unit {0})
         (λ old new. CancelsTimer (timer_in timer) result old new) }
 {
-    let Some(mut held) = claim(alloc, t) else {
-        return EMPTY;
-    };
-    let code = match &mut held.timers {
-        Some(timers) => cancel(timers, timer),
-        None => EMPTY,
-    };
-    *t = hold(held);
-    code
+    timers::cancel(alloc, t, timer)
 }
 
 /// Fires one timer that is due by `now`: the one with the earliest time, and the one started first among those. It writes
@@ -97,15 +68,7 @@ pub extern "C" fn pt_timers_pop_due(
     ensures { CallsThrough t.old.state t.new.state result (out.new ≡ out.old)
         (λ old new. FiresTimer now result out.old out.new old new) }
 {
-    let Some(mut held) = claim(alloc, t) else {
-        return EMPTY;
-    };
-    let code = match &mut held.timers {
-        Some(timers) => pop_due(timers, now, out),
-        None => EMPTY,
-    };
-    *t = hold(held);
-    code
+    timers::pop_due(alloc, t, now, out)
 }
 
 /// The timer that `pt_timers_pop_due` would fire, which stays pending; 8 if none is due.
@@ -119,15 +82,7 @@ pub extern "C" fn pt_timers_peek_due(
     ensures { ReadsThrough t.old.state t.new.state result (out.new ≡ out.old)
         (λ timers. ShowsDue now result out.old out.new timers) }
 {
-    let Some(held) = claim(alloc, t) else {
-        return EMPTY;
-    };
-    let code = match &held.timers {
-        Some(timers) => peek_due(timers, now, out),
-        None => EMPTY,
-    };
-    *t = hold(held);
-    code
+    timers::peek_due(alloc, t, now, out)
 }
 
 /// The earliest time of a pending timer; 8 if none is pending.
@@ -136,15 +91,7 @@ pub extern "C" fn pt_timers_next(alloc: Global, t: &mut TimersHandle, out: &mut 
     ensures { ReadsThrough t.old.state t.new.state result (out.new ≡ out.old)
         (λ timers. ShowsNextTimer result out.old out.new timers) }
 {
-    let Some(held) = claim(alloc, t) else {
-        return EMPTY;
-    };
-    let code = match &held.timers {
-        Some(timers) => next(timers, out),
-        None => EMPTY,
-    };
-    *t = hold(held);
-    code
+    timers::next(alloc, t, out)
 }
 
 /// The number with which a pending timer was started; 8 if the timer is not pending.
@@ -158,15 +105,7 @@ pub extern "C" fn pt_timers_get(
     ensures { ReadsThrough t.old.state t.new.state result (out.new ≡ out.old)
         (λ timers. ShowsCode result out.old out.new (λ body. body) (body_of timers (timer_in timer))) }
 {
-    let Some(held) = claim(alloc, t) else {
-        return EMPTY;
-    };
-    let code = match &held.timers {
-        Some(timers) => get(timers, timer, out),
-        None => EMPTY,
-    };
-    *t = hold(held);
-    code
+    timers::get(alloc, t, timer, out)
 }
 
 /// The number of pending timers.
@@ -175,16 +114,5 @@ pub extern "C" fn pt_timers_len(alloc: Global, t: &mut TimersHandle, out: &mut u
     ensures { ReadsThrough t.old.state t.new.state result (out.new ≡ out.old)
         (λ timers. (result ≡ 0) × (out.new ≡ length timers.pending)) }
 {
-    let Some(held) = claim(alloc, t) else {
-        return EMPTY;
-    };
-    let code = match &held.timers {
-        Some(timers) => {
-            *out = timers.len();
-            DONE
-        }
-        None => EMPTY,
-    };
-    *t = hold(held);
-    code
+    timers::len(alloc, t, out)
 }

@@ -5,15 +5,14 @@
 
 ghost use Rattle.std.specs.Prelude.{◌≡◌};
 ghost use Rattle.pt_table.specs.Answers.{CallsThrough};
-ghost use Rattle.pt_c.specs.Nodes.{GivesUp};
+ghost use Rattle.pt_handles.specs.Handles.{GivesUp};
 ghost use Rattle.pt_doors.specs.Crossing.{LooksInCode, OpensWayIn, PostsCode, TakesCode, post_in, sample_post};
 
-use crate::node::end_code;
-use pt_doors::door_handle::{DoorHandle, claim as claim_door};
+use pt_calls::doors;
+use pt_doors::door_handle::DoorHandle;
 use pt_doors::through::{len, open_both, post as post_at, sample, take};
 use pt_doors::types::PtPost;
-use pt_doors::way_in_handle::{WayInHandle, claim as claim_way_in};
-use pt_structs::codes::EMPTY;
+use pt_doors::way_in_handle::WayInHandle;
 use std::alloc::Global;
 use std::mem::size_of;
 
@@ -36,10 +35,7 @@ pub extern "C" fn pt_door_open(
 pub extern "C" fn pt_door_give_up(alloc: Global, d: &mut DoorHandle) -> u32
     ensures { GivesUp result d.old.state d.new.state }
 {
-    match claim_door(alloc, d) {
-        Some(place) => end_code(place.door.is_some()),
-        None => EMPTY,
-    }
+    doors::give_up_door(alloc, d)
 }
 
 /// Gives up the end of a desk. The messages that wait in the way in are dropped.
@@ -47,10 +43,7 @@ pub extern "C" fn pt_door_give_up(alloc: Global, d: &mut DoorHandle) -> u32
 pub extern "C" fn pt_way_in_give_up(alloc: Global, w: &mut WayInHandle) -> u32
     ensures { GivesUp result w.old.state w.new.state }
 {
-    match claim_way_in(alloc, w) {
-        Some(place) => end_code(place.way_in.is_some()),
-        None => EMPTY,
-    }
+    doors::give_up_way_in(alloc, w)
 }
 
 /// Hands in a message, as `Door::post` does. It returns 1 if the door knows of no free place, and nothing has changed then.

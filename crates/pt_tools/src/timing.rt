@@ -10,10 +10,10 @@ use crate::types::{PtFired, PtTimer};
 use pt_timers::{Fired, StartError, Timer, Timers};
 
 /// The call succeeded.
-const DONE: u32 = 0;
+pub(crate) const DONE: u32 = 0;
 
 /// There was no memory.
-const MEMORY: u32 = 2;
+pub(crate) const MEMORY: u32 = 2;
 
 /// 2^64 - 1 timers were started.
 const WORN: u32 = 3;

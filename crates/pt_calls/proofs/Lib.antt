@@ -1,0 +1,1 @@
+-- The crate needs no lemmas of its own.

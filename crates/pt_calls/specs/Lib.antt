@@ -1,0 +1,4 @@
+pub mod Crews
+pub mod Naming
+pub mod About
+pub mod AboutTeams

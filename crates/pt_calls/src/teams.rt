@@ -1,0 +1,178 @@
+//! The calls of a team that get a desk or a history, too.
+//!
+//! Each returns 9 if a handle has none, and nothing has changed then. Of those that get a desk each returns 18 if the team
+//! is that of a desk with another number, and nothing has changed then either.
+
+ghost use Rattle.std.specs.Prelude.{◌≡◌};
+ghost use Rattle.pt_table.specs.Answers.{CallsThrough, ReadsThrough};
+ghost use Rattle.pt_structs.specs.Crossing.{pid_crossed};
+ghost use Rattle.pt_team_handles.specs.Teaming.{TeamNotesIfOwn, SpawnsBossInTeam, SpawnsChildInTeam, SpawnsInTeam, TeamTells};
+ghost use Rattle.pt_team_handles.specs.Through.{GoesOnIn};
+ghost use Rattle.pt_team_handles.specs.Through.{StepsIfOwn};
+
+use pt_structs::codes::EMPTY;
+use pt_structs::crossing::pid_in;
+use pt_structs::types::{PtNext, PtPid, PtTurned};
+use pt_table::desk_handle::{DeskHandle, claim, hold};
+use pt_table::history_handle::{HistoryHandle, claim as claim_history, hold as hold_history};
+use pt_team_handles::calls;
+use pt_team_handles::team_handle::TeamHandle;
+use pt_team_handles::types::{PtChildSpec, PtNotice, PtSupervisorSpec};
+use std::alloc::Global;
+
+/// Spawns a process on the desk with this tag, which does `first` next, as `Team::spawn` does. It writes the pid to
+/// `out` if it returns 0. It returns 16 if a code in `first` is none of its enumeration.
+pub fn spawn(
+    alloc: Global,
+    t: &mut TeamHandle,
+    h: &mut DeskHandle,
+    tag: u64,
+    first: PtNext,
+    out: &mut PtPid,
+) -> u32
+    ensures { CallsThrough h.old.state h.new.state result ((t.new.state ≡ t.old.state) × (out.new ≡ out.old))
+        (λ d e. CallsThrough t.old.state t.new.state result ((e ≡ d) × (out.new ≡ out.old))
+        (λ old new. SpawnsInTeam tag first result out.old out.new old d new e)) }
+{
+    let Some(mut place) = claim(alloc, h) else {
+        return EMPTY;
+    };
+    let code = match &mut place.desk {
+        Some(desk) => calls::spawn(alloc, t, desk, tag, first, out),
+        None => EMPTY,
+    };
+    *h = hold(place);
+    code
+}
+
+/// Spawns a child of the parent with this tag, linked with it if `linked` is true, as `Team::spawn_child` does. It writes
+/// the pid to `out` if it returns 0. It returns 16 if a code in `first` is none of its enumeration.
+pub fn spawn_child(
+    alloc: Global,
+    t: &mut TeamHandle,
+    h: &mut DeskHandle,
+    parent: PtPid,
+    linked: bool,
+    tag: u64,
+    first: PtNext,
+    out: &mut PtPid,
+) -> u32
+    ensures { CallsThrough h.old.state h.new.state result ((t.new.state ≡ t.old.state) × (out.new ≡ out.old))
+        (λ d e. CallsThrough t.old.state t.new.state result ((e ≡ d) × (out.new ≡ out.old))
+        (λ old new. SpawnsChildInTeam (pid_crossed parent) linked tag first result out.old out.new old d new e)) }
+{
+    let Some(mut place) = claim(alloc, h) else {
+        return EMPTY;
+    };
+    let code = match &mut place.desk {
+        Some(desk) => calls::spawn_child(alloc, t, desk, pid_in(parent), linked, tag, first, out),
+        None => EMPTY,
+    };
+    *h = hold(place);
+    code
+}
+
+/// Spawns a supervisor on the desk with this tag, which starts its children when it runs, as `Team::spawn_supervisor`
+/// does. It writes the pid to `out` if it returns 0. It returns 16 if a code of it or of a child is none of its enumeration.
+pub fn spawn_supervisor(
+    alloc: Global,
+    t: &mut TeamHandle,
+    h: &mut DeskHandle,
+    tag: u64,
+    spec: PtSupervisorSpec,
+    children: &[PtChildSpec],
+    out: &mut PtPid,
+) -> u32
+    ensures { CallsThrough h.old.state h.new.state result ((t.new.state ≡ t.old.state) × (out.new ≡ out.old))
+        (λ d e. CallsThrough t.old.state t.new.state result ((e ≡ d) × (out.new ≡ out.old))
+        (λ old new. SpawnsBossInTeam tag spec children.now result out.old out.new old d new e)) }
+{
+    let Some(mut place) = claim(alloc, h) else {
+        return EMPTY;
+    };
+    let code = match &mut place.desk {
+        Some(desk) => calls::spawn_supervisor(alloc, t, desk, tag, spec, children, out),
+        None => EMPTY,
+    };
+    *h = hold(place);
+    code
+}
+
+/// Does a turn of the desk, and then a step of the team, which hands out at most as many notices as `notices` has places.
+/// The notices are in front of `notices` then, `count` is their number, and `turned` is what the turn did.
+pub fn step(
+    alloc: Global,
+    t: &mut TeamHandle,
+    h: &mut DeskHandle,
+    budget: u32,
+    notices: &mut [PtNotice],
+    count: &mut usize,
+    turned: &mut PtTurned,
+) -> u32
+    ensures { CallsThrough h.old.state h.new.state result ((t.new.state ≡ t.old.state) × (notices.new ≡ notices.old)
+        × (count.new ≡ count.old) × (turned.new ≡ turned.old))
+        (λ d e. CallsThrough t.old.state t.new.state result ((e ≡ d) × (notices.new ≡ notices.old)
+        × (count.new ≡ count.old) × (turned.new ≡ turned.old))
+        (λ old new. StepsIfOwn budget result notices.old notices.new count.old count.new turned.old turned.new old d new e)) }
+{
+    let Some(mut place) = claim(alloc, h) else {
+        return EMPTY;
+    };
+    let code = match &mut place.desk {
+        Some(desk) => calls::step(alloc, t, desk, budget, notices, count, turned),
+        None => EMPTY,
+    };
+    *h = hold(place);
+    code
+}
+
+/// Notes what the loss with this number of the desk tells, as `Team::note_loss` does: the reason of an exit. It returns 8
+/// if there is no such loss.
+pub fn note_loss(alloc: Global, t: &mut TeamHandle, h: &mut DeskHandle, place: usize) -> u32
+    ensures { ReadsThrough h.old.state h.new.state result (t.new.state ≡ t.old.state)
+        (λ d. CallsThrough t.old.state t.new.state result (Unit {0}) (λ old new. TeamNotesIfOwn place result old d new)) }
+{
+    let Some(held) = claim(alloc, h) else {
+        return EMPTY;
+    };
+    let code = match &held.desk {
+        Some(desk) => calls::note_loss(alloc, t, desk, place),
+        None => EMPTY,
+    };
+    *h = hold(held);
+    code
+}
+
+/// Continues over the desk of the same number in a node that was resumed, with the history of the node before, as
+/// `Team::go_on` does.
+pub fn go_on(alloc: Global, t: &mut TeamHandle, history: &mut HistoryHandle) -> u32
+    ensures { ReadsThrough history.old.state history.new.state result (t.new.state ≡ t.old.state)
+        (λ told. CallsThrough t.old.state t.new.state result (Unit {0}) (λ old new. GoesOnIn told.events result old new)) }
+{
+    let Some(place) = claim_history(alloc, history) else {
+        return EMPTY;
+    };
+    let code = match &place.history {
+        Some(told) => calls::go_on(alloc, t, told.events.as_slice()),
+        None => EMPTY,
+    };
+    *history = hold_history(place);
+    code
+}
+
+/// Whether no process is in the queue, and all that happened on the desk was read.
+pub fn is_idle(alloc: Global, t: &mut TeamHandle, h: &mut DeskHandle, out: &mut bool) -> u32
+    ensures { ReadsThrough h.old.state h.new.state result ((t.new.state ≡ t.old.state) × (out.new ≡ out.old))
+        (λ d. ReadsThrough t.old.state t.new.state result (out.new ≡ out.old)
+        (λ own. TeamTells result own d out.old out.new)) }
+{
+    let Some(held) = claim(alloc, h) else {
+        return EMPTY;
+    };
+    let code = match &held.desk {
+        Some(desk) => calls::is_idle(alloc, t, desk, out),
+        None => EMPTY,
+    };
+    *h = hold(held);
+    code
+}

@@ -1,0 +1,2 @@
+-- The lemma that the crates above cite.
+pub mod Empty
