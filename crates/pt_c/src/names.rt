@@ -10,7 +10,7 @@ ghost use Rattle.pt_structs.specs.Crossing.{pid_crossed, pid_out, ref_in};
 ghost use Rattle.pt_calls.specs.Naming.{ChecksName, ForgetsHolder, IfIsName, RegistersName, UnregistersName};
 ghost use Rattle.pt_calls.specs.Naming.{name_crossed, name_out};
 ghost use Rattle.pt_handles.specs.Handles.{GivesUp};
-ghost use Rattle.pt_tools.specs.Opening.{OpensNames};
+ghost use Rattle.pt_calls.specs.Naming.{OpensNames};
 
 use pt_calls::names;
 use pt_calls::naming::{PtHolder, PtName};
