@@ -1,16 +1,19 @@
-//! Five scenes of processes that run code, each on four desks that rest while there is nothing to do. Each desk has a
-//! thread of its own, and the scene ends by what its processes do. They are:
+//! Six scenes of processes that run code, each on four desks. In the first five the desks rest while there is nothing to
+//! do. Each desk has a thread of its own, and the scene ends by what its processes do. They are:
 //!
 //! - a ring of a thousand processes;
 //! - a bank with a sum that stays;
 //! - a chat with guests that crash;
 //! - a queue of jobs below a tree of supervisors;
-//! - teams with workers that crash as they begin.
+//! - teams with workers that crash as they begin;
+//! - such teams in rounds on one thread, on a node that pauses again and again.
 //!
 //! # What is proved
 //!
 //! - **The team.** On each desk every child that its supervisor wants alive is alive, once the node is gathered.
 //!   (`AllChildrenLive`)
+//! - **The shifts.** Behind the pauses of its node each such child is alive, or unlinked itself. What happened until the
+//!   last pause is one legal history. (`AllChildrenLive`, `IsLegal`)
 //! - **The others.** Nothing goes wrong in a scene. That it ends, and what it prints, is seen by its run.
 #![tactic(auto)]
 
@@ -18,6 +21,7 @@ mod bank;
 mod chat;
 mod jobs;
 mod ring;
+mod shifts;
 mod stage;
 mod team;
 
@@ -31,5 +35,6 @@ fn main(rt: HostRuntime) -> Result<()> {
     println!(rt; "{}", jobs::play(&rt, alloc)?)?;
     let curtain = team::curtain(alloc)?;
     println!(rt; "{}", team::play(&rt, alloc, &curtain)?)?;
+    println!(rt; "{}", shifts::play(alloc, &curtain)?)?;
     Ok(())
 }

@@ -5,11 +5,13 @@
 ghost use Rattle.std.specs.Prelude.{◌≡◌, [], IfOk, Ok};
 ghost use Rattle.pt_crew.specs.declared.behaviour.Next.{Next};
 ghost use Rattle.pt_desk.specs.DeskState.{GoesOn};
+ghost use Rattle.pt_events.specs.History.{Past};
 ghost use Rattle.pt_gathered.specs.Gathered.{IsGathered};
 ghost use Rattle.pt_gathered.specs.Lawful.{LinksStand};
-ghost use Rattle.pt_workers.specs.Desks.{AreDesks, all_shards};
+ghost use Rattle.pt_workers.specs.Desks.{all_shards};
 ghost use Rattle.pt_workers.specs.Stillness.{AreStill};
-ghost use Rattle.pt_crew.specs.Running.{AreIdle, UpholdsOn};
+ghost use Rattle.pt_node.specs.Pasts.{GoOnFrom};
+ghost use Rattle.pt_crew.specs.Running.{AllUphold, AreIdle, UpholdsOn};
 ghost use Rattle.pt_supervisor.specs.Keeping.{AnswerAs, SupervisorBegins, Keeps};
 ghost use Rattle.pt_supervisor.specs.Gathering.{AllChildrenLive};
 ghost use Rattle.pt_supervisor.specs.Stopping.{StoppedChildrenEnded};
@@ -20,6 +22,7 @@ use crate::stage::{BUDGET, Curtain, DESKS, first_of, rested};
 use anyhow::{Result, bail};
 use pt_crew::{Behaviour, Births, Crew, Next, are_idle};
 use pt_node::{Account, Config, Desk, Fault, FreeGate, Item, Node, Pick, Pid, Quiet, Reason, open};
+use pt_pauses::paused_children_live;
 use pt_resting::{RestGate, RestingWork};
 use pt_supervisor::{
     Child, Limit, Restart, Start, Strategy, Supervised, Supervisor, gathered_children_live,
@@ -31,7 +34,7 @@ use std::sync::Wait;
 use std::thread::Threads;
 
 /// The number of workers of each desk that crash before the others stay.
-const CRASHES: u32 = 5;
+pub const CRASHES: u32 = 5;
 
 const CRASH: Reason = Reason::Other(1);
 
@@ -62,7 +65,7 @@ impl<'a> Start<Member<'a>> for Workers<'a> {
 
 /// A supervisor, or a worker, which keeps what it gets.
 #[derive(Drop)]
-struct Member<'a> {
+pub struct Member<'a> {
     boss: Option<Supervisor<Workers<'a>>>,
 }
 
@@ -123,8 +126,8 @@ fn all_staffed<'a>(
     desks: &mut Vec<Desk>,
     curtain: &'a Curtain,
 ) -> Result<Vec<RestingWork<'a, Crew<Member<'a>>>>>
-    ensures upholds { IfOk result (λ crews. AreTeams crews.items desks.new.items) }
-    ensures node { AreDesks desks.old.items → AreDesks desks.new.items }
+    ensures upholds { IfOk result (λ crews. AllUphold (Keeps [] boss_of) crews.items desks.new.items) }
+    ensures from { GoOnFrom [] desks.old.items → GoOnFrom [] desks.new.items }
 {
     let mut crews = Vec::new(alloc);
     for place in 0..desks.len() {
@@ -136,11 +139,11 @@ fn all_staffed<'a>(
 }
 
 /// Opens the node, with a supervisor on each desk.
-fn opened<'a>(
+pub fn opened<'a>(
     alloc: Global,
     curtain: &'a Curtain,
 ) -> Result<(Node, Vec<RestingWork<'a, Crew<Member<'a>>>>)>
-    ensures { IfOk result (λ r. AreTeams r.1.items r.0) }
+    ensures { IfOk result (λ r. AreTeams [] r.1.items r.0) }
 {
     let mut desks = open(alloc, Config::DEFAULT.with_desks(DESKS).with_slots(16))?;
     let crews = all_staffed(alloc, &mut desks, curtain);
@@ -156,10 +159,10 @@ fn perform<'a, R: Threads + Wait + Sync>(
     crews: &mut Vec<RestingWork<'a, Crew<Member<'a>>>>,
     curtain: &Curtain,
 ) -> Result<()>
-    ensures { IfOk result (λ _. AreTeams crews.old.items node.old → AreTeams crews.new.items node.new) }
+    ensures { IfOk result (λ _. AreTeams [] crews.old.items node.old → AreTeams [] crews.new.items node.new) }
 {
     let gate = curtain.gate(rt);
-    gathered_children_live::<Member<'a>, RestGate<'_, R>>(&gate);
+    paused_children_live::<Member<'a>, RestGate<'_, R>>(&gate);
     if node.run(rt, crews, u64::MAX, BUDGET, &gate).is_err() {
         bail!("the scene does not run");
     }
@@ -169,10 +172,11 @@ fn perform<'a, R: Threads + Wait + Sync>(
 /// Lets the processes that are there do what they have to, in rounds on the calling thread. Then no process has anything
 /// to do, and no letter is in flight.
 fn come_to_rest<'a>(node: &mut Node, crews: &mut Vec<Crew<Member<'a>>>) -> Result<()>
-    ensures upholds { IfOk result (λ _. AreTeams crews.old.items node.old → AreTeams crews.new.items node.new) }
+    ensures holds { IfOk result (λ _. (past : Past)
+        → AreTeams past crews.old.items node.old → AreTeams past crews.new.items node.new) }
     ensures still { IfOk result (λ _. AreIdle crews.new.items node.new × AreStill node.new) }
 {
-    gathered_children_live::<Member<'a>, FreeGate>(&FreeGate);
+    paused_children_live::<Member<'a>, FreeGate>(&FreeGate);
     if node.run_single(crews, 8, BUDGET, &FreeGate).is_err() {
         bail!("the scene does not run");
     }
@@ -208,6 +212,18 @@ pub fn curtain(alloc: Global) -> Result<Curtain, AllocError> {
     Curtain::new(alloc, CHILDREN * u64::from(DESKS))
 }
 
+/// Lets a node come to rest, and settles it. Then each child that its supervisor wants alive is alive.
+pub fn finish<'a>(node: Node, crews: Vec<Crew<Member<'a>>>) -> Result<Teams<'a>>
+    ensures { IfOk result (λ t. (past : Past) → AreTeams past crews.entry.items node
+        → AllChildrenLive past boss_of t.crews.items t.quiet.gathered) }
+{
+    gathered_children_live::<Member<'a>, FreeGate>(&FreeGate);
+    let (mut node, mut crews) = (node, crews);
+    come_to_rest(&mut node, &mut crews)?;
+    let quiet = settled(node)?;
+    Ok(Teams { crews, quiet })
+}
+
 /// Plays the scene until the curtain falls, and all is still. Then each child that its supervisor wants alive is alive.
 /// If a supervisor stops by itself, no child that it started is alive, unless the child sent it an exit signal.
 pub fn play<'a, R: Threads + Wait + Sync>(
@@ -218,14 +234,12 @@ pub fn play<'a, R: Threads + Wait + Sync>(
     ensures live { IfOk result (λ t. AllChildrenLive [] boss_of t.crews.items t.quiet.gathered) }
     ensures stopped { StoppedChildrenEnded boss_of }
 {
-    gathered_children_live::<Member<'a>, FreeGate>(&FreeGate);
     stopped_children_ended::<Member<'a>>();
     let (mut node, mut works) = opened(alloc, curtain)?;
     perform(rt, &mut node, &mut works, curtain)?;
-    let mut crews = rested(alloc, works)?;
-    come_to_rest(&mut node, &mut crews)?;
-    let quiet = settled(node)?;
-    Ok(Teams { crews, quiet })
+    let crews = rested(alloc, works)?;
+    let teams = finish(node, crews)?;
+    Ok(teams)
 }
 
 impl<'a> Teams<'a> {
@@ -249,7 +263,7 @@ impl<'a> Teams<'a> {
     }
 
     /// The number of children that a desk's supervisor wants alive, and the number of these that are.
-    fn counted(&self, desk: u8) -> (u32, u32) {
+    pub fn counted(&self, desk: u8) -> (u32, u32) {
         let mut wanted: u32 = 0;
         let mut living: u32 = 0;
         for child in self.children(desk) {

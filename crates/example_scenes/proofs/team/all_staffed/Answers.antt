@@ -1,13 +1,13 @@
--- `all_staffed`: its clauses `upholds` and `node`, and its loop over `place`.
+-- `all_staffed`: its clauses `upholds` and `from`, and its loop over `place`.
 use Rattle.std.proofs.Common.{◌≡◌, ◌<◌, ◌++◌, ◌∷◌, [], List, length, set, sym, ap, subst, ◌∙◌, length-append, arith}
 use Rattle.std.proofs.lemmas.List.{length-set}
-use Rattle.pt_workers.proofs.StillDesks.{still_desks}
 use Rattle.pt_crew.specs.declared.crew.Crew.{Crew}
 use Rattle.pt_crew.proofs.Runs.{FirstUphold, one_more}
 use Rattle.pt_crew.specs.Running.{UpholdsOn}
 use Rattle.pt_supervisor.specs.Keeping.{Keeps}
 use Rattle.example_scenes.specs.declared.team.Member.{Member}
 use Rattle.example_scenes.specs.Team.{boss_of}
+use Rattle.example_scenes.proofs.Staffing.{one_keeps}
 use Rattle.example_scenes.proofs.team.all_staffed.Goals as goal
 
 pub loop-place-preserved : goal.loop-place-preserved
@@ -18,7 +18,6 @@ loop-place-preserved c =
     let place = c.loop-place.place in
     let desk = c.staffed.new.desk in
     let crew : Crew Member = c.new-work.result in
-    let on = c.staffed.ensures.goes_on in
     let within : place < length desks = omega (arith, c.loop-place-test.true, inv.same, c.len-place-end.ensures) in
     let upholds = subst (λ (w : Crew Member). UpholdsOn (Keeps [] boss_of) w desk.shard) (sym c.new-work.ensures) c.in_ok-crew.ensures.upholds in
     let more = c.in_ok-push.ensures.items in
@@ -29,7 +28,7 @@ loop-place-preserved c =
       same = length-set desks place desk ∙ inv.same;
       first = subst (λ (cs : List (Crew Member)). FirstUphold (Keeps [] boss_of) cs (set desks place desk)) (sym more)
           (subst (λ n. FirstUphold (Keeps [] boss_of) (crews ++ crew ∷ []) (set desks n desk)) inv.count grown);
-      node = λ n. still_desks desks place c.index_mut.result.now desk (inv.node n) within c.index_mut.ensures.value (on.place, on.shard.config, on.sight.directory, on.shard.start);
+      from = λ f. one_keeps desks place c.index_mut.result.now desk within c.index_mut.ensures.value c.staffed.ensures.goes_on (inv.from f);
     }
 
 pub returns-clause-upholds : goal.returns-clause-upholds
@@ -38,18 +37,14 @@ returns-clause-upholds c =
     let count : length c.loop-place.crews.items ≡ length c.loop-place.desks.items = omega (arith, inv.count, inv.same, c.loop-place-test.false, c.loop-place.auto.place-end, c.len-place-end.ensures) in
     record { count = count; each = λ d crew x l. inv.first d crew x (omega (arith, l, count)) }
 
-pub returns-in_err-crew-clause-node : goal.returns-in_err-crew-clause-node
-returns-in_err-crew-clause-node c =
+pub returns-in_err-crew-clause-from : goal.returns-in_err-crew-clause-from
+returns-in_err-crew-clause-from c =
     let inv = c.loop-place.invariant in
-    let desks = c.loop-place.desks.items in
-    let on = c.staffed.ensures.goes_on in
-    λ n. still_desks desks c.loop-place.place c.index_mut.result.now c.staffed.new.desk (inv.node n) (omega (arith, c.loop-place-test.true, inv.same, c.len-place-end.ensures)) c.index_mut.ensures.value
-    (on.place, on.shard.config, on.sight.directory, on.shard.start)
+    λ f. one_keeps c.loop-place.desks.items c.loop-place.place c.index_mut.result.now c.staffed.new.desk (omega (arith, c.loop-place-test.true, inv.same, c.len-place-end.ensures)) c.index_mut.ensures.value c.staffed.ensures.goes_on
+    (inv.from f)
 
-pub returns-in_err-push-clause-node : goal.returns-in_err-push-clause-node
-returns-in_err-push-clause-node c =
+pub returns-in_err-push-clause-from : goal.returns-in_err-push-clause-from
+returns-in_err-push-clause-from c =
     let inv = c.loop-place.invariant in
-    let desks = c.loop-place.desks.items in
-    let on = c.staffed.ensures.goes_on in
-    λ n. still_desks desks c.loop-place.place c.index_mut.result.now c.staffed.new.desk (inv.node n) (omega (arith, c.loop-place-test.true, inv.same, c.len-place-end.ensures)) c.index_mut.ensures.value
-    (on.place, on.shard.config, on.sight.directory, on.shard.start)
+    λ f. one_keeps c.loop-place.desks.items c.loop-place.place c.index_mut.result.now c.staffed.new.desk (omega (arith, c.loop-place-test.true, inv.same, c.len-place-end.ensures)) c.index_mut.ensures.value c.staffed.ensures.goes_on
+    (inv.from f)

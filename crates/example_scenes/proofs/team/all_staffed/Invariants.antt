@@ -1,6 +1,6 @@
 -- `all_staffed`: what holds in its loop over `place`.
 use Rattle.std.proofs.Common.{◌≡◌, [], length}
-use Rattle.pt_workers.specs.Desks.{AreDesks}
+use Rattle.pt_node.specs.Pasts.{GoOnFrom}
 use Rattle.pt_crew.proofs.Runs.{FirstUphold}
 use Rattle.pt_supervisor.specs.Keeping.{Keeps}
 use Rattle.example_scenes.specs.Team.{boss_of}
@@ -11,5 +11,5 @@ invariant-loop-place l = record {
   count : length l.crews.items ≡ l.place;
   same : length l.desks.items ≡ length l.fn.desks.items;
   first : FirstUphold (Keeps [] boss_of) l.crews.items l.desks.items;
-  node : AreDesks l.fn.desks.items → AreDesks l.desks.items;
+  from : GoOnFrom [] l.fn.desks.items → GoOnFrom [] l.desks.items;
 }

@@ -1,5 +1,5 @@
--- `come_to_rest`: its clauses `upholds` and `still`.
-use Rattle.std.proofs.Common.{◌≡◌, false, List, [], Option, Some, None, is_some, sym, ◌∙◌, refl, subst}
+-- `come_to_rest`: its clauses `holds` and `still`.
+use Rattle.std.proofs.Common.{◌≡◌, false, List, Option, Some, None, is_some, sym, ◌∙◌, refl, subst}
 use Rattle.pt_desk.specs.DeskState.{DeskState}
 use Rattle.pt_crew.specs.declared.crew.Crew.{Crew}
 use Rattle.pt_crew.specs.Running.{AreIdle}
@@ -10,10 +10,10 @@ none_of : {X : Type 0} (o : Option X) → is_some o ≡ false → o ≡ None
 none_of None h = refl
 none_of (Some x) h = absurd (cc)
 
-pub returns-clause-upholds : goal.returns-clause-upholds
-returns-clause-upholds c =
-    λ a. c.gathered_children_live.ensures.rests [] 256 c.run_single.new.self c.turn_until_still.new.self c.run_single.new.works.items c.turn_until_still.result c.turn_until_still.ensures.rounds
-    (c.gathered_children_live.ensures.rounds [] 8 256 c.args.node.now c.run_single.new.self c.args.crews.now.items c.run_single.new.works.items c.run_single.result c.run_single.ensures a)
+pub returns-clause-holds : goal.returns-clause-holds
+returns-clause-holds c =
+    λ past a. c.paused_children_live.ensures.rests past 256 c.run_single.new.self c.turn_until_still.new.self c.run_single.new.works.items c.turn_until_still.result c.turn_until_still.ensures.rounds
+    (c.paused_children_live.ensures.rounds past 8 256 c.args.node.now c.run_single.new.self c.args.crews.now.items c.run_single.new.works.items c.run_single.result c.run_single.ensures a)
 
 pub returns-clause-still : goal.returns-clause-still
 returns-clause-still c =

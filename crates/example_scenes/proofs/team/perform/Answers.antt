@@ -4,4 +4,4 @@ use Rattle.example_scenes.proofs.team.perform.Goals as goal
 
 pub returns : goal.returns
 returns g c =
-    c.gathered_children_live.ensures.run [] 18446744073709551615 256 c.args.node.now c.run.new.self c.args.crews.now.items c.run.new.works.items c.run.result c.run.ensures
+    c.paused_children_live.ensures.run [] 18446744073709551615 256 c.args.node.now c.run.new.self c.args.crews.now.items c.run.new.works.items c.run.result c.run.ensures

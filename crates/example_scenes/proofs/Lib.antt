@@ -1,0 +1,3 @@
+-- The lemmas of the scenes `team` and `shifts`.
+pub mod Staffing
+pub mod Booking
