@@ -11,7 +11,7 @@ use pt_render::{JsonEvent, JsonLeftOver, MERMAID_HEAD, MermaidEvent, MermaidLeft
 use pt_texts::LeftOver;
 use std::alloc::Global;
 use std::io::{Read, Write};
-use std::mem;
+use std::{fmt, mem};
 
 /// Reads the next bytes. After a fault the audit has read nothing.
 fn feed(alloc: Global, audit: &mut Audit, bytes: &[u8]) -> Result<(), Fault> {
@@ -45,12 +45,16 @@ fn read_pieces<R: Read>(
     before: u64,
 ) -> Result<(), Refusal> {
     for _ in 0..u64::MAX {
-        let bytes = read_piece(from, piece)?;
-        if bytes.len() == 0 {
-            return Ok(());
-        }
-        if let Err(fault) = feed(alloc, audit, bytes) {
-            return Err(faulty(fault, before));
+        match read_piece(from, piece) {
+            Ok(bytes) => {
+                if bytes.len() == 0 {
+                    return Ok(());
+                }
+                if let Err(fault) = feed(alloc, audit, bytes) {
+                    return Err(faulty(fault, before));
+                }
+            }
+            Err(refusal) => return Err(refusal),
         }
     }
     Err(Refusal::Memory)
@@ -72,15 +76,21 @@ pub fn audit_lines<R: Read + Drop, W: Write>(
     asked: &Asked<'_, '_>,
     out: &mut Output<W>,
 ) -> Result<(), Refusal> {
-    print_head(asked, out)?;
-    begin(sources)?;
-    audit_all(alloc, audit, sources, asked, out)
+    if let Err(refusal) = print_head(asked, out) {
+        return Err(refusal);
+    }
+    match begin(sources) {
+        Ok(()) => audit_all(alloc, audit, sources, asked, out),
+        Err(refusal) => Err(refusal),
+    }
 }
 
 /// Reads the first line of each file.
 fn begin<R: Read + Drop>(sources: &mut [Source<R>]) -> Result<(), Refusal> {
     for place in 0..sources.len() {
-        sources[place].advance()?;
+        if let Err(refusal) = sources[place].advance() {
+            return Err(refusal);
+        }
     }
     Ok(())
 }
@@ -98,7 +108,9 @@ fn audit_all<R: Read + Drop, W: Write>(
         let Some(source) = sources.get_mut(place) else {
             return Ok(());
         };
-        step(alloc, audit, source, several, asked, out)?;
+        if let Err(refusal) = step(alloc, audit, source, several, asked, out) {
+            return Err(refusal);
+        }
     }
     Err(Refusal::Memory)
 }
@@ -119,14 +131,18 @@ fn step<R: Read + Drop, W: Write>(
         return Err(fault_of(fault, source, several, out.before));
     }
     note(audit.hearing(), source, asked, out);
-    print_event(source, asked, out)?;
-    source.advance()
+    match print_event(source, asked, out) {
+        Ok(()) => source.advance(),
+        Err(refusal) => Err(refusal),
+    }
 }
 
 /// Reads the line.
 fn hear(alloc: Global, audit: &mut Audit, line: &[u8]) -> Result<(), Fault> {
-    feed(alloc, audit, line)?;
-    feed(alloc, audit, b"\n".as_slice())
+    match feed(alloc, audit, line) {
+        Ok(()) => feed(alloc, audit, b"\n".as_slice()),
+        Err(fault) => Err(fault),
+    }
 }
 
 /// The refusal for the fault of the file's line. With several files it names the file.
@@ -185,23 +201,12 @@ fn print_event<R: Read + Drop, W: Write>(
         return Ok(());
     }
     match asked.print {
-        Print::History => writeln!(out.writer, "{event}")?,
-        Print::Chart => {
-            if out.drawn.push(event).is_err() {
-                return Err(Refusal::Memory);
-            }
-        }
-        Print::Mermaid => {
-            let event = MermaidEvent(event);
-            writeln!(out.writer, "{event}")?;
-        }
-        Print::Json => {
-            let event = JsonEvent(event);
-            writeln!(out.writer, "{event}")?;
-        }
-        _ => {}
+        Print::History => out.say(event),
+        Print::Chart => out.keep(event),
+        Print::Mermaid => out.say(MermaidEvent(event)),
+        Print::Json => out.say(JsonEvent(event)),
+        _ => Ok(()),
     }
-    Ok(())
 }
 
 /// Prints the line of the file in a diagram or as JSON, if it is a letter left over whose sending is asked for.
@@ -227,27 +232,20 @@ fn print_left_over<R: Read + Drop, W: Write>(
         return Ok(());
     }
     match asked.print {
-        Print::Mermaid => {
-            let letter = MermaidLeftOver(letter);
-            writeln!(out.writer, "{letter}")?;
-        }
-        Print::Json => {
-            let letter = JsonLeftOver {
-                from_desk,
-                to_desk,
-                letter,
-            };
-            writeln!(out.writer, "{letter}")?;
-        }
-        _ => {}
+        Print::Mermaid => out.say(MermaidLeftOver(letter)),
+        Print::Json => out.say(JsonLeftOver {
+            from_desk,
+            to_desk,
+            letter,
+        }),
+        _ => Ok(()),
     }
-    Ok(())
 }
 
 /// Prints what comes before all events: the first line of a diagram.
 fn print_head<W: Write>(asked: &Asked<'_, '_>, out: &mut Output<W>) -> Result<(), Refusal> {
     if asked.print == Print::Mermaid {
-        writeln!(out.writer, "{MERMAID_HEAD}")?;
+        return out.say(MERMAID_HEAD);
     }
     Ok(())
 }
@@ -270,13 +268,20 @@ pub fn conclude<W: Write>(
     out: &mut Output<W>,
 ) -> Result<(), Refusal> {
     match verdict.foreign {
-        Some(foreign) if !asked.judge || asked.save.is_some() => {
-            out.writer.flush()?;
-            return Err(no_node(foreign, asked, out));
-        }
-        _ => print_verdict(verdict, asked.print, out)?,
+        Some(foreign) if !asked.judge || asked.save.is_some() => match out.flush() {
+            Ok(()) => Err(no_node(foreign, asked, out)),
+            Err(refusal) => Err(refusal),
+        },
+        _ => match print_verdict(verdict, asked.print, out) {
+            Ok(()) => demand(verdict, asked, out.before),
+            Err(refusal) => Err(refusal),
+        },
     }
-    if is_incomplete(verdict, asked, out.before) {
+}
+
+/// Refuses a legal history that is not complete, if it has to be.
+fn demand(verdict: Verdict, asked: &Asked<'_, '_>, before: u64) -> Result<(), Refusal> {
+    if is_incomplete(verdict, asked, before) {
         return Err(Refusal::Incomplete(verdict));
     }
     Ok(())
@@ -285,6 +290,38 @@ pub fn conclude<W: Write>(
 /// Whether letters are in flight, or no event came, where that has a status of its own.
 fn is_incomplete(verdict: Verdict, asked: &Asked<'_, '_>, before: u64) -> bool {
     (asked.wants_line_feed() && verdict.letters > 0) || (asked.complete && verdict.events == before)
+}
+
+/// A verdict, in the form of the output before it.
+#[derive(Clone, Copy)]
+struct Concluded {
+    verdict: Verdict,
+    print: Print,
+}
+
+impl fmt::Display for Concluded {
+    fn fmt<W: fmt::Write>(&self, f: &mut fmt::Formatter<W>) -> fmt::Result {
+        let verdict = self.verdict;
+        match self.print {
+            Print::Chart => write!(f, "<!-- {verdict} -->"),
+            Print::Mermaid => write!(f, "    %% {verdict}"),
+            Print::Json => write_json(verdict, f),
+            _ => write!(f, "{verdict}"),
+        }
+    }
+}
+
+fn write_json<W: fmt::Write>(verdict: Verdict, f: &mut fmt::Formatter<W>) -> fmt::Result {
+    let Verdict {
+        events,
+        desks,
+        letters,
+        ..
+    } = verdict;
+    write!(
+        f,
+        "{{\"verdict\":\"legal\",\"events\":{events},\"desks\":{desks},\"letters\":{letters}}}"
+    )
 }
 
 /// Prints the verdict of a history, in the form of the output before it, and flushes the writer.
@@ -297,23 +334,10 @@ fn print_verdict<W: Write>(
         foreign: None,
         ..verdict
     };
-    let Verdict {
-        events,
-        desks,
-        letters,
-        ..
-    } = verdict;
-    match print {
-        Print::Chart => writeln!(out.writer, "<!-- {verdict} -->")?,
-        Print::Mermaid => writeln!(out.writer, "    %% {verdict}")?,
-        Print::Json => writeln!(
-            out.writer,
-            "{{\"verdict\":\"legal\",\"events\":{events},\"desks\":{desks},\"letters\":{letters}}}"
-        )?,
-        _ => writeln!(out.writer, "{verdict}")?,
+    match out.say(Concluded { verdict, print }) {
+        Ok(()) => out.flush(),
+        Err(refusal) => Err(refusal),
     }
-    out.writer.flush()?;
-    Ok(())
 }
 
 /// Prints what became of each process, or the chart, if that is asked for and the history is legal so far.
@@ -338,8 +362,10 @@ fn print_chart<W: Write>(alloc: Global, out: &mut Output<W>) -> Result<(), Refus
 }
 
 fn print_drawing<W: Write>(drawing: &str, out: &mut Output<W>) -> Result<(), Refusal> {
-    out.writer.write_all(drawing.as_bytes())?;
-    Ok(())
+    match out.writer.write_all(drawing.as_bytes()) {
+        Ok(()) => Ok(()),
+        Err(error) => Err(Refusal::from(error)),
+    }
 }
 
 fn print_summary<W: Write>(
@@ -351,8 +377,11 @@ fn print_summary<W: Write>(
         let Some(standing) = hearing.standing(number) else {
             return Ok(());
         };
-        if asked.selection.has_process(standing.pid) {
-            writeln!(out.writer, "{standing}")?;
+        if !asked.selection.has_process(standing.pid) {
+            continue;
+        }
+        if let Err(refusal) = out.say(standing) {
+            return Err(refusal);
         }
     }
     Ok(())

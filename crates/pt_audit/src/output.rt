@@ -1,7 +1,9 @@
 //! The output: printed line by line, or kept for a drawing.
 
+use crate::refusal::Refusal;
 use pt_events::Stamped;
 use std::alloc::Global;
+use std::fmt::Display;
 use std::io::Write;
 
 /// A writer, the events that are to be drawn, and what was noted while reading.
@@ -37,6 +39,31 @@ impl<W: Write + Drop> Output<W> {
             foreign: None,
             met: false,
             before,
+        }
+    }
+}
+
+impl<W: Write> Output<W> {
+    /// Prints one line.
+    pub fn say<T: Display + Copy>(&mut self, line: T) -> Result<(), Refusal> {
+        match writeln!(self.writer, "{line}") {
+            Ok(()) => Ok(()),
+            Err(error) => Err(Refusal::from(error)),
+        }
+    }
+
+    /// Keeps the event for the drawing.
+    pub fn keep(&mut self, event: Stamped) -> Result<(), Refusal> {
+        match self.drawn.push(event) {
+            Ok(()) => Ok(()),
+            Err(_) => Err(Refusal::Memory),
+        }
+    }
+
+    pub fn flush(&mut self) -> Result<(), Refusal> {
+        match self.writer.flush() {
+            Ok(()) => Ok(()),
+            Err(error) => Err(Refusal::from(error)),
         }
     }
 }

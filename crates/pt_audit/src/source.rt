@@ -111,7 +111,10 @@ impl<R: Read + Drop> Source<R> {
 
     /// Reads the next line.
     pub fn advance(&mut self) -> Result<(), Refusal> {
-        self.is_open = self.read_line()?;
+        match self.read_line() {
+            Ok(is_open) => self.is_open = is_open,
+            Err(refusal) => return Err(refusal),
+        }
         self.number = self.number.saturating_add(1);
         self.event = event_of(self.line.as_slice());
         Ok(())
@@ -143,7 +146,10 @@ impl<R: Read + Drop> Source<R> {
 
     fn next_byte(&mut self) -> Result<Option<u8>, Refusal> {
         if self.place >= self.filled {
-            self.filled = self.read_piece()?;
+            match self.read_piece() {
+                Ok(count) => self.filled = count,
+                Err(refusal) => return Err(refusal),
+            }
             self.place = 0;
         }
         if self.place >= self.filled || self.place >= self.piece.len() {

@@ -1,56 +1,79 @@
 //! States: what one run leaves of a history, and the next one goes on from.
 
-use crate::refusal::{Refusal, faulty};
-use pt_auditor::{Audit, Rest, Verdict};
+use crate::refusal::Refusal;
+use pt_auditor::{Audit, Rest};
 use std::alloc::Global;
 use std::rt::Runtime;
-use std::{fs, io};
+use std::{fs, io, mem};
 
-/// An audit that goes on from the state in the file, or that has read nothing, and the number of events before it.
+/// Has the audit go on from the state in the file, if one is named. Returns the number of events before it.
 pub fn start<R: Runtime + AllocGlobal>(
     rt: &R,
     name: Option<&str>,
-) -> Result<(Audit, u64), Refusal> {
+    audit: &mut Audit,
+) -> Result<u64, Refusal> {
     match name {
-        Some(name) => go_on_from(rt, name),
-        None => Ok((Audit::new(rt.alloc()), 0)),
+        Some(name) => go_on_from(rt, name, audit),
+        None => Ok(0),
     }
 }
 
-fn go_on_from<R: Runtime + AllocGlobal>(rt: &R, name: &str) -> Result<(Audit, u64), Refusal> {
+fn go_on_from<R: Runtime + AllocGlobal>(
+    rt: &R,
+    name: &str,
+    audit: &mut Audit,
+) -> Result<u64, Refusal> {
     match fs::read(rt, name) {
-        Ok(text) => go_on(rt.alloc(), text.as_slice()),
-        Err(error) if error.kind() == io::ErrorKind::OutOfMemory => Err(Refusal::Memory),
-        Err(error) => Err(Refusal::UnreadState(error)),
+        Ok(text) => go_on(rt.alloc(), text.as_slice(), audit),
+        Err(error) => Err(unread_state(error)),
     }
 }
 
-fn go_on(alloc: Global, text: &[u8]) -> Result<(Audit, u64), Refusal> {
-    let rest = Rest::parse(alloc, text)?;
+fn unread_state(error: io::Error) -> Refusal {
+    if error.kind() == io::ErrorKind::OutOfMemory {
+        Refusal::Memory
+    } else {
+        Refusal::UnreadState(error)
+    }
+}
+
+fn go_on(alloc: Global, text: &[u8], audit: &mut Audit) -> Result<u64, Refusal> {
+    match Rest::parse(alloc, text) {
+        Ok(rest) => go_on_over(alloc, rest, audit),
+        Err(damage) => Err(Refusal::from(damage)),
+    }
+}
+
+fn go_on_over(alloc: Global, rest: Rest, audit: &mut Audit) -> Result<u64, Refusal> {
     let before = rest.events();
     match Audit::over(alloc, rest) {
-        Ok(audit) => Ok((audit, before)),
+        Ok(next) => {
+            *audit = next;
+            Ok(before)
+        }
         Err(unfit) => Err(Refusal::from(unfit)),
     }
 }
 
-/// The verdict on all that was read, behind so many events, and what is known of it, if it is at rest.
-pub fn rest_of(
-    alloc: Global,
-    audit: Audit,
-    before: u64,
-) -> Result<(Verdict, Option<Rest>), Refusal> {
-    match audit.hearing().end() {
-        Ok(verdict) => Ok((verdict, audit.rest(alloc).ok())),
-        Err(_) => match audit.end(alloc) {
-            Ok(verdict) => Ok((verdict, None)),
-            Err(fault) => Err(faulty(fault, before)),
-        },
+/// Takes the audit, and leaves one that has read nothing.
+pub fn taken(alloc: Global, audit: &mut Audit) -> Audit {
+    mem::replace(audit, Audit::new(alloc))
+}
+
+/// Writes what is known of the history to the file of this name.
+pub fn leave<R: Runtime + AllocGlobal>(
+    rt: &R,
+    name: &str,
+    audit: &mut Audit,
+) -> Result<(), Refusal> {
+    match taken(rt.alloc(), audit).rest(rt.alloc()) {
+        Ok(rest) => save(rt, name, &rest),
+        Err(_) => Err(Refusal::Memory),
     }
 }
 
 /// Writes the state to the file.
-pub fn save<R: Runtime + AllocGlobal>(rt: &R, name: &str, rest: &Rest) -> Result<(), Refusal> {
+fn save<R: Runtime + AllocGlobal>(rt: &R, name: &str, rest: &Rest) -> Result<(), Refusal> {
     match rest.text(rt.alloc()) {
         Ok(text) => write(rt, name, text.as_str()),
         Err(_) => Err(Refusal::Memory),

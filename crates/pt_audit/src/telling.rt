@@ -4,7 +4,7 @@ use crate::asked::Asked;
 use crate::refusal::Refusal;
 use clap::Error;
 use clap::error::ErrorKind;
-use pt_auditor::Verdict;
+use pt_auditor::{Foreign, Verdict};
 use pt_signal::Pid;
 use std::fmt::Display;
 use std::process::ExitCode;
@@ -22,6 +22,20 @@ impl fmt::Display for Twice {
     }
 }
 
+/// What is said before the line of a legal history that no node prints.
+const STRANGE: &str = "legal, but of no node: ";
+
+/// A line of a legal history that no node prints.
+#[derive(Clone, Copy)]
+struct Strange(Foreign);
+
+impl fmt::Display for Strange {
+    fn fmt<W: fmt::Write>(&self, f: &mut fmt::Formatter<W>) -> fmt::Result {
+        let foreign = self.0;
+        write!(f, "{STRANGE}{foreign}")
+    }
+}
+
 /// The name, or none.
 fn given(name: Option<&str>) -> &str {
     match name {
@@ -36,11 +50,21 @@ pub fn tell<R: Runtime, T: Display + Drop>(rt: &R, line: T, status: u8) -> ExitC
     ExitCode::from(status)
 }
 
-/// Reports what is wrong with the state of this name.
-fn tell_state<R: Runtime, T: Display + Drop>(rt: &R, name: Option<&str>, why: T) -> ExitCode {
-    let name = given(name);
-    let _ = eprintln!(rt; "{name}: {why}");
-    ExitCode::from(3)
+/// Prints one line on standard error, which names a file behind the head, and returns the status.
+fn tell_of<R: Runtime, T: Display + Copy>(
+    rt: &R,
+    head: &str,
+    name: &str,
+    why: T,
+    status: u8,
+) -> ExitCode {
+    let _ = eprintln!(rt; "{head}{name}: {why}");
+    ExitCode::from(status)
+}
+
+/// Reports what is wrong with the state that the history goes on from.
+fn tell_state<R: Runtime, T: Display + Copy>(rt: &R, asked: &Asked<'_, '_>, why: T) -> ExitCode {
+    tell_of(rt, "", given(asked.resume), why, 3)
 }
 
 /// Reports that the last line of the file has no line feed.
@@ -85,6 +109,15 @@ fn tell_version<R: Runtime>(rt: &R, error: Error) -> ExitCode {
     }
 }
 
+/// The name of the file at the place, if there are several.
+fn several<'a>(files: &'a [&'a str], place: usize) -> Option<&'a str> {
+    if files.len() > 1 {
+        Some(name_of(files, place))
+    } else {
+        None
+    }
+}
+
 /// The name of a file.
 fn name_of<'a>(files: &'a [&'a str], place: usize) -> &'a str {
     if place < files.len() {
@@ -117,25 +150,13 @@ pub fn tell_refusal<R: Runtime>(rt: &R, asked: &Asked<'_, '_>, refusal: Refusal)
     let files = asked.files;
     match refusal {
         Refusal::History(fault) => tell(rt, fault, 1),
-        Refusal::InFile(place, fault) => {
-            let name = name_of(files, place);
-            let _ = eprintln!(rt; "{name}: {fault}");
-            ExitCode::from(1)
-        }
-        Refusal::NoNode(foreign) => {
-            let _ = eprintln!(rt; "legal, but of no node: {foreign}");
-            ExitCode::from(1)
-        }
+        Refusal::InFile(place, fault) => tell_of(rt, "", name_of(files, place), fault, 1),
+        Refusal::NoNode(foreign) => tell(rt, Strange(foreign), 1),
         Refusal::NoNodeInFile(place, foreign) => {
-            let name = name_of(files, place);
-            let _ = eprintln!(rt; "legal, but of no node: {name}: {foreign}");
-            ExitCode::from(1)
+            tell_of(rt, STRANGE, name_of(files, place), foreign, 1)
         }
         Refusal::Incomplete(verdict) => tell_incomplete(rt, verdict),
-        Refusal::Torn(place, line) if files.len() > 1 => {
-            tell_torn(rt, Some(name_of(files, place)), line)
-        }
-        Refusal::Torn(_, line) => tell_torn(rt, None, line),
+        Refusal::Torn(place, line) => tell_torn(rt, several(files, place), line),
         refusal => tell_stated(rt, asked, refusal),
     }
 }
@@ -143,8 +164,8 @@ pub fn tell_refusal<R: Runtime>(rt: &R, asked: &Asked<'_, '_>, refusal: Refusal)
 /// Reports what is wrong with a state or a file, or that there was no memory.
 fn tell_stated<R: Runtime>(rt: &R, asked: &Asked<'_, '_>, refusal: Refusal) -> ExitCode {
     match refusal {
-        Refusal::Damaged(damage) => tell_state(rt, asked.resume, damage),
-        Refusal::Twice(pid) => tell_state(rt, asked.resume, Twice(pid)),
+        Refusal::Damaged(damage) => tell_state(rt, asked, damage),
+        Refusal::Twice(pid) => tell_state(rt, asked, Twice(pid)),
         Refusal::UnreadState(error) => tell_unread(rt, asked.explain, given(asked.resume), error),
         Refusal::Unsaved(error) => tell_unread(rt, asked.explain, given(asked.save), error),
         Refusal::Unread(place, error) => {
