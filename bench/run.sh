@@ -208,6 +208,10 @@ ping_epochs() {
     run huge env $huge "$epochs" ping 1 999900
     run slots "$epochs" ping 300 3333 65536
     run slots "$epochs" ping 1 999900 65536
+    run live10 "$epochs" ping 300 3333 65536 10
+    run live10 "$epochs" ping 1 999900 65536 10
+    run live10000 "$epochs" ping 300 3333 65536 10000
+    run live10000 "$epochs" ping 1 999900 65536 10000
 }
 
 one_round() {

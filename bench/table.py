@@ -331,6 +331,12 @@ table(
             )
         ]
         + [ratio((setting, "epochs", f"ping_{GROWS}"), (plain, "epochs", f"ping_{GROWS}")) if setting == huge else ""]
-        for name, setting in (("1,024 slots", plain), ("1,024 slots, huge pages", huge), ("65,536 slots", "slots"))
+        for name, setting in (
+            ("1,024 slots", plain),
+            ("1,024 slots, huge pages", huge),
+            ("65,536 slots", "slots"),
+            ("65,536 slots, 10 processes", "live10"),
+            ("65,536 slots, 10,000 processes", "live10000"),
+        )
     ],
 )
