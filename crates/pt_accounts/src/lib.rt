@@ -21,7 +21,7 @@
 //! An event of a journal takes constant time, on average, as the desk's own call did. A take costs what it looks at. A
 //! process is found by its slot and version, so nothing is searched or sorted. Each process that was spawned since the
 //! table last forgot takes 48 bytes, and 8 for its exit. A live one, and one that exited with an item, link, watch or
-//! monitor, also keeps its lists. One that exited before takes 8 bytes for its reason.
+//! monitor, also keeps its lists. Those that exited before take 12 bytes for each run of equal reasons.
 //!
 //! Tests: `checks/tried/test_calls/called.rt.txt`, `checks/tried/test_calls/desk.rt.txt` and `checks/rows/quiet.txt`.
 //!

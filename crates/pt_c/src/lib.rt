@@ -7,8 +7,8 @@
 //! code, too.
 //!
 //! Values with an enum or an option in Rattle cross as plain structs with a code (`pt_structs::types`). `about` reports
-//! codes, sizes and fields, to be compared with a header. `pt_calls` has the calls on a desk, a crew and a team,
-//! `pt_nodes` those on a node, `pt_tools` those of timers and names, and `pt_doors` those of a way in.
+//! codes, sizes and fields, to be compared with a header. `pt_calls` has the calls on a desk, a crew, a team and
+//! names, `pt_nodes` those on a node, `pt_tools` those of timers, and `pt_doors` those of a way in.
 //!
 //! Tests: `bindings/run.sh`.
 //!

@@ -79,8 +79,8 @@ pub record WasInTurn (start : Start) (slots : ℕ) (p : Pid) : Type 0 where
   pub version : 0 < p.version
   pub before : (v : ℕ) → 0 < v → v < p.version → is_ended (at_start start (record p { version = v })) ≡ true
 
--- the ends that desk d told before its journal, which began at this stamp: each is of a process of the desk that had
--- ended, and of whoever had ended its end was told, or a later one of its slot
+-- the ends that desk d told before its journal, which began at this stamp. Each is of a process of the desk that had
+-- ended. If a process of the desk had ended, its end was told, or a later one of its slot
 pub record AreToldBefore (start : Start) (low d : ℕ) (told : List Death) : Type 0 where
   pub each : (k : ℕ) (x : Death) → get_elem? told k ≡ some x
       → (x.shard ≡ d) × (x.stamp ≤ low)

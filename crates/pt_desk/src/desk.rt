@@ -291,9 +291,9 @@ impl Desk {
         self.shard.pending()
     }
 
-    /// Forgets why the processes of this desk exited that had exited before its journal, which is empty: the reason of
-    /// each is `noproc` from now on, as a monitor of it is told. Each stays exited for ever, and all else is as it was.
-    /// It takes no memory, and gives back what the reasons took, but for 12 bytes a slot.
+    /// Forgets why processes of this desk exited before its journal, which is empty. The reason of each is `noproc` from
+    /// now on, as a monitor of it is told. Each stays exited for ever, and all else is as it was. It takes no memory. It
+    /// gives back what the reasons took, but for one entry of 12 bytes a slot and the room for a second.
     pub fn forget_reasons(&mut self)
         requires fresh { self.old.shard.journal ≡ [] }
         ensures { self.new ≡ forgetful_desk self.old }

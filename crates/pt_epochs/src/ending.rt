@@ -23,7 +23,8 @@ use std::alloc::{AllocError, Global};
 /// No list of all pids is made, and the directory of exited processes is kept. So it costs what happened since the node
 /// was opened or resumed, the live processes, and the slots that were ever used.
 ///
-/// Fails as [`Halted`] says. What was done until then stays, and [`Halted::go_on`] does the rest.
+/// Fails as [`Halted`] says. What was done until then stays, and [`Halted::go_on`] does the rest; it makes the directory
+/// anew.
 pub fn end_epoch<B: Behaviour + Drop, S: Sink>(
     alloc: Global,
     node: Node,

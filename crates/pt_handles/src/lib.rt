@@ -6,7 +6,7 @@
 //!
 //! # What is proved
 //!
-//! - **Giving up.** The code says whether the handle had something. (`GivesUp`)
+//! - **Giving up.** `end_code` returns 0 if the handle had something, and else 9.
 #![tactic(auto)]
 
 pub mod ending;

@@ -68,9 +68,9 @@
 //! - **Gathering.** `gather` returns the node with the journals as they were, or gives all desks back as they were.
 //! - **Resuming.** `resume` continues from a quiet node with empty journals, or gives it back as it was. Pids, versions
 //!   and clocks continue. `resume_settled` does the same from a settled node without a list of its pids. (`AreResumed`)
-//! - **Keeping.** `resume_kept` does what `resume_settled` does, in the directory that was kept when the node was
-//!   gathered. No exit is reported anew but those that settling brought. (`IsKeptFor`)
-//! - **Forgetting reasons.** `resume_forgetting` makes the same desks, but the reason of each exited one is `noproc`.
+//! - **Keeping.** `resume_kept` promises what `resume_settled` does, for what was kept when the node was gathered.
+//!   (`IsKeptFor`)
+//! - **Forgetting reasons.** `resume_forgetting` makes the same desks, but each exited process has the reason `noproc`.
 //!   The laws of a quiet node hold over them, and its history goes on. (`ResumesForgetful`)
 //! - **The node's calls.** Each call of `Node` does what the call of the pid's desk does, and the other desks stay. It
 //!   has no precondition. (`CallsAt`, `CallsTo`)

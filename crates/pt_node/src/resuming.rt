@@ -172,13 +172,12 @@ fn prepare_kept(
 
 /// Continues from a settled node as [`resume_settled`] does, and forgets why its processes exited: each exited process
 /// stays exited for ever, but its reason is [`Reason::Noproc`](pt_signal::Reason::Noproc) from now on. That is what a
-/// monitor of it is told anyway. So of all processes that a slot ever had only their number is kept, in 12 bytes, also
-/// if each exited for a reason of its own.
+/// monitor of it is told anyway. So of all processes that a slot ever had only their number is kept, in one entry of 12
+/// bytes beside the room for a second, also if each exited for a reason of its own.
 ///
 /// Nothing else is forgotten: what lives, what it holds, whether a process was ever spawned, and whether it exited. All
-/// laws of quiet nodes hold as before. The desks continue from the same history, which still tells each reason. The
-/// node does not: what was claimed of a node that knows them all, as the whole history of epochs, is claimed of it without
-/// reasons alone.
+/// laws of quiet nodes hold as before. The desks continue from the same history, but for the reasons in it
+/// (`ResumesForgetful`).
 ///
 /// Fails only if there is no memory: the settled node then comes back, as it was, and has forgotten nothing.
 pub fn resume_forgetting(alloc: Global, settled: Settled) -> Result<Vec<Desk>, RestingSettled>
