@@ -23,7 +23,7 @@ module _ (f : LifeState → LifeState) where
   get_map (l ∷ lives) (suc zero) = refl
   get_map (l ∷ lives) (suc (suc k)) = get_map lives (suc k)
 
-  slot_map : (slots : Slots) (s : ℕ) → slot_at (map (λ lives. map f lives) slots) s ≡ map f (slot_at slots s)
+  pub slot_map : (slots : Slots) (s : ℕ) → slot_at (map (λ lives. map f lives) slots) s ≡ map f (slot_at slots s)
   slot_map [] s = refl
   slot_map (lives ∷ slots) zero = refl
   slot_map (lives ∷ slots) (suc s) = slot_map slots s

@@ -6,6 +6,7 @@ pub mod Listing
 pub mod MayObserve
 pub mod Counted
 pub mod Forgetting
+pub mod ToForget
 pub mod Walking
 pub mod SlotLives
 pub mod Reading

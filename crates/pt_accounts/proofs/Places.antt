@@ -74,14 +74,7 @@ unseen_version xs (suc i) f n h (suc j) = rw suc_suc (go (i == j) refl)
         let none : slice_get xs j ≡ None = slice_get-past xs j (omega arith) in
         rw (m, none) refl
 
--- one more slot, which has had no process yet
-pub slot_at-push : (slots : Slots) (s : ℕ) → slot_at (slots ++ [] ∷ []) s ≡ slot_at slots s
-slot_at-push [] zero = refl
-slot_at-push [] (suc s) = refl
-slot_at-push (lives ∷ slots) zero = refl
-slot_at-push (lives ∷ slots) (suc s) = slot_at-push slots s
-
-slot_at-set : (slots : Slots) (i s : ℕ) (lives : List LifeState) → i < length slots → slot_at (set slots i lives) s ≡ cond (i == s) lives (slot_at slots s)
+pub slot_at-set : (slots : Slots) (i s : ℕ) (lives : List LifeState) → i < length slots → slot_at (set slots i lives) s ≡ cond (i == s) lives (slot_at slots s)
 slot_at-set [] i s lives h = absurd (omega arith)
 slot_at-set (l ∷ slots) zero zero lives h = refl
 slot_at-set (l ∷ slots) zero (suc s) lives h = rw zero_suc refl

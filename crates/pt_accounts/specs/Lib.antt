@@ -5,4 +5,5 @@ pub mod Pids
 pub mod SlotState
 pub mod DeskLives
 pub mod Steps
+pub mod Changed
 pub mod LivesState

@@ -2,6 +2,7 @@
 
 ghost use Rattle.std.specs.Prelude.{◌≡◌, [], ◌∷◌, ◌+◌, ◌<◌, ◌^◌, ◌++◌, ℕ, length, map, option_to_list, OnOk, OnErr};
 ghost use Rattle.std.specs.Option.{option_map};
+ghost use Rattle.std.specs.List.{Contains};
 ghost use Rattle.pt_accounts.specs.LifeState.{account_of};
 ghost use Rattle.pt_accounts.specs.DeskLives.{life_in, linked_in, kept_by, watching_in, pids_in, MayRead, ReadsOn};
 ghost use Rattle.pt_accounts.specs.DeskLives.{forgotten, all_forgotten, BeginsAnew, latest_ends};
@@ -9,10 +10,12 @@ ghost use Rattle.pt_accounts.specs.DeskLives.{bare, all_bare, BeginsBare};
 ghost use Rattle.pt_accounts.specs.Table.{slot_at, of_version_in};
 ghost use Rattle.pt_events.specs.declared.event.Event.TheVariants.{Born};
 ghost use Rattle.pt_accounts.specs.SlotState.{IsCountedUpTo};
+ghost use Rattle.pt_accounts.specs.Changed.{AreNoted, OthersAreForgotten, ParentIsNoted};
 ghost use Rattle.pt_accounts.specs.Steps.{ChangesLife, PutsLife, Observes, AreAlike, IsNextOf, TableGoesOn};
 ghost use Rattle.pt_accounts.specs.Steps.{MayShow, MayObserve, life_after};
 
 use crate::Account;
+use crate::changed::Changed;
 use crate::life::Life;
 use crate::slot::Slot;
 use pt_events::{Event, Journal};
@@ -28,6 +31,8 @@ pub struct DeskLives {
     alloc: Global,
     desk: u8,
     slots: Vec<Slot>,
+    /// The slots of all processes that had an event since the table last forgot.
+    changed: Changed,
     read: usize,
     /// The number of events ever read: no process got more items.
     ever: u64,
@@ -35,13 +40,13 @@ pub struct DeskLives {
 
 impl Model for DeskLives {
     ghost use Rattle.pt_accounts.specs.DeskLives.{DeskTable};
-    ghost use Rattle.pt_accounts.specs.SlotState.{IsCountedUpTo};
+    ghost use Rattle.pt_accounts.specs.Changed.{IsKept};
 
     ghost Value = { DeskTable };
 
     ghost view = { λ d. record { desk = d.desk; slots = d.slots.items; read = d.read } };
 
-    ghost invariant = { λ d. IsCountedUpTo d.ever d.slots.items };
+    ghost invariant = { λ d. IsKept d.ever d.changed d.slots.items };
 }
 
 /// Plays one of the process's own events.
@@ -130,12 +135,47 @@ fn observe(alloc: Global, slots: &mut Vec<Slot>, event: Event) -> Result<(), All
     }
 }
 
-/// Keeps only the reason of each exited process, and counts anew what the others take.
-fn forget_all(slots: &mut Vec<Slot>)
-    ensures { slots.new.items ≡ map (λ lives. map forgotten lives) slots.old.items }
+/// Adds the slots of a process that is born and of its parent.
+fn note_birth(changed: &mut Changed, pid: Pid, parent: Option<Pid>) -> Result<(), AllocError>
+    ensures child { OnOk result (Contains changed.new pid.slot) }
+    ensures parent { OnOk result (ParentIsNoted parent changed.new) }
+    ensures stays { (s : ℕ) → Contains changed.old s → Contains changed.new s }
 {
-    for slot in 0..slots.len() {
-        slots[slot].forget();
+    if let Some(parent) = parent {
+        changed.note(parent.slot)?;
+    }
+    changed.note(pid.slot)
+}
+
+/// Adds the slots of the processes that the event is of.
+#[inline(always)]
+fn note(changed: &mut Changed, event: Event) -> Result<(), AllocError>
+    ensures noted { OnOk result (AreNoted event changed.new) }
+    ensures stays { (s : ℕ) → Contains changed.old s → Contains changed.new s }
+{
+    match event {
+        Event::Born(pid, parent, _) => note_birth(changed, pid, parent),
+        Event::Said(from, _, _) => changed.note(from.slot),
+        Event::Came(_, to, _) => changed.note(to.slot),
+        Event::Took(pid, _, _) => changed.note(pid.slot),
+        Event::Flag(pid, _) => changed.note(pid.slot),
+        Event::Left(pid, _) => changed.note(pid.slot),
+        Event::Refused(_, _) => Ok(()),
+    }
+}
+
+/// Keeps only the reason of each exited process, and counts anew what the others take. It looks at the slots in the list
+/// alone: of the others there is nothing to forget.
+fn forget_changed(changed: &mut Changed, slots: &mut Vec<Slot>)
+    requires { OthersAreForgotten changed.old slots.old.items }
+    ensures forgets { slots.new.items ≡ map (λ lives. map forgotten lives) slots.old.items }
+    ensures none { changed.new ≡ [] }
+{
+    while let Some(slot) = changed.take() {
+        let slot = slot as usize;
+        if slot < slots.len() {
+            slots[slot].forget();
+        }
     }
 }
 
@@ -167,6 +207,7 @@ impl DeskLives {
             alloc,
             desk,
             slots: Vec::new(alloc),
+            changed: Changed::new(alloc),
             read: 0,
             ever: 0,
         }
@@ -201,6 +242,7 @@ impl DeskLives {
         let Some(ever) = self.ever.checked_add(1) else {
             return Err(AllocError);
         };
+        note(&mut self.changed, event)?;
         observe(self.alloc, &mut self.slots, event)?;
         self.ever = ever;
         self.read += 1;
@@ -209,12 +251,13 @@ impl DeskLives {
 
     /// Forgets what the exited processes held, and how they came to it. Only the reason of each is kept, in 8 bytes.
     /// The others stay as they are, and what they take is counted anew. The next journal that is read must be the one
-    /// that continues from here. It takes no memory.
+    /// that continues from here. It takes no memory, and looks only at slots whose processes had an event since the table
+    /// last forgot.
     pub fn forget(&mut self)
         ensures forgets { self.new ≡ all_forgotten self.old }
         ensures anew { BeginsAnew self.old self.new }
     {
-        forget_all(&mut self.slots);
+        forget_changed(&mut self.changed, &mut self.slots);
         self.read = 0;
     }
 

@@ -4,14 +4,21 @@ use Rattle.std.specs.Prelude.{filter_map}
 use Rattle.pt_accounts.specs.LifeState.{LifeState}
 use Rattle.pt_accounts.specs.DeskLives.{DeskTable, BeginsBare, latest_end, latest_ends}
 use Rattle.pt_accounts.specs.SlotState.{SlotsAreCounted}
+use Rattle.pt_accounts.specs.Changed.{OthersAreForgotten}
 use Rattle.pt_accounts.proofs.Forgetting.{begins_bare, counted_bare, latest_bares}
+use Rattle.pt_accounts.proofs.ToForget.{bare_others}
 use Rattle.pt_accounts.proofs.desk_lives.DeskLives.forget_reasons.Goals as goal
 
 pub invariant_of-self : goal.invariant_of-self
-invariant_of-self c = record {
-  few = c.self.invariant.few;
-  counted = subst (SlotsAreCounted c.self.inside.ever) (sym c.forget_all_reasons.ensures) (counted_bare c.self.inside.ever c.self.inside.slots.items c.self.invariant.counted);
-}
+invariant_of-self c =
+    let slots = c.self.inside.slots.items in
+    record {
+      counted = record {
+        few = c.self.invariant.counted.few;
+        counted = subst (SlotsAreCounted c.self.inside.ever) (sym c.forget_all_reasons.ensures) (counted_bare c.self.inside.ever slots c.self.invariant.counted.counted);
+      };
+      others = subst (OthersAreForgotten c.self.inside.changed) (sym c.forget_all_reasons.ensures) (bare_others c.self.inside.changed slots);
+    }
 
 pub returns-clause-bare : goal.returns-clause-bare
 returns-clause-bare c =

@@ -5,6 +5,7 @@ use Rattle.pt_accounts.specs.SlotState.{SlotsAreCounted}
 use Rattle.pt_accounts.specs.Steps.{TableGoesOn}
 use Rattle.pt_accounts.proofs.MayObserve.{may_observe, told_next}
 use Rattle.pt_accounts.proofs.Counted.{few_counted, counted_next}
+use Rattle.pt_accounts.proofs.ToForget.{more_others, observed_others}
 use Rattle.pt_accounts.proofs.desk_lives.DeskLives.step.Goals as goal
 use Rattle.pt_accounts.proofs.desk_lives.DeskLives.step.Goals.{In-Some}
 
@@ -15,7 +16,7 @@ pub observe-requires : goal.observe-requires
 observe-requires c =
     let s = c.self.inside in
     let g = next (goal.at.observe-requires c).In-Some in
-    may_observe g.start g.top s.desk s.slots.items g.past (few_counted s.ever s.slots.items (let e = c.in-Some.ensures in e.0) c.self.invariant.counted) g.told c.args.event g.home g.may g.known g.anew
+    may_observe g.start g.top s.desk s.slots.items g.past (few_counted s.ever s.slots.items (let e = c.in-Some.ensures in e.0) c.self.invariant.counted.counted) g.told c.args.event g.home g.may g.known g.anew
 
 pub invariant_of-self-2 : goal.invariant_of-self-2
 invariant_of-self-2 c =
@@ -23,9 +24,14 @@ invariant_of-self-2 c =
     let g = next (goal.at.invariant_of-self-2 c).In-Some in
     let e : s.ever + 1 ≡ c.in-Some.ever = let e = c.in-Some.ensures in sym e.1 in
     record {
-      few = let f = c.in-Some.ensures in omega (arith, f.0, f.1);
-      counted =
-          subst (λ n. SlotsAreCounted n c.observe.new.slots.items) e
-          (counted_next g.start s.desk s.slots.items c.observe.new.slots.items g.past c.args.event s.ever g.told
-          (told_next g.start s.desk s.slots.items c.observe.new.slots.items g.past g.told c.args.event g.home g.may c.in_ok-observe.ensures.observes) g.may c.self.invariant.counted);
+      counted = record {
+        few = let f = c.in-Some.ensures in omega (arith, f.0, f.1);
+        counted =
+            subst (λ n. SlotsAreCounted n c.observe.new.slots.items) e
+            (counted_next g.start s.desk s.slots.items c.observe.new.slots.items g.past c.args.event s.ever g.told
+            (told_next g.start s.desk s.slots.items c.observe.new.slots.items g.past g.told c.args.event g.home g.may c.in_ok-observe.ensures.observes) g.may c.self.invariant.counted.counted);
+      };
+      others =
+          observed_others c.note.new.changed c.args.event s.slots.items c.observe.new.slots.items c.in_ok-note.ensures.noted c.in_ok-observe.ensures.observes
+          (more_others s.changed c.note.new.changed s.slots.items c.note.ensures.stays c.self.invariant.others);
     }
