@@ -10,7 +10,7 @@ ghost use Rattle.pt_accounts.specs.DeskLives.{bare, all_bare, BeginsBare};
 ghost use Rattle.pt_accounts.specs.Table.{slot_at, of_version_in};
 ghost use Rattle.pt_events.specs.declared.event.Event.TheVariants.{Born};
 ghost use Rattle.pt_accounts.specs.SlotState.{IsCountedUpTo};
-ghost use Rattle.pt_accounts.specs.Changed.{AreNoted, OthersAreForgotten, ParentIsNoted};
+ghost use Rattle.pt_accounts.specs.Changed.{AreNoted, OthersAreForgotten};
 ghost use Rattle.pt_accounts.specs.Steps.{ChangesLife, PutsLife, Observes, AreAlike, IsNextOf, TableGoesOn};
 ghost use Rattle.pt_accounts.specs.Steps.{MayShow, MayObserve, life_after};
 
@@ -49,14 +49,22 @@ impl Model for DeskLives {
     ghost invariant = { λ d. IsKept d.ever d.changed d.slots.items };
 }
 
-/// Plays one of the process's own events.
+/// Plays one of the process's own events, and notes its slot.
 #[inline(always)]
-fn show(slots: &mut Vec<Slot>, pid: Pid, event: Event) -> Result<(), AllocError>
+fn show(
+    slots: &mut Vec<Slot>,
+    changed: &mut Changed,
+    pid: Pid,
+    event: Event,
+) -> Result<(), AllocError>
     requires { MayShow slots.old.items pid event }
     ensures changes { OnOk result (ChangesLife pid (life_after event) slots.old.items slots.new.items) }
     ensures len { length slots.new.items ≡ length slots.old.items }
+    ensures noted { OnOk result (Contains changed.new pid.slot) }
+    ensures stays { (s : ℕ) → Contains changed.old s → Contains changed.new s }
     ensures refused { OnErr result (AreAlike slots.old.items slots.new.items) }
 {
+    changed.note(pid.slot)?;
     let slot = pid.slot as usize;
     if slot < slots.len() {
         slots[slot].see(pid.version, event)?;
@@ -93,73 +101,56 @@ fn bear(alloc: Global, slots: &mut Vec<Slot>, pid: Pid, life: Life) -> Result<()
     Ok(())
 }
 
-/// Plays the spawn of a process, linked with its parent if its event says so. If it fails, each process is as before.
+/// Plays the spawn of a process, linked with its parent if its event says so, and notes their slots. If it fails, each
+/// process is as before.
 fn bear_child(
     alloc: Global,
     slots: &mut Vec<Slot>,
+    changed: &mut Changed,
     pid: Pid,
     parent: Option<Pid>,
     link: Option<LinkId>,
 ) -> Result<(), AllocError>
     requires { MayObserve slots.old.items (Born pid parent link) }
     ensures observes { OnOk result (Observes (Born pid parent link) slots.old.items slots.new.items) }
+    ensures noted { OnOk result (AreNoted (Born pid parent link) changed.new) }
+    ensures stays { (s : ℕ) → Contains changed.old s → Contains changed.new s }
     ensures refused { OnErr result (AreAlike slots.old.items slots.new.items) }
 {
+    changed.note(pid.slot)?;
     let life = Life::born(alloc, pid, parent, link)?;
     bear(alloc, slots, pid, life)?;
     let Some(maker) = parent else {
         return Ok(());
     };
-    let shown = show(slots, maker, Event::Born(pid, parent, link));
+    let shown = show(slots, changed, maker, Event::Born(pid, parent, link));
     if shown.is_err() {
         slots[pid.slot as usize].pop();
     }
     shown
 }
 
-/// Plays an event. If it fails, each process is as before.
+/// Plays an event, and notes the slots of the processes that it is of. If it fails, each process is as before.
 #[inline(always)]
-fn observe(alloc: Global, slots: &mut Vec<Slot>, event: Event) -> Result<(), AllocError>
+fn observe(
+    alloc: Global,
+    slots: &mut Vec<Slot>,
+    changed: &mut Changed,
+    event: Event,
+) -> Result<(), AllocError>
     requires { MayObserve slots.old.items event }
     ensures observes { OnOk result (Observes event slots.old.items slots.new.items) }
+    ensures noted { OnOk result (AreNoted event changed.new) }
+    ensures stays { (s : ℕ) → Contains changed.old s → Contains changed.new s }
     ensures refused { OnErr result (AreAlike slots.old.items slots.new.items) }
 {
     match event {
-        Event::Born(pid, parent, link) => bear_child(alloc, slots, pid, parent, link),
-        Event::Said(from, _, _) => show(slots, from, event),
-        Event::Came(_, to, _) => show(slots, to, event),
-        Event::Took(pid, _, _) => show(slots, pid, event),
-        Event::Flag(pid, _) => show(slots, pid, event),
-        Event::Left(pid, _) => show(slots, pid, event),
-        Event::Refused(_, _) => Ok(()),
-    }
-}
-
-/// Adds the slots of a process that is born and of its parent.
-fn note_birth(changed: &mut Changed, pid: Pid, parent: Option<Pid>) -> Result<(), AllocError>
-    ensures child { OnOk result (Contains changed.new pid.slot) }
-    ensures parent { OnOk result (ParentIsNoted parent changed.new) }
-    ensures stays { (s : ℕ) → Contains changed.old s → Contains changed.new s }
-{
-    if let Some(parent) = parent {
-        changed.note(parent.slot)?;
-    }
-    changed.note(pid.slot)
-}
-
-/// Adds the slots of the processes that the event is of.
-#[inline(always)]
-fn note(changed: &mut Changed, event: Event) -> Result<(), AllocError>
-    ensures noted { OnOk result (AreNoted event changed.new) }
-    ensures stays { (s : ℕ) → Contains changed.old s → Contains changed.new s }
-{
-    match event {
-        Event::Born(pid, parent, _) => note_birth(changed, pid, parent),
-        Event::Said(from, _, _) => changed.note(from.slot),
-        Event::Came(_, to, _) => changed.note(to.slot),
-        Event::Took(pid, _, _) => changed.note(pid.slot),
-        Event::Flag(pid, _) => changed.note(pid.slot),
-        Event::Left(pid, _) => changed.note(pid.slot),
+        Event::Born(pid, parent, link) => bear_child(alloc, slots, changed, pid, parent, link),
+        Event::Said(from, _, _) => show(slots, changed, from, event),
+        Event::Came(_, to, _) => show(slots, changed, to, event),
+        Event::Took(pid, _, _) => show(slots, changed, pid, event),
+        Event::Flag(pid, _) => show(slots, changed, pid, event),
+        Event::Left(pid, _) => show(slots, changed, pid, event),
         Event::Refused(_, _) => Ok(()),
     }
 }
@@ -242,8 +233,7 @@ impl DeskLives {
         let Some(ever) = self.ever.checked_add(1) else {
             return Err(AllocError);
         };
-        note(&mut self.changed, event)?;
-        observe(self.alloc, &mut self.slots, event)?;
+        observe(self.alloc, &mut self.slots, &mut self.changed, event)?;
         self.ever = ever;
         self.read += 1;
         Ok(())

@@ -32,6 +32,6 @@ invariant_of-self-2 c =
             (told_next g.start s.desk s.slots.items c.observe.new.slots.items g.past g.told c.args.event g.home g.may c.in_ok-observe.ensures.observes) g.may c.self.invariant.counted.counted);
       };
       others =
-          observed_others c.note.new.changed c.args.event s.slots.items c.observe.new.slots.items c.in_ok-note.ensures.noted c.in_ok-observe.ensures.observes
-          (more_others s.changed c.note.new.changed s.slots.items c.note.ensures.stays c.self.invariant.others);
+          observed_others c.observe.new.changed c.args.event s.slots.items c.observe.new.slots.items c.in_ok-observe.ensures.noted c.in_ok-observe.ensures.observes
+          (more_others s.changed c.observe.new.changed s.slots.items c.observe.ensures.stays c.self.invariant.others);
     }
