@@ -17,7 +17,7 @@ use Rattle.pt_accounts.specs.SlotState.{SlotsAreCounted, IsCounted}
 use Rattle.pt_accounts.proofs.Told.{told_at, all_told}
 
 module _ (f : LifeState → LifeState) where
-  get_map : (lives : List LifeState) (v : ℕ) → of_version (map f lives) v ≡ option_map f (of_version lives v)
+  pub get_map : (lives : List LifeState) (v : ℕ) → of_version (map f lives) v ≡ option_map f (of_version lives v)
   get_map lives zero = refl
   get_map [] (suc k) = refl
   get_map (l ∷ lives) (suc zero) = refl

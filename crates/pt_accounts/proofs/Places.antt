@@ -81,7 +81,7 @@ slot_at-set (l ∷ slots) zero (suc s) lives h = rw zero_suc refl
 slot_at-set (l ∷ slots) (suc i) zero lives h = rw suc_zero refl
 slot_at-set (l ∷ slots) (suc i) (suc s) lives h = rw suc_suc (slot_at-set slots i s lives (omega arith))
 
-slot_at-past : (slots : Slots) (s : ℕ) → length slots ≤ s → slot_at slots s ≡ []
+pub slot_at-past : (slots : Slots) (s : ℕ) → length slots ≤ s → slot_at slots s ≡ []
 slot_at-past [] s h = refl
 slot_at-past (l ∷ slots) zero h = absurd (omega arith)
 slot_at-past (l ∷ slots) (suc s) h = slot_at-past slots s (omega arith)

@@ -1,40 +1,42 @@
 -- The slots that have changed since the table last forgot. No public clause cites this module.
-use Rattle.std.specs.Prelude.{⊤, ◌≡◌, ◌⊎◌, ℕ, Bool, true, false, List, map, slice_index_or, Option, Some, None}
+use Rattle.std.specs.Prelude.{⊤, ◌≡◌, ◌⊎◌, ℕ, Bool, true, false, List, slice_index_or}
 use Rattle.std.specs.List.{Contains}
+use Rattle.std.specs.Option.{option_map}
 use Rattle.pt_signal.specs.declared.pid.Pid.{Pid}
+use Rattle.pt_signal.specs.declared.signal.Signal.{Signal}
+use Rattle.pt_signal.specs.declared.signal.Signal.TheVariants.{Message}
 use Rattle.pt_events.specs.declared.event.Event.{Event}
-use Rattle.pt_events.specs.declared.event.Event.TheVariants.{Born, Said, Came, Took, Flag, Left, Refused}
+use Rattle.pt_events.specs.declared.event.Event.TheVariants.{Came, Took, Left}
+use Rattle.pt_accounts.specs.LifeState.{LifeState}
 use Rattle.pt_accounts.specs.DeskLives.{forgotten}
-use Rattle.pt_accounts.specs.Table.{Slots, slot_at}
+use Rattle.pt_accounts.specs.Table.{Slots, of_version, slot_at}
 use Rattle.pt_accounts.specs.SlotState.{IsCountedUpTo}
 
 -- each slot that is marked is in the list
 abbrev pub AreListed : List Bool → List ℕ → Type 0
 AreListed listed slots = (s : ℕ) → slice_index_or listed s false ≡ true → Contains slots s
 
--- a slot of which there is nothing to forget
-abbrev pub IsForgottenAt : Slots → ℕ → Type 0
-IsForgottenAt slots s = map forgotten (slot_at slots s) ≡ slot_at slots s
+-- processes of which there is nothing to forget
+abbrev pub AreForgotten : List LifeState → Type 0
+AreForgotten lives = (v : ℕ) → option_map forgotten (of_version lives v) ≡ of_version lives v
 
--- there is nothing to forget of any slot but those in the list
+-- there is something to forget in no slot but those in the list
 abbrev pub OthersAreForgotten : List ℕ → Slots → Type 0
-OthersAreForgotten changed slots = (s : ℕ) → Contains changed s ⊎ IsForgottenAt slots s
+OthersAreForgotten changed slots = (s : ℕ) → Contains changed s ⊎ AreForgotten (slot_at slots s)
 
--- what a table has is counted, and it knows what there is to forget
+-- what a table has is counted, and it knows where there is something to forget
 pub record IsKept (ever : ℕ) (changed : List ℕ) (slots : Slots) : Type 0 where
   pub counted : IsCountedUpTo ever slots
   pub others : OthersAreForgotten changed slots
 
-abbrev pub ParentIsNoted : Option Pid → List ℕ → Type 0
-ParentIsNoted None changed = ⊤
-ParentIsNoted (Some q) changed = Contains changed q.slot
+-- a message ends nobody; another signal may
+abbrev pub CameIsNoted : Pid → Signal → List ℕ → Type 0
+CameIsNoted b (Message body) changed = ⊤
+CameIsNoted b x changed = Contains changed b.slot
 
--- the slots of the processes that the event is of are in the list
-abbrev pub AreNoted : Event → List ℕ → Type 0
-AreNoted (Born p parent link) changed = Contains changed p.slot × ParentIsNoted parent changed
-AreNoted (Said a b x) changed = Contains changed a.slot
-AreNoted (Came a b x) changed = Contains changed b.slot
-AreNoted (Took p k i) changed = Contains changed p.slot
-AreNoted (Flag p on) changed = Contains changed p.slot
-AreNoted (Left p r) changed = Contains changed p.slot
-AreNoted (Refused a b) changed = ⊤
+-- if the event may leave something to forget of its process, that one's slot is in the list
+abbrev pub IsNoted : Event → List ℕ → Type 0
+IsNoted (Came a b x) changed = CameIsNoted b x changed
+IsNoted (Took p k i) changed = Contains changed p.slot
+IsNoted (Left p r) changed = Contains changed p.slot
+IsNoted _ changed = ⊤

@@ -1,4 +1,4 @@
-//! The slots that have changed since the table last forgot.
+//! The slots in which there may be something to forget.
 
 ghost use Rattle.std.specs.Prelude.{◌≡◌, ◌++◌, ◌∷◌, ◌<◌, ◌⊎◌, ℕ, [], length, slice_index_or, false, IfNone, IfSome};
 ghost use Rattle.std.specs.Prelude.{OnErr, OnOk};

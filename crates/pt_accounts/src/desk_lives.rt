@@ -10,7 +10,7 @@ ghost use Rattle.pt_accounts.specs.DeskLives.{bare, all_bare, BeginsBare};
 ghost use Rattle.pt_accounts.specs.Table.{slot_at, of_version_in};
 ghost use Rattle.pt_events.specs.declared.event.Event.TheVariants.{Born};
 ghost use Rattle.pt_accounts.specs.SlotState.{IsCountedUpTo};
-ghost use Rattle.pt_accounts.specs.Changed.{AreNoted, OthersAreForgotten};
+ghost use Rattle.pt_accounts.specs.Changed.{IsNoted, OthersAreForgotten};
 ghost use Rattle.pt_accounts.specs.Steps.{ChangesLife, PutsLife, Observes, AreAlike, IsNextOf, TableGoesOn};
 ghost use Rattle.pt_accounts.specs.Steps.{MayShow, MayObserve, life_after};
 
@@ -19,7 +19,7 @@ use crate::changed::Changed;
 use crate::life::Life;
 use crate::slot::Slot;
 use pt_events::{Event, Journal};
-use pt_signal::{Ids, LinkId, Pid, Ref};
+use pt_signal::{Ids, LinkId, Pid, Ref, Signal};
 use std::alloc::{AllocError, Global};
 use std::marker::Model;
 
@@ -31,7 +31,7 @@ pub struct DeskLives {
     alloc: Global,
     desk: u8,
     slots: Vec<Slot>,
-    /// The slots of all processes that had an event since the table last forgot.
+    /// The slots of processes of which there may be something to forget.
     changed: Changed,
     read: usize,
     /// The number of events ever read: no process got more items.
@@ -49,22 +49,14 @@ impl Model for DeskLives {
     ghost invariant = { λ d. IsKept d.ever d.changed d.slots.items };
 }
 
-/// Plays one of the process's own events, and notes its slot.
+/// Plays one of the process's own events.
 #[inline(always)]
-fn show(
-    slots: &mut Vec<Slot>,
-    changed: &mut Changed,
-    pid: Pid,
-    event: Event,
-) -> Result<(), AllocError>
+fn show(slots: &mut Vec<Slot>, pid: Pid, event: Event) -> Result<(), AllocError>
     requires { MayShow slots.old.items pid event }
     ensures changes { OnOk result (ChangesLife pid (life_after event) slots.old.items slots.new.items) }
     ensures len { length slots.new.items ≡ length slots.old.items }
-    ensures noted { OnOk result (Contains changed.new pid.slot) }
-    ensures stays { (s : ℕ) → Contains changed.old s → Contains changed.new s }
     ensures refused { OnErr result (AreAlike slots.old.items slots.new.items) }
 {
-    changed.note(pid.slot)?;
     let slot = pid.slot as usize;
     if slot < slots.len() {
         slots[slot].see(pid.version, event)?;
@@ -101,36 +93,50 @@ fn bear(alloc: Global, slots: &mut Vec<Slot>, pid: Pid, life: Life) -> Result<()
     Ok(())
 }
 
-/// Plays the spawn of a process, linked with its parent if its event says so, and notes their slots. If it fails, each
-/// process is as before.
+/// Plays the spawn of a process, linked with its parent if its event says so. If it fails, each process is as before.
 fn bear_child(
     alloc: Global,
     slots: &mut Vec<Slot>,
-    changed: &mut Changed,
     pid: Pid,
     parent: Option<Pid>,
     link: Option<LinkId>,
 ) -> Result<(), AllocError>
     requires { MayObserve slots.old.items (Born pid parent link) }
     ensures observes { OnOk result (Observes (Born pid parent link) slots.old.items slots.new.items) }
-    ensures noted { OnOk result (AreNoted (Born pid parent link) changed.new) }
-    ensures stays { (s : ℕ) → Contains changed.old s → Contains changed.new s }
     ensures refused { OnErr result (AreAlike slots.old.items slots.new.items) }
 {
-    changed.note(pid.slot)?;
     let life = Life::born(alloc, pid, parent, link)?;
     bear(alloc, slots, pid, life)?;
     let Some(maker) = parent else {
         return Ok(());
     };
-    let shown = show(slots, changed, maker, Event::Born(pid, parent, link));
+    let shown = show(slots, maker, Event::Born(pid, parent, link));
     if shown.is_err() {
         slots[pid.slot as usize].pop();
     }
     shown
 }
 
-/// Plays an event, and notes the slots of the processes that it is of. If it fails, each process is as before.
+/// Plays one of the process's own events, after which there may be something to forget of it. So its slot is noted.
+#[inline(always)]
+fn show_and_note(
+    slots: &mut Vec<Slot>,
+    changed: &mut Changed,
+    pid: Pid,
+    event: Event,
+) -> Result<(), AllocError>
+    requires { MayShow slots.old.items pid event }
+    ensures changes { OnOk result (ChangesLife pid (life_after event) slots.old.items slots.new.items) }
+    ensures noted { OnOk result (Contains changed.new pid.slot) }
+    ensures stays { (s : ℕ) → Contains changed.old s → Contains changed.new s }
+    ensures refused { OnErr result (AreAlike slots.old.items slots.new.items) }
+{
+    changed.note(pid.slot)?;
+    show(slots, pid, event)
+}
+
+/// Plays an event. If it fails, each process is as before. The slot of its process is noted, unless the event leaves
+/// nothing to forget: only what a process took and that it ended is to be forgotten, and a message ends nobody.
 #[inline(always)]
 fn observe(
     alloc: Global,
@@ -140,17 +146,18 @@ fn observe(
 ) -> Result<(), AllocError>
     requires { MayObserve slots.old.items event }
     ensures observes { OnOk result (Observes event slots.old.items slots.new.items) }
-    ensures noted { OnOk result (AreNoted event changed.new) }
+    ensures noted { OnOk result (IsNoted event changed.new) }
     ensures stays { (s : ℕ) → Contains changed.old s → Contains changed.new s }
     ensures refused { OnErr result (AreAlike slots.old.items slots.new.items) }
 {
     match event {
-        Event::Born(pid, parent, link) => bear_child(alloc, slots, changed, pid, parent, link),
-        Event::Said(from, _, _) => show(slots, changed, from, event),
-        Event::Came(_, to, _) => show(slots, changed, to, event),
-        Event::Took(pid, _, _) => show(slots, changed, pid, event),
-        Event::Flag(pid, _) => show(slots, changed, pid, event),
-        Event::Left(pid, _) => show(slots, changed, pid, event),
+        Event::Born(pid, parent, link) => bear_child(alloc, slots, pid, parent, link),
+        Event::Said(from, _, _) => show(slots, from, event),
+        Event::Came(_, to, Signal::Message(_)) => show(slots, to, event),
+        Event::Came(_, to, _) => show_and_note(slots, changed, to, event),
+        Event::Took(pid, _, _) => show_and_note(slots, changed, pid, event),
+        Event::Flag(pid, _) => show(slots, pid, event),
+        Event::Left(pid, _) => show_and_note(slots, changed, pid, event),
         Event::Refused(_, _) => Ok(()),
     }
 }
@@ -241,8 +248,8 @@ impl DeskLives {
 
     /// Forgets what the exited processes held, and how they came to it. Only the reason of each is kept, in 8 bytes.
     /// The others stay as they are, and what they take is counted anew. The next journal that is read must be the one
-    /// that continues from here. It takes no memory, and looks only at slots whose processes had an event since the table
-    /// last forgot.
+    /// that continues from here. It takes no memory, and looks only at slots whose processes took an item or exited since
+    /// the table last forgot, or got a signal other than a message.
     pub fn forget(&mut self)
         ensures forgets { self.new ≡ all_forgotten self.old }
         ensures anew { BeginsAnew self.old self.new }

@@ -23,8 +23,9 @@
 //! table last forgot takes 48 bytes, and 8 for its exit. A live one, and one that exited with an item, link, watch or
 //! monitor, also keeps its lists. Those that exited before take 12 bytes for each run of equal reasons.
 //!
-//! `DeskLives::forget` looks only at slots whose processes had an event since the table last forgot. To know these the
-//! table takes a byte for each slot, and 4 more for each such slot. `forget_reasons` looks at every slot ever used.
+//! `DeskLives::forget` looks only at slots whose processes took an item or exited since the table last forgot, or got a
+//! signal other than a message. To know these the table takes a byte for each slot, and 4 more for each such slot.
+//! `forget_reasons` looks at every slot ever used.
 //!
 //! Tests: `checks/tried/test_calls/called.rt.txt`, `checks/tried/test_calls/desk.rt.txt` and `checks/rows/quiet.txt`.
 //!

@@ -1,7 +1,7 @@
 -- `forget_changed`: its loop over `slot`, and its clause `forgets`.
-use Rattle.std.proofs.Common.{◌∙◌, ◌<◌, length, length-set, subst, arith}
+use Rattle.std.proofs.Common.{◌∙◌, ◌<◌, ◌≤◌, length, length-set, subst, arith}
 use Rattle.pt_accounts.specs.Changed.{OthersAreForgotten}
-use Rattle.pt_accounts.proofs.ToForget.{all_forgot, forgot_others, forgot_same, none_left}
+use Rattle.pt_accounts.proofs.ToForget.{all_forgot, forgot_others, forgot_same, none_left, past_others}
 use Rattle.pt_accounts.proofs.desk_lives.forget_changed.Goals as goal
 
 pub loop-slot-preserved-then-slot-len : goal.loop-slot-preserved-then-slot-len
@@ -23,3 +23,14 @@ returns-clause-forgets c =
     let slots = c.loop-slot.slots.items in
     let i = c.loop-slot.invariant in
     all_forgot c.args.slots.now.items slots i.len i.same (none_left slots (subst (λ (xs : _). OthersAreForgotten xs slots) c.in_default.ensures.none.0 i.others))
+
+pub loop-slot-preserved : goal.loop-slot-preserved
+loop-slot-preserved c =
+    let slots = c.loop-slot.slots.items in
+    let i = c.loop-slot.invariant in
+    let past : length slots ≤ c.in-Some.slot = let f = c.if-slot-len.false in let n = c.len.ensures in omega arith in
+    record {
+      len = i.len;
+      same = i.same;
+      others = past_others slots c.in-Some.slot c.loop-slot.changed c.take.new.self past c.in-Some.ensures.taken i.others;
+    }

@@ -4,8 +4,8 @@ use Rattle.pt_accounts.specs.DeskLives.{DeskTable}
 use Rattle.pt_accounts.specs.SlotState.{SlotsAreCounted}
 use Rattle.pt_accounts.specs.Steps.{TableGoesOn}
 use Rattle.pt_accounts.proofs.MayObserve.{may_observe, told_next}
-use Rattle.pt_accounts.proofs.Counted.{few_counted, counted_next}
-use Rattle.pt_accounts.proofs.ToForget.{more_others, observed_others}
+use Rattle.pt_accounts.proofs.Counted.{counted_alike, few_counted, counted_next}
+use Rattle.pt_accounts.proofs.ToForget.{alike_others, more_others, observed_others}
 use Rattle.pt_accounts.proofs.desk_lives.DeskLives.step.Goals as goal
 use Rattle.pt_accounts.proofs.desk_lives.DeskLives.step.Goals.{In-Some}
 
@@ -17,6 +17,20 @@ observe-requires c =
     let s = c.self.inside in
     let g = next (goal.at.observe-requires c).In-Some in
     may_observe g.start g.top s.desk s.slots.items g.past (few_counted s.ever s.slots.items (let e = c.in-Some.ensures in e.0) c.self.invariant.counted.counted) g.told c.args.event g.home g.may g.known g.anew
+
+pub invariant_of-self : goal.invariant_of-self
+invariant_of-self c =
+    let s = c.self.inside in
+    let same = c.in_err-observe.ensures.refused in
+    record {
+      counted = record {
+        few = c.self.invariant.counted.few;
+        counted = counted_alike s.ever s.slots.items c.observe.new.slots.items same c.self.invariant.counted.counted;
+      };
+      others =
+          alike_others c.observe.new.changed s.slots.items c.observe.new.slots.items same
+          (more_others s.changed c.observe.new.changed s.slots.items c.observe.ensures.stays c.self.invariant.others);
+    }
 
 pub invariant_of-self-2 : goal.invariant_of-self-2
 invariant_of-self-2 c =
