@@ -21,7 +21,8 @@ use std::alloc::{AllocError, Global};
 /// meanwhile.
 ///
 /// No list of all pids is made, and the directory of exited processes is kept. So it costs what happened since the node
-/// was opened or resumed, the live processes, and the slots that were ever used.
+/// was opened or resumed, the desks, and a visit to each process of the crews, which begin again. A slot that did not
+/// change since then costs nothing else.
 ///
 /// Fails as [`Halted`] says. What was done until then stays, and [`Halted::go_on`] does the rest; it makes the directory
 /// anew.

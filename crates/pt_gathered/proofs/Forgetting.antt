@@ -1,23 +1,17 @@
 -- A beginning that forgets why processes ended is a beginning, of the same history.
 use Rattle.std.proofs.Common.{◌≡◌, ℕ, ◌≤◌, List, [], ◌∷◌, ◌++◌, map, refl, sym, ap, ◌∙◌, subst, arith}
-use Rattle.pt_signal.specs.Process.{ProcessState, fresh}
 use Rattle.pt_signal.specs.Values.{same_ref}
-use Rattle.pt_events.specs.History.{Past, Start, Phase, unborn, living, ended, at_start, state_of, is_unborn}
+use Rattle.pt_events.specs.History.{Past, Start, at_start, state_of, is_unborn}
 use Rattle.pt_events.specs.Counting.{count}
 use Rattle.pt_events.specs.OldRefs.{HasOldRefs}
-use Rattle.pt_events.specs.Forgetting.{reasonless, without_reasons}
+use Rattle.pt_events.specs.Forgetting.{without_reasons}
 use Rattle.pt_events.proofs.Forgetting.{forgets_each, forgets_both, reasonless_unborn}
-use Rattle.pt_laws.proofs.living.StartAfter.{forgetting_left, forgetting_start, forgetting_entries, forgetting_keeps}
+use Rattle.pt_laws.proofs.living.StartAfter.{less_reasonless, forgetting_left, forgetting_start, forgetting_entries, forgetting_keeps}
 use Rattle.pt_shard.specs.ShardState.{ShardState}
 use Rattle.pt_shard.specs.Restart.{forgetful}
 use Rattle.pt_gathered.specs.Beginning.{IsBeginning}
 use Rattle.pt_gathered.specs.Gathered.{start_of}
 use Rattle.pt_gathered.specs.Pasts.{IsOutlineOf}
-
-less_reasonless : (f : ProcessState → ℕ) → f fresh ≡ 0 → (p : Phase) → f (state_of (reasonless p)) ≤ f (state_of p)
-less_reasonless f z unborn = omega arith
-less_reasonless f z (living s) = omega arith
-less_reasonless f z (ended r s) = omega (arith, z)
 
 old_refs : (low : ℕ) (start : Start) → HasOldRefs low start → HasOldRefs low (without_reasons start)
 old_refs low start h w m =

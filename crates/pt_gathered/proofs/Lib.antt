@@ -23,3 +23,4 @@ pub mod Posted
 pub mod Shards
 pub mod StartStates
 pub mod Forgetting
+pub mod Late

@@ -11,3 +11,4 @@ pub mod Quiet
 pub mod History
 pub mod Waits
 pub mod Taking
+pub mod Late

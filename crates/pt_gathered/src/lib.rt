@@ -47,8 +47,8 @@
 //! A quiet node may continue with empty journals: what its desks leave is again a state as a node begins with, at the
 //! stamp [`Quiet::clock`] or a later one ([`Quiet::laws`]). [`Quiet::into_parts`] returns the desks, each with the
 //! table of what became of its processes. The next journal is read into that table. [`Quiet::latest_ends`] gives a new
-//! directory the exited processes. A settled node has the same calls. [`Quiet::state`] is the start for a judge that
-//! judges the next history alone.
+//! directory the exited processes. A settled node has the same calls. [`Settled::ends_since`] gives a directory that was
+//! kept those that exited since. [`Quiet::state`] is the start for a judge that judges the next history alone.
 //!
 //! # Cost
 //!
@@ -57,7 +57,7 @@
 //! not looked at, and each lane is looked at in full once. No list of letters is moved, and no journal and no table is
 //! copied. Reading the journals takes constant time, on average, for each event. `settle` and `into_quiet` take a step
 //! more for each pid that ever was, and `settle_unlisted` does not. `history` takes time by the logarithm of the number
-//! of desks for each event.
+//! of desks for each event. `latest_ends` looks at each slot that was ever used, and `ends_since` at the events since.
 //!
 //! Tests: `checks/rows/settling.txt`, `checks/rows/resumed.txt`, `checks/rows/going_on.txt`, `checks/rows/quiet.txt`
 //! and `checks/tried/test_calls/epochs.rt.txt`.
@@ -76,6 +76,8 @@
 //! - **Answers.** Once settled, each question of a live process has its one answer, which is true.
 //! - **Without a list.** `settle_unlisted` promises what `settle` does. `Settled::into_quiet` makes the quiet node of it,
 //!   or gives it back as it was.
+//! - **Exits since.** `Settled::ends_since` returns only processes that have exited. Each process that has exited is among
+//!   them, or had exited by the events before the given places. (`AreEndsSince`)
 //! - **Accounts.** `Quiet` returns for each process what the definitions give for every merge of the journals.
 //! - **Settling that fails.** It keeps all that holds for a gathered node, and its contract says where it stopped.
 //!   (`SettlingStops`)

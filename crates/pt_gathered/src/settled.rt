@@ -2,6 +2,7 @@
 
 ghost use Rattle.pt_signal.specs.declared.config.TheConstants.{MAX_DESKS, MAX_STAMP};
 ghost use Rattle.std.specs.Prelude.{◌≡◌, ◌<◌, ◌≤◌, ℕ, [], ◌++◌, length, slice_get, slice_index_or, reverse, IfOk, IfErr};
+ghost use Rattle.std.specs.Prelude.{OnOk};
 ghost use Rattle.pt_events.specs.History.{IsLegal, Past};
 ghost use Rattle.pt_events.specs.Journal.{IsMerge, clock, events};
 ghost use Rattle.pt_laws.specs.Laws.{LegalWithLeftOver};
@@ -12,6 +13,7 @@ ghost use Rattle.std.specs.Option.{option_copied};
 ghost use Rattle.pt_gathered.specs.Gathered.{IsGathered, begins, journals, lost_on, over};
 ghost use Rattle.pt_gathered.specs.Tables.{IsTold};
 ghost use Rattle.pt_gathered.specs.Quiet.{AreBornLater, AreInTurn, IsSettled, latest_stamp, ends_of};
+ghost use Rattle.pt_gathered.specs.Late.{AreEndsSince, may_end, end_of, ends_in, ends_since, after_oldest};
 ghost use Rattle.pt_gathered.specs.Settling.{NothingLeft};
 ghost use Rattle.pt_gathered.specs.Lawful.{LanesKeep, KeepsHeadline, IsQuietNode, LinksStand, WatchesStand};
 ghost use Rattle.pt_gathered.specs.Lawful.{HoldingsStand, AnswersHold, QuestionsAnswered, BeginsAgain};
@@ -23,9 +25,9 @@ use crate::gathered::Gathered;
 use crate::node_laws::laws_of_node;
 use crate::quiet::Quiet;
 use pt_accounts::{DeskLives, Lives};
-use pt_events::Stamped;
+use pt_events::{Event, Journal, Stamped};
 use pt_shard::{Config, Loss, Shard};
-use pt_signal::Pid;
+use pt_signal::{Pid, Signal};
 use std::alloc::{AllocError, Global};
 use std::marker::Model;
 
@@ -33,7 +35,8 @@ use std::marker::Model;
 /// list of all its processes.
 ///
 /// It has what a program takes between two epochs: the history, the number of letters handled, and what resuming takes.
-/// [`into_quiet`](Settled::into_quiet) makes the quiet node of it. Only `history`, `latest_ends` and `into_quiet` take memory.
+/// [`into_quiet`](Settled::into_quiet) makes the quiet node of it. Only `history`, `latest_ends`, `ends_since` and
+/// `into_quiet` take memory.
 #[derive(Drop)]
 pub struct Settled {
     node: AtRest,
@@ -64,6 +67,64 @@ pub(crate) fn ends_of(
         desks[which].latest_ends(stamp, &mut ends)?;
     }
     Ok(ends)
+}
+
+/// The process that the event may end: the one that gets an exit signal, or exits.
+fn may_end(event: Event) -> Option<Pid>
+    ensures { result ≡ may_end event }
+{
+    match event {
+        Event::Came(_, to, Signal::Exit(_)) => Some(to),
+        Event::Came(_, to, Signal::LinkExit(_, _)) => Some(to),
+        Event::Left(pid, _) => Some(pid),
+        _ => None,
+    }
+}
+
+/// Adds this process with the stamp, if the table says that it has exited.
+fn add_end(
+    table: &DeskLives,
+    pid: Option<Pid>,
+    stamp: u64,
+    ends: &mut Vec<(Pid, u64)>,
+) -> Result<(), AllocError>
+    ensures { OnOk result (ends.new.items ≡ ends.old.items ++ end_of table.now stamp pid) }
+{
+    let Some(pid) = pid else {
+        return Ok(());
+    };
+    match table.account(pid) {
+        Some(account) if account.ended.is_some() => {
+            ends.push((pid, stamp))?;
+            Ok(())
+        }
+        _ => Ok(()),
+    }
+}
+
+/// Adds the processes that the events of the journal from this place on may have ended, and that have exited.
+fn add_ends(
+    table: &DeskLives,
+    journal: &Journal,
+    place: usize,
+    stamp: u64,
+    ends: &mut Vec<(Pid, u64)>,
+) -> Result<(), AllocError>
+    ensures { OnOk result
+        (ends.new.items ≡ ends.old.items ++ ends_in table.now stamp (after_oldest place journal.now.past)) }
+{
+    let events = journal.events();
+    for k in place.min(events.len())..events.len() {
+        add_end(table, may_end(events[k].event), stamp, ends)?;
+    }
+    Ok(())
+}
+
+/// The place that the list has for this desk, or 0 if it has none.
+fn place_of(places: &[usize], desk: usize) -> usize
+    ensures { result ≡ slice_index_or places.now desk 0 }
+{
+    if desk < places.len() { places[desk] } else { 0 }
 }
 
 impl Settled {
@@ -168,6 +229,30 @@ impl Settled {
         ensures { IfOk result (λ ends. ends.items ≡ ends_of stamp self.now.lives) }
     {
         ends_of(self.node.alloc(), self.tables.as_slice(), stamp)
+    }
+
+    /// The processes that exited since these places in the journals, each with this stamp. A desk's place is how many of
+    /// its events there were before, or 0 if the list has no place for the desk.
+    ///
+    /// Each event from the place on by which a process exited or got an exit signal adds that process, if it has exited.
+    /// So a process may come twice, and one that had exited before comes again if it got an exit signal since. They come
+    /// by desk, and those of a desk in the order of its events.
+    ///
+    /// Time grows with the events from the places on, and memory with the processes returned. A slot costs nothing. Fails
+    /// only if there is no memory.
+    pub fn ends_since(&self, places: &[usize], stamp: u64) -> Result<Vec<(Pid, u64)>, AllocError>
+        ensures ends { IfOk result (λ ends. ends.items ≡ ends_since self.now places.now stamp) }
+        ensures since { IfOk result (λ ends. AreEndsSince self.now.gathered places.now stamp ends.items) }
+    {
+        // read for the proof alone: it says what holds of every gathered node
+        let _desks = self.node.desks();
+        let mut ends = Vec::new(self.node.alloc());
+        for which in 0..self.node.shards().len() {
+            let journal = self.node.shards()[which].journal();
+            let place = place_of(places, which);
+            add_ends(&self.tables[which], journal, place, stamp, &mut ends)?;
+        }
+        Ok(ends)
     }
 
     /// The desks, in order of number, and for each desk the table of what became of its processes.

@@ -7,6 +7,7 @@ use Rattle.pt_accounts.specs.DeskLives.{DeskTable, latest_ends}
 use Rattle.pt_directory.specs.declared.view.Death.{Death}
 use Rattle.pt_directory.specs.Seats.{AreEnded, OnePerSlot, death_of, given_deaths}
 use Rattle.pt_directory.proofs.Lists.{at_append, at_nothing}
+use Rattle.pt_directory.proofs.Reopening.{at_get_or}
 use Rattle.pt_gathered.specs.Quiet.{ends_of}
 use Rattle.pt_desk.proofs.Before.{from_map}
 
@@ -77,7 +78,7 @@ module _ (n : ℕ) where
     pub at : (t : DeskTable) → get_elem? (latest_ends (get_or tables desk t)) place ≡ some x.0
     pub stamp : x.1 ≡ n
 
-  pub one_of : (tables : List DeskTable) (k : ℕ) (x : Pid × ℕ) → get_elem? (ends_of n tables) k ≡ some x → IsOneOf tables x
+  one_of : (tables : List DeskTable) (k : ℕ) (x : Pid × ℕ) → get_elem? (ends_of n tables) k ≡ some x → IsOneOf tables x
   one_of [] k x at = absurd (at_nothing x k at)
   one_of (t ∷ tables) k x at =
       ⊎_elim
@@ -129,18 +130,13 @@ module _ (n : ℕ) where
           let same = rest a.0 b.0 x y a.1 b.1 shard slot in
           omega (arith, same, a.2, b.2)
 
-  pub at_get : (xs : List (Pid × ℕ)) (k : ℕ) (x : Pid × ℕ) → k < length xs → get_elem? xs k ≡ some (get_or xs k x)
-  at_get [] k x h = absurd (omega arith)
-  at_get (y ∷ xs) zero x h = refl
-  at_get (y ∷ xs) (suc k) x h = at_get xs k x (omega arith)
-
   pub are_ended : (desks slots : ℕ) (tables : List DeskTable) → TablesFrom 0 tables → ((i : ℕ) (x : DeskTable) → i < length tables → AreApart (get_or tables i x))
       → ((i : ℕ) (x : DeskTable) → i < length tables → (k : ℕ) (p : Pid) → get_elem? (latest_ends (get_or tables i x)) k ≡ some p → (p.shard < desks) × (p.slot < slots) × (0 < p.version) × (0 < n))
       → DeskTable → AreEnded desks slots (ends_of n tables)
   are_ended desks slots tables own apart each t = record {
     each = λ k d h.
         let x : Pid × ℕ = get_or (ends_of n tables) k d in
-        let r = one_of tables k x (at_get (ends_of n tables) k d h) in
+        let r = one_of tables k x (at_get_or (ends_of n tables) k d h) in
         let e = each r.desk t r.within r.place x.0 (r.at t) in
         (e.0, e.1, e.2, omega (arith, e.3, r.stamp));
     apart = one_per_slot 0 tables own apart;

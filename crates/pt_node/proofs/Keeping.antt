@@ -1,44 +1,45 @@
 -- What is kept of a node's directory, and the seats that are made anew of it.
-use Rattle.std.proofs.Common.{◌≡◌, ℕ, zero, suc, ◌+◌, ◌<◌, ◌≤◌, Bool, true, false, true≢false, ◌&&◌, cond, eqb, nat_lt, List, [], ◌∷◌, ◌++◌, filter, length, map, get_or, refl, sym, ap, ◌∙◌, subst, arith, le_refl, le_trans, eq-eqb, eqb-true}
-use Rattle.std.specs.Prelude.{IfOk, Result, Ok, Err}
+use Rattle.std.proofs.Common.{◌≡◌, ℕ, zero, suc, ◌+◌, ◌-◌, ◌<◌, ◌≤◌, Bool, true, false, true≢false, ◌&&◌, cond, eqb, nat_lt, List, [], ◌∷◌, ◌++◌, filter, length, map, get_or, refl, sym, ap, ◌∙◌, subst, ⊎_elim, arith, le_refl, le_trans, eq-eqb, eqb-true}
+use Rattle.std.specs.Prelude.{IfOk, Result, Ok, Err, Contains}
 use Rattle.std.specs.Arc.{arc_value}
 use Rattle.std.proofs.lemmas.Bool.Decides.{nat_tests}
-use Rattle.std.proofs.lemmas.List.{get_or-map, length-map}
-use mathlib.Core.Option.{some, some-ne-none, some-injective}
+use Rattle.std.proofs.lemmas.List.{drop_at, get_or-map, length-append, length-map}
+use mathlib.Core.Option.{some, some-injective}
 use lib.ListN.{get_elem?}
 use Rattle.atomic_table.proofs.Lists.{at_longer}
 use Rattle.pt_signal.specs.declared.pid.Pid.{Pid}
 use Rattle.pt_signal.specs.declared.config.Config.{Config}
-use Rattle.pt_signal.specs.declared.config.TheConstants.{MAX_STAMP}
 use Rattle.pt_events.specs.declared.event.Stamped.{Stamped}
-use Rattle.pt_events.specs.History.{Start, at_start, is_ended, is_unborn, life}
+use Rattle.pt_events.specs.History.{Start, at_start, is_ended, life}
 use Rattle.pt_events.specs.Journal.{clock, events, IsLocal}
 use Rattle.pt_events.specs.Leaving.{start_after}
 use Rattle.pt_events.proofs.Leaving.{leaves_each}
 use Rattle.pt_events.proofs.Refusals.{ended_later}
-use Rattle.pt_accounts.specs.DeskLives.{DeskTable, all_forgotten, latest_ends}
+use Rattle.pt_accounts.specs.DeskLives.{DeskTable, all_forgotten, oldest}
 use Rattle.pt_accounts.proofs.Forgetting.{begins_anew}
 use Rattle.pt_directory.specs.declared.view.Death.{Death}
 use Rattle.pt_directory.specs.Views.{new_death, is_of, deaths_at, last_version, up_from}
-use Rattle.pt_directory.specs.Seats.{DirectoryState, AreEnded, AreLate, late_seat, tell_each, tell_one}
+use Rattle.pt_directory.specs.Seats.{AreLate, late_seat, tell_each, tell_one}
 use Rattle.pt_directory.proofs.Lists.{at_behind, at_nothing, from_among, from_filter, has_last, true-is_at}
 use Rattle.pt_directory.proofs.Late.{each_told}
+use Rattle.pt_directory.proofs.Reopening.{at_get_or}
 use Rattle.pt_shard.specs.ShardState.{ShardState, past, phase_of}
 use Rattle.pt_shard.specs.Restart.{restarted}
+use Rattle.pt_shard.specs.InTurn.{IsInTurn}
+use Rattle.pt_shard.specs.Opening.{fresh_shard}
 use Rattle.pt_gathered.specs.Gathered.{GatheredState, IsGathered, begins, journals}
 use Rattle.pt_gathered.specs.Settling.{Settles}
 use Rattle.pt_gathered.specs.Tables.{IsTold}
-use Rattle.pt_gathered.specs.Quiet.{AreInTurn, ends_of}
+use Rattle.pt_gathered.specs.Quiet.{AreInTurn}
+use Rattle.pt_gathered.specs.Late.{AreEndsSince, HadEnded, HasEnded}
 use Rattle.pt_gathered.proofs.Agreeing.{local_as}
 use Rattle.pt_gathered.proofs.Starts.{start_same}
 use Rattle.pt_gathered.proofs.Owned.{life_same}
 use Rattle.pt_desk.specs.Sight.{AreToldBefore}
-use Rattle.pt_desk.proofs.Before.{latest_all, latest_told, to_map}
 use Rattle.pt_node.specs.declared.resuming.Room.{Room}
 use Rattle.pt_node.specs.Keeping.{KeptState, IsEndOn, IsKeptFor}
-use Rattle.pt_node.specs.Seating.{Seated, IsSeatOf, AreSeated, AreReady}
-use Rattle.pt_node.proofs.Ended.{at_get, one_of}
-use Rattle.pt_node.proofs.Prepared.{ended_here}
+use Rattle.pt_node.specs.Seating.{Seated, IsSeatOf, AreReady}
+use Rattle.pt_node.proofs.Prepared.{born}
 use Rattle.pt_node.proofs.Resumed.{outcome_ended, turns_again}
 use Rattle.pt_node.proofs.SeatsOf.{at_from, count_from, seated_each}
 
@@ -89,15 +90,17 @@ get_of [] i x at = absurd (at_nothing x i at)
 get_of (y ∷ ys) zero x at = let first : 0 < length (y ∷ ys) = omega arith in (first, some-injective y x at)
 get_of (y ∷ ys) (suc i) x at = let t = get_of ys i x at in let next : suc i < length (y ∷ ys) = omega (arith, t.0) in (next, t.1)
 
--- the latest ends of a desk are among those of all
-among_ends : (n : ℕ) (tables : List DeskTable) (d : ℕ) (t : DeskTable) (k : ℕ) (q : Pid) → d < length tables → get_elem? (latest_ends (get_or tables d t)) k ≡ some q
-    → (j : ℕ) × (get_elem? (ends_of n tables) j ≡ some (q, n))
-among_ends n [] d t k q h at = absurd (omega arith)
-among_ends n (y ∷ ys) zero t k q h at =
-    (k, at_longer (map (λ p. (p, n)) (latest_ends y)) (ends_of n ys) k (q, n) (to_map (λ p. (p, n)) (latest_ends y) k q at))
-among_ends n (y ∷ ys) (suc d) t k q h at =
-    let r = among_ends n ys d t k q (omega arith) at in
-    at_behind (map (λ p. (p, n)) (latest_ends y)) (ends_of n ys) r.0 (q, n) r.1
+-- a death of a desk stands among those of the desk
+to_filter : (d : ℕ) (xs : List Death) (j : ℕ) (x : Death) → get_elem? xs j ≡ some x → x.shard ≡ d → (m : ℕ) × (get_elem? (filter (is_of d) xs) m ≡ some x)
+to_filter d [] j x at here = absurd (at_nothing x j at)
+to_filter d (y ∷ ys) zero x at here =
+    let same : y ≡ x = some-injective y x at in
+    (0, rw (eq-eqb y.shard d (ap (λ (z : Death). z.shard) same ∙ here)) at)
+to_filter d (y ∷ ys) (suc j) x at here = go (is_of d y) (to_filter d ys j x at here)
+  where
+    go : (b : Bool) → (m : ℕ) × (get_elem? (filter (is_of d) ys) m ≡ some x) → (m : ℕ) × (get_elem? (cond b (y ∷ filter (is_of d) ys) (filter (is_of d) ys)) m ≡ some x)
+    go true t = (suc t.0, t.1)
+    go false t = t
 
 -- settling keeps what has ended, and no clock goes back ----------------------------------------------
 
@@ -109,13 +112,18 @@ module _ (g : GatheredState) (whole : IsGathered g) where
   journal_is : (d : ℕ) (s : ShardState) → d < length g.shards → journals g d ≡ (get_or g.shards d s).journal
   journal_is d s h = get_or-map (λ (s : ShardState). s.journal) g.shards d s [] h
 
-  -- by its own desk too
-  pub ended_there : (x : Death) (s : ShardState) → IsEndOn g x → is_ended (phase_of (get_or g.shards x.shard s) (record { shard = x.shard; slot = x.slot; version = x.version })) ≡ true
-  ended_there x s e =
-      let p : Pid = record { shard = x.shard; slot = x.slot; version = x.version } in
-      let z : ShardState = get_or g.shards x.shard s in
-      let own : life z.start (events z.journal) p ≡ life (begins g) (events z.journal) p = life_same z.start (begins g) x.shard (start_same g.config g.shards whole.shards x.shard s e.shard) (events z.journal) p refl in
-      ap is_ended own ∙ ap (λ j. is_ended (life (begins g) (events j) p)) (sym (journal_is x.shard s e.shard)) ∙ e.ended
+  -- a process is by its own desk what it is on the node
+  own_life : (p : Pid) (s : ShardState) → p.shard < length g.shards → phase_of (get_or g.shards p.shard s) p ≡ life (begins g) (events (journals g p.shard)) p
+  own_life p s h =
+      let z : ShardState = get_or g.shards p.shard s in
+      let own : life z.start (events z.journal) p ≡ life (begins g) (events z.journal) p = life_same z.start (begins g) p.shard (start_same g.config g.shards whole.shards p.shard s h) (events z.journal) p refl in
+      own ∙ ap (λ j. life (begins g) (events j) p) (sym (journal_is p.shard s h))
+
+  ended_by_own : (p : Pid) (s : ShardState) → p.shard < length g.shards → HasEnded g p → is_ended (phase_of (get_or g.shards p.shard s) p) ≡ true
+  ended_by_own p s h e = ap is_ended (own_life p s h) ∙ e
+
+  ended_on_node : (p : Pid) (s : ShardState) → p.shard < length g.shards → is_ended (phase_of (get_or g.shards p.shard s) p) ≡ true → HasEnded g p
+  ended_on_node p s h e = ap is_ended (sym (own_life p s h)) ∙ e
 
   module _ (old : GatheredState) (settles : Settles old g) where
     pub end_settled : (x : Death) → IsEndOn old x → IsEndOn g x
@@ -145,10 +153,10 @@ module _ (g : GatheredState) (whole : IsGathered g) where
 
 -- the seats of a node that goes on in the directory that was kept -------------------------------------
 
-module _ (g : GatheredState) (whole : IsGathered g) (n : ℕ) (within : n ≤ MAX_STAMP) (lives : List DeskTable) (count : length lives ≡ length g.shards)
+module _ (g : GatheredState) (whole : IsGathered g) (n : ℕ) (lives : List DeskTable) (count : length lives ≡ length g.shards)
     (told : (d : ℕ) (x : ShardState) (t : DeskTable) → d < length g.shards → IsTold (get_or g.shards d x) (get_or lives d t))
-    (turns : AreInTurn g.shards) (since : (d : ℕ) (x : ShardState) → d < length g.shards → (p : Pid) → is_unborn (phase_of (get_or g.shards d x) p) ≡ false → 0 < n)
-    (above : (d : ℕ) → clock g.config.start (journals g d) ≤ n) (k : KeptState) (for : IsKeptFor g k) where
+    (turns : AreInTurn g.shards) (above : (d : ℕ) → clock g.config.start (journals g d) ≤ n) (k : KeptState) (for : IsKeptFor g k)
+    (late : List (Pid × ℕ)) (since : AreEndsSince g k.written n late) where
   pub desks_are : k.directory.desks ≡ g.config.desks
   desks_are = for.kept.desks ∙ ap (λ (c : Config). c.desks) (sym for.settles.config)
 
@@ -161,20 +169,64 @@ module _ (g : GatheredState) (whole : IsGathered g) (n : ℕ) (within : n ≤ MA
   ends_here : (j : ℕ) (x : Death) → get_elem? k.seat.deaths j ≡ some x → IsEndOn g x
   ends_here j x at = end_settled g whole for.gathered for.settles x (for.kept.ends j x at)
 
-  all_ended : AreEnded g.config.desks g.config.slots (ends_of n lives)
-  all_ended = ended_here g whole n within lives count told turns since
+  -- a process that ended was born, so it has a slot and a version
+  in_turn : (p : Pid) (s : ShardState) → p.shard < length g.shards → HasEnded g p → IsInTurn (get_or g.shards p.shard s) p
+  in_turn p s h e = turns p.shard s h p (born (phase_of (get_or g.shards p.shard s) p) (ended_by_own g whole p s h e))
 
-  pub are_late : AreLate k.directory k.seat.deaths (ends_of n lives)
+  late_at : (i : ℕ) (x : Pid × ℕ) → get_elem? late i ≡ some x → (x.0.shard < length g.shards) × HasEnded g x.0 × (x.1 ≡ n)
+  late_at i x at =
+      let u = get_of late i x at in
+      subst (λ (v : Pid × ℕ). (v.0.shard < length g.shards) × HasEnded g v.0 × (v.1 ≡ n)) u.1 (since.each i x u.0)
+
+  pub are_late : AreLate k.directory k.seat.deaths late
   are_late = record {
     stamp = n;
     each = λ i d h.
-        let a = all_ended.each i d h in
-        ((omega (arith, a.0, desks_are), omega (arith, a.1, slots_are)), (one_of n lives i (get_or (ends_of n lives) i d) (at_get n (ends_of n lives) i d h)).stamp);
+        let p = (get_or late i d).0 in
+        let a = since.each i d h in
+        let z : ShardState = fresh_shard g.config 0 in
+        let turn = in_turn p z a.0 a.1 in
+        let slots : (get_or g.shards p.shard z).config.slots ≡ g.config.slots = ap (λ (c : Config). c.slots) (whole.shards p.shard z a.0).config_is in
+        ((omega (arith, a.0, whole.desks, desks_are), omega (arith, turn.slot, slots, slots_are)), a.2);
     low = λ j x at. le_trans (ends_here j x at).stamp (above x.shard);
   }
 
+  -- a process that had ended by as many events as were written had ended when the node was gathered
+  had_before : (p : Pid) → p.shard < length g.shards → HadEnded g (get_or k.written p.shard 0) p → HasEnded for.gathered p
+  had_before p h had =
+      let old = for.gathered in
+      let d = p.shard in
+      let z : ShardState = fresh_shard g.config 0 in
+      let here : p.shard < length old.shards = omega (arith, h, for.settles.count) in
+      let follows = for.settles.journals_follow d here in
+      let place : get_or k.written d 0 ≡ length (journals old d)
+      = ap (λ w. get_or w d 0) for.kept.written ∙ get_or-map (λ (s : ShardState). length s.journal) old.shards d z 0 here
+      ∙ ap length (sym (get_or-map (λ (s : ShardState). s.journal) old.shards d z [] here)) in
+      let all : length (follows.more ++ journals old d) ≡ length follows.more + length (journals old d) = length-append follows.more (journals old d) in
+      let same : oldest (get_or k.written d 0) (journals g d) ≡ journals old d
+      = ap (λ m. oldest m (journals g d)) place ∙ ap (oldest (length (journals old d))) follows.is
+      ∙ drop_at follows.more (journals old d) (length (follows.more ++ journals old d) - length (journals old d)) (omega (arith, all)) in
+      subst (λ b. is_ended (life b (events (journals old d)) p) ≡ true) for.settles.start (subst (λ j. is_ended (life (begins g) (events j) p) ≡ true) same had)
+
   abbrev ends_of_desk : ℕ → List Death
-  ends_of_desk d = tell_each d (ends_of n lives) (filter (is_of d) k.seat.deaths)
+  ends_of_desk d = tell_each d late (filter (is_of d) k.seat.deaths)
+
+  -- the end of each process of a desk that has ended is told
+  all_told_on : (d : ℕ) (p : Pid) → p.shard ≡ d → p.shard < length g.shards → HasEnded g p → IsToldIn p (ends_of_desk d)
+  all_told_on d p home h e =
+      ⊎_elim
+      (λ (had : HadEnded g (get_or k.written p.shard 0) p).
+      let old : p.shard < length for.gathered.shards = omega (arith, h, for.settles.count) in
+      let a = for.kept.all p old (had_before p h had) in
+      let b = to_filter d k.seat.deaths a.0 a.1 a.2 (a.3 ∙ home) in
+      (b.0, a.1, told_stays d late (filter (is_of d) k.seat.deaths) b.0 a.1 b.1, a.3, a.4, a.5))
+      (λ (c : Contains late (p, n)).
+      let x : Pid × ℕ = (p, n) in
+      let at : get_elem? late c.0 ≡ some x = at_get_or late c.0 x c.1 ∙ ap (λ (y : Pid × ℕ). some y) c.2 in
+      all_told d late (filter (is_of d) k.seat.deaths)
+      (λ i y there. let u = late_at i y there in (in_turn y.0 (fresh_shard g.config 0) u.0 u.1).version)
+      c.0 x at home)
+      (since.all p h e)
 
   module _ (d : ℕ) (s : ShardState) (t : DeskTable) (h : d < length g.shards) where
     abbrev z : ShardState
@@ -196,32 +248,25 @@ module _ (g : GatheredState) (whole : IsGathered g) (n : ℕ) (within : n ≤ MA
         let e = ends_here f.0 x f.1 in
         let p : Pid = record { shard = x.shard; slot = x.slot; version = x.version } in
         let home : x.shard ≡ d = eqb-true x.shard d f.2 in
-        (home ∙ sym number, le_trans e.stamp (above x.shard), before p (subst (λ i. is_ended (phase_of (get_or g.shards i s) p) ≡ true) home (ended_there g whole x s e)))
+        (home ∙ sym number, le_trans e.stamp (above x.shard), before p (subst (λ i. is_ended (phase_of (get_or g.shards i s) p) ≡ true) home (ended_by_own g whole p s e.shard e.ended)))
 
-    late_one : (i : ℕ) (x : Pid × ℕ) → get_elem? (ends_of n lives) i ≡ some x → x.0.shard ≡ d → IsOld (end_of x)
+    late_one : (i : ℕ) (x : Pid × ℕ) → get_elem? late i ≡ some x → x.0.shard ≡ d → IsOld (end_of x)
     late_one i x at here =
-        let r = one_of n lives i x at in
-        let there : r.desk < length g.shards = omega (arith, r.within, count) in
-        let y : ShardState = get_or g.shards r.desk s in
-        let l = latest_told y.start y.number (past y) (get_or lives r.desk t) (told r.desk s t there) r.place x.0 (r.at t) in
-        let same : r.desk ≡ d = sym (whole.shards r.desk s there).number ∙ sym l.0 ∙ here in
-        let low : x.1 ≤ n = omega (arith, r.stamp) in
-        (here ∙ sym number, low, before x.0 (subst (λ i. is_ended (phase_of (get_or g.shards i s) x.0) ≡ true) same l.1))
+        let l = late_at i x at in
+        let low : x.1 ≤ n = omega (arith, l.2) in
+        (here ∙ sym number, low, before x.0 (subst (λ i. is_ended (phase_of (get_or g.shards i s) x.0) ≡ true) here (ended_by_own g whole x.0 s l.0 l.1)))
 
     is_told : AreToldBefore (start_after z.start (past z)) n z.number (ends_of_desk d)
     is_told = record {
-      each = each_told d (ends_of n lives) (filter (is_of d) k.seat.deaths) IsOld old_one late_one;
+      each = each_told d late (filter (is_of d) k.seat.deaths) IsOld old_one late_one;
       all = λ p here e.
           let gone : is_ended (phase_of z p) ≡ true = sym (outcome_ended (phase_of z p)) ∙ sym (ap is_ended (leaves_each z.start (past z) p)) ∙ e in
-          let a = latest_all z.start z.number (past z) (get_or lives d t) (told d s t h) p here gone in
-          let b = among_ends n lives d t a.0 a.1 (omega (arith, h, count)) a.2 in
-          let c = all_told d (ends_of n lives) (filter (is_of d) k.seat.deaths)
-          (λ i x at. let u = get_of (ends_of n lives) i x at in subst (λ (v : Pid × ℕ). 0 < v.0.version) u.1 (all_ended.each i x u.0).2)
-          b.0 (a.1, n) b.1 (a.3 ∙ here ∙ number) in
-          (c.0, c.1, c.2, c.3 ∙ a.3, c.4 ∙ a.4, le_trans a.5 c.5);
+          let home : p.shard ≡ d = here ∙ number in
+          let there : p.shard < length g.shards = omega (arith, h, home) in
+          all_told_on d p home there (ended_on_node g whole p s there (subst (λ i. is_ended (phase_of (get_or g.shards i s) p) ≡ true) (sym home) gone));
     }
 
-    seat_here : IsSeatOf (restarted n z) (k.directory, late_seat k.directory.name k.seat.deaths (ends_of n lives) d) (all_forgotten (get_or lives d t))
+    seat_here : IsSeatOf (restarted n z) (k.directory, late_seat k.directory.name k.seat.deaths late d) (all_forgotten (get_or lives d t))
     seat_here = (
       record {
         desks = desks_are ∙ ap (λ (c : Config). c.desks) (sym (whole.shards d s h).config_is);
@@ -238,15 +283,15 @@ module _ (g : GatheredState) (whole : IsGathered g) (n : ℕ) (within : n ≤ MA
     )
 
   module _ (desks : ℕ) (seats : List Seated) (enough : desks ≡ g.config.desks)
-      (are : seats ≡ map (λ m. (k.directory, late_seat k.directory.name k.seat.deaths (ends_of n lives) m)) (up_from 0 desks)) where
+      (are : seats ≡ map (λ m. (k.directory, late_seat k.directory.name k.seat.deaths late m)) (up_from 0 desks)) where
     seat_count : length seats ≡ desks
-    seat_count = ap length are ∙ count_from (λ m. (k.directory, late_seat k.directory.name k.seat.deaths (ends_of n lives) m)) 0 desks
+    seat_count = ap length are ∙ count_from (λ m. (k.directory, late_seat k.directory.name k.seat.deaths late m)) 0 desks
 
-    seat_at : (i : ℕ) (p : Seated) → i < length seats → get_or seats i p ≡ (k.directory, late_seat k.directory.name k.seat.deaths (ends_of n lives) i)
+    seat_at : (i : ℕ) (p : Seated) → i < length seats → get_or seats i p ≡ (k.directory, late_seat k.directory.name k.seat.deaths late i)
     seat_at i p h =
         let e : 0 + i ≡ i = omega arith in
-        ap (λ l. get_or l i p) are ∙ at_from (λ m. (k.directory, late_seat k.directory.name k.seat.deaths (ends_of n lives) m)) 0 desks i p (omega (arith, h, seat_count))
-        ∙ ap (λ m. (k.directory, late_seat k.directory.name k.seat.deaths (ends_of n lives) m)) e
+        ap (λ l. get_or l i p) are ∙ at_from (λ m. (k.directory, late_seat k.directory.name k.seat.deaths late m)) 0 desks i p (omega (arith, h, seat_count))
+        ∙ ap (λ m. (k.directory, late_seat k.directory.name k.seat.deaths late m)) e
 
     restarted_count : length (map (restarted n) g.shards) ≡ length g.shards
     restarted_count = length-map g.shards (restarted n)
@@ -266,7 +311,7 @@ module _ (g : GatheredState) (whole : IsGathered g) (n : ℕ) (within : n ≤ MA
           let in_seats : i < length seats = omega (arith, in_shards, seat_count, enough, whole.desks) in
           subst (λ x. IsSeatOf x (get_or seats i p) (get_or (map all_forgotten lives) i t)) (sym (get_or-map (restarted n) g.shards i s s in_shards))
           (subst (λ x. IsSeatOf (restarted n (get_or g.shards i s)) x (get_or (map all_forgotten lives) i t)) (sym (seat_at i p in_seats))
-          (subst (IsSeatOf (restarted n (get_or g.shards i s)) (k.directory, late_seat k.directory.name k.seat.deaths (ends_of n lives) i)) (sym (get_or-map all_forgotten lives i t t in_lives))
+          (subst (IsSeatOf (restarted n (get_or g.shards i s)) (k.directory, late_seat k.directory.name k.seat.deaths late i)) (sym (get_or-map all_forgotten lives i t t in_lives))
           (seat_here i s t in_shards))));
     }
 

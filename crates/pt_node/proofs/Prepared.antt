@@ -17,7 +17,7 @@ use Rattle.pt_gathered.specs.Quiet.{AreInTurn, ends_of}
 use Rattle.pt_desk.proofs.Before.{latest_apart, latest_told}
 use Rattle.pt_node.proofs.Ended.{are_ended, given_at}
 
-born : (f : Phase) → is_ended f ≡ true → is_unborn f ≡ false
+pub born : (f : Phase) → is_ended f ≡ true → is_unborn f ≡ false
 born unborn h = absurd (cc)
 born (living s) h = absurd (cc)
 born (ended r s) h = refl

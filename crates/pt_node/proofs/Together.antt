@@ -22,6 +22,7 @@ use Rattle.pt_shard.specs.Outbox.{held_from}
 use Rattle.pt_gathered.specs.Gathered.{GatheredState, IsGathered, begins, start_of, IsShardOf, journal_at, box_at, hold_at, over_in}
 use Rattle.pt_gathered.specs.Taking.{AreShards}
 use Rattle.pt_gathered.specs.Beginning.{IsBeginning}
+use Rattle.pt_gathered.specs.Late.{HasEnded}
 use Rattle.pt_gathered.proofs.Starts.{start_same}
 use Rattle.pt_gathered.proofs.Agreeing.{local_as}
 use Rattle.pt_gathered.proofs.Owned.{life_same, posts_same}
@@ -34,13 +35,13 @@ use Rattle.pt_node.specs.Gathering.{Gathers, HasJournalsOf, ReadsAreTrue}
 use Rattle.atomic_table.specs.Seated.{TableId}
 use Rattle.pt_directory.specs.declared.view.Death.{Death}
 use Rattle.pt_directory.specs.Views.{up_from}
-use Rattle.pt_directory.specs.Seats.{DirectoryState, SeatState}
+use Rattle.pt_directory.specs.Seats.{DirectoryState, SeatState, HasToldOf}
 use Rattle.pt_desk.proofs.Before.{old_ends}
-use Rattle.pt_desk.proofs.Deaths.{told}
+use Rattle.pt_desk.proofs.Deaths.{told, own_death}
 use Rattle.pt_events.proofs.Refusals.{ended_below}
 use Rattle.pt_node.specs.Keeping.{KeptState, IsEndOn, IsKeptOf}
 use Rattle.pt_node.specs.Seating.{Seated, all_seats, seat_in, together, AreAudited}
-use Rattle.pt_node.proofs.TrueReads.{death_from, number_at, true_read}
+use Rattle.pt_node.proofs.TrueReads.{death_from, death_in, number_at, true_read}
 
 -- one lane: what was posted is what was collected and what the lane has
 pub lane_agrees : (sent posted box collected lane got held : List Letter) → sent ≡ posted ++ box → posted ≡ collected ++ lane → Agrees collected got held → Agrees sent got (held ++ lane ++ box)
@@ -185,7 +186,8 @@ module _ (desks : List DeskState) (g : GatheredState) (whole : AreWhole desks) (
   }
 
   -- what is kept of their directory is that of the gathered node
-  module _ (k : KeptState) (first : (p : Seated) → (get_or (all_seats desks) 0 p).0 ≡ k.directory) (seat_is : k.seat ≡ together k.directory.name (all_seats desks)) where
+  module _ (k : KeptState) (first : (p : Seated) → (get_or (all_seats desks) 0 p).0 ≡ k.directory) (seat_is : k.seat ≡ together k.directory.name (all_seats desks))
+      (written_is : k.written ≡ map (λ (d : DeskState). length d.shard.journal) desks) where
     one : DeskState
     one = some_desk desks 0 gathers.node.some
 
@@ -219,6 +221,20 @@ module _ (desks : List DeskState) (g : GatheredState) (whole : AreWhole desks) (
               (ap is_ended (own_life p within one (events (get_or desks z.shard one).shard.journal)) ∙ moved);
         }
 
+    -- each desk told all ends of its processes, before its journal and in it
+    all_told : (p : Pid) → p.shard < length g.shards → HasEnded g p → HasToldOf p k.seat
+    all_told p h e =
+        let d = p.shard in
+        let here : p.shard < length desks = omega (arith, h, count) in
+        let x = get_or desks d one in
+        let s = x.shard in
+        let w = whole d one here in
+        let gone : is_ended (life s.start (events s.journal) p) ≡ true
+        = ap is_ended (sym (own_life p here one (events s.journal))) ∙ subst (λ j. is_ended (life (begins g) (events j) p) ≡ true) (journal_of d one here) e in
+        let t = own_death x.sight.told s.start s.config.slots s.config.start s.config.top_version s.number (old_ends s x.sight w.fit w.seated) s.journal w.fit.local p gone in
+        let m = death_in k.directory.name desks d one t.0 t.1 here t.2 in
+        (m.0, t.1, subst (λ (s : SeatState). get_elem? s.deaths m.0 ≡ some t.1) (sym seat_is) m.1, t.3, t.4, t.5)
+
     pub kept_of : IsKeptOf g k
     kept_of =
         let w = whole 0 one gathers.node.some in
@@ -231,6 +247,10 @@ module _ (desks : List DeskState) (g : GatheredState) (whole : AreWhole desks) (
               ap (λ (s : SeatState). s.homes) seat_is
               ∙ homes_together k.directory.name desks 0 (λ d x h. let e : d ≡ 0 + d = omega arith in number_at g.config desks gathers.node whole d x h ∙ e) ∙ ap (up_from 0) gathers.node.count;
           ends = told_on;
+          all = all_told;
+          written =
+              written_is ∙ sym (map-map (λ (s : ShardState). length s.journal) (λ (d : DeskState). d.shard) desks)
+              ∙ ap (map (λ (s : ShardState). length s.journal)) (sym gathers.shards);
         }
 
 pub same_journals : (desks : List DeskState) (g : GatheredState) → g.shards ≡ all_shards desks → HasJournalsOf desks g

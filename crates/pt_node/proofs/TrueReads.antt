@@ -42,7 +42,7 @@ module _ (name : TableId) where
   read_in (y ∷ ys) zero x k r h at = (k, at_longer y.sight.reads (together name (all_seats ys)).reads k r at)
   read_in (y ∷ ys) (suc d) x k r h at = let t = read_in ys d x k r (omega arith) at in at_behind y.sight.reads (together name (all_seats ys)).reads t.0 r t.1
 
-  death_in : (desks : List DeskState) (d : ℕ) (x : DeskState) (k : ℕ) (z : Death) → d < length desks → get_elem? (deaths_of (get_or desks d x)) k ≡ some z
+  pub death_in : (desks : List DeskState) (d : ℕ) (x : DeskState) (k : ℕ) (z : Death) → d < length desks → get_elem? (deaths_of (get_or desks d x)) k ≡ some z
       → (m : ℕ) × (get_elem? (together name (all_seats desks)).deaths m ≡ some z)
   death_in [] d x k z h at = absurd (omega arith)
   death_in (y ∷ ys) zero x k z h at = (k, at_longer (deaths_of y) (together name (all_seats ys)).deaths k z at)

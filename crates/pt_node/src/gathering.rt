@@ -1,10 +1,11 @@
 //! Gathering: the desks of a node are brought together.
 
-ghost use Rattle.std.specs.Prelude.{◌≡◌, ◌*◌, ◌≤◌, [], map, IfOk, IfErr, vec_len};
+ghost use Rattle.std.specs.Prelude.{◌≡◌, ◌*◌, ◌≤◌, [], length, map, IfOk, IfErr, vec_len};
 ghost use Rattle.std.specs.Vec.{vec_capacity};
 ghost use Rattle.pt_carrier.specs.Node.{lists};
 ghost use Rattle.pt_carrier.specs.declared.reunion.Cause.{Cause};
 ghost use Rattle.pt_gathered.specs.Lawful.{LanesKeep, KeepsHeadline, IsLegalNode, AnswersHold};
+ghost use Rattle.pt_desk.specs.DeskState.{DeskState};
 ghost use Rattle.pt_workers.specs.Desks.{AreDesks, desk_kept};
 ghost use Rattle.pt_node.specs.Gathering.{Gathers, HasJournalsOf, ReadsAreTrue};
 ghost use Rattle.pt_node.specs.Keeping.{IsKeptOf};
@@ -82,30 +83,46 @@ pub fn abandon(desks: Vec<Desk>) {
     desks.destroy_empty();
 }
 
-/// The lists that desks are taken apart into, and the list of their lanes.
+/// The lists that desks are taken apart into, the list of their lanes, and the lengths of their journals.
 struct Room {
     lanes: Vec<Lane>,
     shards: Vec<Shard>,
     seats: Vec<Seated>,
     tables: Vec<DeskLives>,
+    written: Vec<usize>,
     pairs: Vec<(Outs, Ins)>,
 }
 
-/// Takes the memory for so many desks: the lists are empty, and have room for all of them.
-fn take_room(alloc: Global, desks: u8) -> Result<Room, AllocError>
-    ensures lanes { IfOk result
-        (λ room. (room.lanes.items ≡ []) × (desks * desks ≤ vec_capacity room.lanes)) }
-    ensures shards { IfOk result (λ room. (room.shards.items ≡ []) × (desks ≤ vec_capacity room.shards)) }
-    ensures seats { IfOk result (λ room. (room.seats.items ≡ []) × (desks ≤ vec_capacity room.seats)) }
-    ensures tables { IfOk result (λ room. (room.tables.items ≡ []) × (desks ≤ vec_capacity room.tables)) }
-    ensures pairs { IfOk result (λ room. (room.pairs.items ≡ []) × (desks ≤ vec_capacity room.pairs)) }
+/// How many events the journal of each desk has.
+fn written_on(alloc: Global, desks: &[Desk]) -> Result<Vec<usize>, AllocError>
+    ensures { IfOk result (λ v. v.items ≡ map (λ (d : DeskState). length d.shard.journal) desks.now) }
 {
-    let count = usize::from(desks);
+    let mut written = Vec::with_capacity(alloc, desks.len())?;
+    for which in 0..desks.len() {
+        written.push(desks[which].journal().events().len())?;
+    }
+    Ok(written)
+}
+
+/// Takes the memory for these desks, of which there are so many: the lists that they go into are empty, and have room for
+/// all of them.
+fn take_room(alloc: Global, number: u8, desks: &[Desk]) -> Result<Room, AllocError>
+    ensures lanes { IfOk result
+        (λ room. (room.lanes.items ≡ []) × (number * number ≤ vec_capacity room.lanes)) }
+    ensures shards { IfOk result (λ room. (room.shards.items ≡ []) × (number ≤ vec_capacity room.shards)) }
+    ensures seats { IfOk result (λ room. (room.seats.items ≡ []) × (number ≤ vec_capacity room.seats)) }
+    ensures tables { IfOk result (λ room. (room.tables.items ≡ []) × (number ≤ vec_capacity room.tables)) }
+    ensures pairs { IfOk result (λ room. (room.pairs.items ≡ []) × (number ≤ vec_capacity room.pairs)) }
+    ensures written { IfOk result
+        (λ room. room.written.items ≡ map (λ (d : DeskState). length d.shard.journal) desks.now) }
+{
+    let count = usize::from(number);
     Ok(Room {
         lanes: Vec::with_capacity(alloc, count * count)?,
         shards: Vec::with_capacity(alloc, count)?,
         seats: Vec::with_capacity(alloc, count)?,
         tables: Vec::with_capacity(alloc, count)?,
+        written: written_on(alloc, desks)?,
         pairs: Vec::with_capacity(alloc, count)?,
     })
 }
@@ -166,7 +183,7 @@ pub fn gather_keeping(alloc: Global, desks: Vec<Desk>) -> Result<(Gathered, Kept
     look(desks.as_slice());
     let mut desks = desks;
     let config = desks[0].config();
-    let Ok(room) = take_room(alloc, config.desks) else {
+    let Ok(room) = take_room(alloc, config.desks, desks.as_slice()) else {
         return Err(DesksBack { desks });
     };
     let Room {
@@ -174,6 +191,7 @@ pub fn gather_keeping(alloc: Global, desks: Vec<Desk>) -> Result<(Gathered, Kept
         mut shards,
         mut seats,
         mut tables,
+        written,
         mut pairs,
     } = room;
     take_apart(&mut desks, &mut pairs, &mut shards, &mut seats, &mut tables);
@@ -181,7 +199,7 @@ pub fn gather_keeping(alloc: Global, desks: Vec<Desk>) -> Result<(Gathered, Kept
         Ok(left) => {
             desks.destroy_empty();
             fill(left.lanes, &mut lanes);
-            let kept = audit_all(seats);
+            let kept = audit_all(seats, written);
             let gathered = Gathered::of(alloc, config, shards, lanes, tables);
             laws_of(&gathered);
             Ok((gathered, kept))

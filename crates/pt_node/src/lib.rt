@@ -53,8 +53,8 @@
 //!
 //! [`Gathered::settle_unlisted`] and [`resume_settled`] do the same without a list of all pids that ever were. So a
 //! pause costs what happened since the last one, the live processes and the slots. [`gather_keeping`] and
-//! [`resume_kept`] keep the directory of exited processes too, so that nothing is made anew for slots that were never
-//! used.
+//! [`resume_kept`] keep the directory of exited processes too. It is told only of the exits that settling brought, so a
+//! slot that did not change since the last pause costs nothing.
 //!
 //! [`resume_forgetting`] also forgets why processes exited. So a program whose exit reasons never repeat keeps no more
 //! of its exited processes than one whose reasons do.
@@ -68,8 +68,8 @@
 //! - **Gathering.** `gather` returns the node with the journals as they were, or gives all desks back as they were.
 //! - **Resuming.** `resume` continues from a quiet node with empty journals, or gives it back as it was. Pids, versions
 //!   and clocks continue. `resume_settled` does the same from a settled node without a list of its pids. (`AreResumed`)
-//! - **Keeping.** `resume_kept` promises what `resume_settled` does, for what was kept when the node was gathered.
-//!   (`IsKeptFor`)
+//! - **Keeping.** `resume_kept` promises what `resume_settled` does, for what was kept when the node was gathered: its
+//!   directory, which has the exit of each process that had exited by then. (`IsKeptFor`)
 //! - **Forgetting reasons.** `resume_forgetting` makes the same desks, but each exited process has the reason `noproc`.
 //!   The laws of a quiet node hold over them, and its history goes on. (`ResumesForgetful`)
 //! - **The node's calls.** Each call of `Node` does what the call of the pid's desk does, and the other desks stay. It

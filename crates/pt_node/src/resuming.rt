@@ -120,9 +120,12 @@ pub fn resume_settled(alloc: Global, settled: Settled) -> Result<Vec<Desk>, Rest
     }
 }
 
-/// Continues from a settled node as [`resume_settled`] does, in the directory that was kept when it was gathered. So
-/// time and memory grow with what happened since the desks were opened or resumed last, with the live processes and
-/// with the slots that were ever used. A slot that was never used costs nothing.
+/// Continues from a settled node as [`resume_settled`] does, in the directory that was kept when it was gathered. The
+/// directory has the exits that came before. It is told only of those that settling brought, which are found by the
+/// receipts that settling wrote.
+///
+/// So time and memory grow with what happened since the desks were opened or resumed last, and with the number of desks.
+/// A slot that did not change since then costs nothing, whether a process lives there or not.
 ///
 /// Fails only if there is no memory: the settled node then comes back, as it was. What was kept is dropped, and
 /// `resume_settled` resumes the node.
@@ -138,7 +141,8 @@ pub fn resume_kept(alloc: Global, settled: Settled, kept: Kept) -> Result<Vec<De
     }
 }
 
-/// Takes all memory that it needs to resume a settled node at this stamp, its latest, in the directory that was kept.
+/// Takes all memory that it needs to resume a settled node at this stamp, its latest, in the directory that was kept. The
+/// directory is told only of the exits since the node was gathered, as those before were told when they happened.
 fn prepare_kept(
     alloc: Global,
     settled: &Settled,
@@ -165,7 +169,7 @@ fn prepare_kept(
         start,
         ..settled.config()
     };
-    let late = settled.latest_ends(start)?;
+    let late = settled.ends_since(kept.written(), start)?;
     let seats = kept_seats(alloc, settled.desks(), kept, late.as_slice())?;
     take_rest(alloc, config, settled.desks(), seats)
 }

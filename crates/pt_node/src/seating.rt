@@ -16,13 +16,15 @@ use std::marker::Model;
 use std::sync::Arc;
 
 /// What is kept of the directory of a node that was gathered, until the node is resumed: the directory itself, and what
-/// its desks knew together.
+/// its desks knew together. With it goes how many events each desk's journal had, so that resuming finds the exits that
+/// came later.
 ///
 /// It takes the memory of the directory. It may be dropped: the node is then resumed with a new directory.
 #[derive(Drop)]
 pub struct Kept {
     directory: Arc<Directory, Global>,
     seat: Seat,
+    written: Vec<usize>,
 }
 
 impl Model for Kept {
@@ -31,7 +33,20 @@ impl Model for Kept {
 
     ghost Value = { KeptState };
 
-    ghost view = { λ k. record { directory = arc_value k.directory; seat = k.seat } };
+    ghost view = { λ k. record {
+      directory = arc_value k.directory;
+      seat = k.seat;
+      written = k.written.items;
+    } };
+}
+
+impl Kept {
+    /// How many events each desk's journal had.
+    pub(crate) fn written(&self) -> &[usize]
+        ensures { result.now ≡ self.now.written }
+    {
+        self.written.as_slice()
+    }
 }
 
 /// A desk's seat, beside the directory of its node.
@@ -72,7 +87,11 @@ pub(crate) fn kept_seats(
         (map (λ n. (kept.directory, late_seat kept.directory.name kept.seat.deaths ended.now n)) (up_from 0 desks))) }
 {
     let mut seated = Vec::with_capacity(alloc, usize::from(desks))?;
-    let Kept { directory, seat } = kept;
+    let Kept {
+        directory,
+        seat,
+        ..
+    } = kept;
     let mut seats = directory.go_on(alloc, seat, ended)?;
     seats.reverse();
     while let Some(seat) = seats.pop() {
@@ -81,14 +100,15 @@ pub(crate) fn kept_seats(
     Ok(seated)
 }
 
-/// Joins all seats, in order, and audits what they know together, which it returns.
-pub(crate) fn audit_all(seats: Vec<Seated>) -> Kept
+/// Joins all seats, in order, and audits what they know together. It returns that with the lengths of the journals.
+pub(crate) fn audit_all(seats: Vec<Seated>, written: Vec<usize>) -> Kept
     requires some { 0 < vec_len seats }
     requires one { (name : TableId) × AreOf name (map (λ p. (arc_value p.0, p.1)) seats.items) }
     ensures audited { AreAudited (map (λ p. (arc_value p.0, p.1)) seats.items) }
     ensures directory { (p : Seated) → (slice_index_or (map (λ p. (arc_value p.0, p.1)) seats.items) 0 p).0
         ≡ result.directory }
     ensures seat { result.seat ≡ together result.directory.name (map (λ p. (arc_value p.0, p.1)) seats.items) }
+    ensures written { result.written ≡ written.items }
 {
     let mut seats = seats;
     let (directory, mut seat) = seats.remove(0);
@@ -97,5 +117,9 @@ pub(crate) fn audit_all(seats: Vec<Seated>) -> Kept
         directory.join(&mut seat, other);
     }
     directory.audit(&mut seat);
-    Kept { directory, seat }
+    Kept {
+        directory,
+        seat,
+        written,
+    }
 }

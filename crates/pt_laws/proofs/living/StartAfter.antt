@@ -28,7 +28,7 @@ less f z unborn = le_refl _
 less f z (living s) = le_refl _
 less f z (ended r s) = omega (arith, z)
 
-less_reasonless : (f : ProcessState → ℕ) → f fresh ≡ 0 → (p : Phase) → f (state_of (reasonless p)) ≤ f (state_of p)
+pub less_reasonless : (f : ProcessState → ℕ) → f fresh ≡ 0 → (p : Phase) → f (state_of (reasonless p)) ≤ f (state_of p)
 less_reasonless f z unborn = le_refl _
 less_reasonless f z (living s) = le_refl _
 less_reasonless f z (ended r s) = omega (arith, z)

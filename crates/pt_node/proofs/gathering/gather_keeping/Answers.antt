@@ -1,5 +1,5 @@
 -- `gather_keeping`: its clauses `one`, `tables`, `gathered`, `accounted`, `seated`, `journals`, `reads`, `past`, `outline` and `back`, and what its calls of `reunite`, `audit_all`, `of` and `make_whole` ask.
-use Rattle.std.proofs.Common.{◌≡◌, List, map, get_or, sym, ap, ◌∙◌, subst}
+use Rattle.std.proofs.Common.{◌≡◌, List, length, map, get_or, sym, ap, ◌∙◌, subst}
 use Rattle.std.specs.Arc.{arc_value}
 use Rattle.std.proofs.lemmas.Simd.{map-map}
 use Rattle.pt_carrier.specs.Node.{places, kept, IsNode, AreLeft, lists}
@@ -126,4 +126,5 @@ returns-in-Ok-reunite-clause-kept c =
     (record { node = subst (λ k. AreDesksOf k desks) (sym config_is) node; shards = c.take_apart.ensures.shards; left = left })
     (subst AreAudited c.take_apart.ensures.seats c.audit_all-kept.ensures.audited)
     k (subst (λ (l : List Seated). (p : Seated) → (get_or l 0 p).0 ≡ k.directory) c.take_apart.ensures.seats c.audit_all-kept.ensures.directory)
-    (c.audit_all-kept.ensures.seat ∙ ap (together k.directory.name) c.take_apart.ensures.seats))
+    (c.audit_all-kept.ensures.seat ∙ ap (together k.directory.name) c.take_apart.ensures.seats)
+    (c.audit_all-kept.ensures.written ∙ c.in-Ok.ensures.written ∙ ap (map (λ (d : DeskState). length d.shard.journal)) c.as_slice-2.ensures.value))
