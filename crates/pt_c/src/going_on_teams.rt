@@ -6,17 +6,17 @@ ghost use Rattle.pt_table.specs.Answers.{values};
 ghost use Rattle.pt_nodes.specs.Nodes.{IsWholeNode};
 ghost use Rattle.pt_nodes.specs.GoingOn.{TeamsNodeGoesOn};
 
+use pt_nodes::gathered_handle::GatheredHandle;
 use pt_nodes::going_on_teams;
+use pt_nodes::settled_handle::SettledHandle;
 use pt_table::desk_handle::DeskHandle;
-use pt_table::gathered_handle::GatheredHandle;
 use pt_table::history_handle::HistoryHandle;
-use pt_table::settled_handle::SettledHandle;
 use pt_team_handles::team_handle::TeamHandle;
 use std::alloc::Global;
 
 /// Continues with a node and its teams. It gathers the desks and settles the node, takes its history, and resumes it. Then
 /// each team continues over the desk at its place, as `Team::go_on` does with that history. The desks are in their
-/// handles again, and `history` has the history.
+/// handles again, and `history` has the history. The node keeps its directory of exited processes.
 ///
 /// These come first, and then nothing has changed. It returns 9 if a handle of `teams` has no team, else 11 if there are
 /// more or fewer teams than desks, else 10 if `history` is not empty, else 18 if a team is that of a desk with another

@@ -7,12 +7,12 @@ ghost use Rattle.pt_nodes.specs.Nodes.{OpensAs, IsWholeNode, GathersAs, SettlesA
 ghost use Rattle.pt_handles.specs.Handles.{GivesUp};
 ghost use Rattle.pt_nodes.specs.Nodes.{IsHistoryOf, IsQuietHistoryOf};
 
+use pt_nodes::gathered_handle::GatheredHandle;
 use pt_nodes::node;
+use pt_nodes::quiet_handle::QuietHandle;
 use pt_structs::types::PtConfig;
 use pt_table::desk_handle::DeskHandle;
-use pt_table::gathered_handle::GatheredHandle;
 use pt_table::history_handle::HistoryHandle;
-use pt_table::quiet_handle::QuietHandle;
 use std::alloc::Global;
 
 /// Opens a node: each handle gets one of its desks, in order, as `open` makes them.
@@ -26,8 +26,8 @@ pub extern "C" fn pt_open(alloc: Global, desks: &mut [DeskHandle], config: PtCon
     node::open_desks(alloc, desks, config)
 }
 
-/// Brings the desks of a node together, as `gather` does. `out` has the node then, and the handles of the desks are
-/// empty.
+/// Brings the desks of a node together, as `gather` does. `out` has the node then, with its directory of exited
+/// processes, and the handles of the desks are empty.
 ///
 /// All handles must have a desk: it returns 9 if one has none, or there is no handle. They must be all desks of one
 /// `pt_open` or of one resumption, each once and in order: it returns 11 if there are more or fewer than their node has, or
@@ -47,10 +47,10 @@ pub extern "C" fn pt_gather(
 }
 
 /// Settles the node, as `Gathered::settle` does. `out` has the settled node then, and the handle of the gathered one is
-/// empty.
+/// empty. The directory of exited processes is not kept.
 ///
 /// `out` must be empty: it returns 10 if it is not. If it returns 2 or 3, the handle has the node with what was handled
-/// so far, and the node may be settled again.
+/// so far and with its directory, and the node may be settled again.
 #[unsafe(no_mangle)]
 pub extern "C" fn pt_settle(alloc: Global, g: &mut GatheredHandle, out: &mut QuietHandle) -> u32
     ensures { SettlesAs result g.old.state g.new.state out.old.state out.new.state }

@@ -5,19 +5,19 @@ ghost use Rattle.pt_table.specs.Answers.{ReadsThrough, value_behind};
 ghost use Rattle.pt_nodes.specs.Nodes.{SettlesAs, ListsAs, ResumesAs, HandleTells, IsQuietHistoryOf};
 ghost use Rattle.pt_handles.specs.Handles.{GivesUp};
 
+use pt_nodes::gathered_handle::GatheredHandle;
+use pt_nodes::quiet_handle::QuietHandle;
 use pt_nodes::settled;
+use pt_nodes::settled_handle::SettledHandle;
 use pt_table::desk_handle::DeskHandle;
-use pt_table::gathered_handle::GatheredHandle;
 use pt_table::history_handle::HistoryHandle;
-use pt_table::quiet_handle::QuietHandle;
-use pt_table::settled_handle::SettledHandle;
 use std::alloc::Global;
 
 /// Settles the node, as `Gathered::settle_unlisted` does: without the list of all pids that ever were. `out` has the
-/// settled node then, and the handle of the gathered one is empty.
+/// settled node then, with its directory of exited processes, and the handle of the gathered one is empty.
 ///
 /// `out` must be empty: it returns 10 if it is not. If it returns 2 or 3, the handle has the node with what was handled
-/// so far, and the node may be settled again.
+/// so far and with its directory, and the node may be settled again.
 #[unsafe(no_mangle)]
 pub extern "C" fn pt_settle_unlisted(
     alloc: Global,
@@ -30,10 +30,10 @@ pub extern "C" fn pt_settle_unlisted(
 }
 
 /// The settled node with the list of its pids, as `Settled::into_quiet` makes it. `out` has it then, and the handle of the
-/// node without the list is empty.
+/// node without the list is empty. The directory of exited processes is not kept.
 ///
 /// `out` must be empty: it returns 10 if it is not. If it returns 2, for want of memory, the node is in its handle as it
-/// was.
+/// was, with its directory.
 #[unsafe(no_mangle)]
 pub extern "C" fn pt_settled_into_quiet(
     alloc: Global,
@@ -45,12 +45,14 @@ pub extern "C" fn pt_settled_into_quiet(
     settled::settled_into_quiet(alloc, s, out)
 }
 
-/// Continues from a settled node without the list of its pids, as `resume_settled` does. Each handle gets one of its
-/// desks, in order, with an empty journal over what was left, and the handle of the settled node is empty then.
+/// Continues from a settled node without the list of its pids, as `resume_kept` does, in the directory of exited
+/// processes that the node had. Each handle gets one of its desks, in order, with an empty journal over what was left,
+/// and the handle of the settled node is empty then.
 ///
 /// It returns 9 if there is no settled node. The handles must be empty, and as many as the node has desks: it returns
 /// 10 if one is not empty, else 11 if there are more or fewer. If it returns 2, for want of memory, the settled node is
-/// in its handle as it was.
+/// in its handle as it was, but its directory may be lost: the call made again then makes it anew, as `resume_settled`
+/// does.
 #[unsafe(no_mangle)]
 pub extern "C" fn pt_resume_settled(
     alloc: Global,

@@ -9,21 +9,21 @@ ghost use Rattle.pt_nodes.specs.Nodes.{IsWholeNode};
 ghost use Rattle.pt_handles.specs.Handles.{IfNone};
 ghost use Rattle.pt_nodes.specs.GoingOn.{GathersFirst, GoOnWith, NodeGoesOn, ResumesWith, SettlesFirst};
 
+use crate::gathered_handle::{GatheredHandle, is_full as has_gathered};
 use crate::node::{gather_desks, give_up_history};
 use crate::settled::{resume_unlisted, settle_unlisted, settled_history};
+use crate::settled_handle::{SettledHandle, is_full as has_settled};
 use pt_node::{OpenError, Setting};
 use pt_structs::codes::{DONE, EMPTY, FILLED, WRONG_DESK, open_code};
 use pt_table::crew_handle::CrewHandle;
 use pt_table::desk_handle::DeskHandle;
-use pt_table::gathered_handle::{GatheredHandle, is_full as has_gathered};
 use pt_table::history_handle::{HistoryHandle, claim, hold, is_full as has_history};
 use pt_table::rows::{are_own, count_crews, count_full, go_on_all};
-use pt_table::settled_handle::{SettledHandle, is_full as has_settled};
 use std::alloc::Global;
 
 /// Continues with a node and its crews. It gathers the desks and settles the node, takes its history, and resumes it. Then
 /// each crew continues over the desk at its place, as `Hands::go_on` does with that history. The desks are in their
-/// handles again, and `history` has the history.
+/// handles again, and `history` has the history. The node keeps its directory of exited processes.
 ///
 /// These come first, and then nothing has changed. It returns 9 if a handle of `crews` has no crew, else 11 if there are
 /// more or fewer crews than desks, else 10 if `history` is not empty, else 18 if a crew is that of a desk with another

@@ -8,23 +8,25 @@ ghost use Rattle.pt_nodes.specs.Nodes.{OpensAs, OpensMany, AreAllFull, IsWholeNo
 ghost use Rattle.pt_handles.specs.Handles.{GivesUp};
 ghost use Rattle.pt_nodes.specs.Nodes.{IsHistoryOf, IsQuietHistoryOf};
 
-use pt_handles::ending::end_code;
-use pt_node::{Config, Desk, Gathered, OpenError, Quiet, Setting, abandon, gather, open};
-use pt_structs::codes::{DONE, EMPTY, FILLED, MEMORY, open_code, stop_code};
-use pt_structs::types::PtConfig;
-use pt_table::desk_handle::{DeskHandle, claim as claim_desk};
-use pt_table::gathered_handle::{
+use crate::gathered_handle::{
     GatheredHandle, claim as claim_gathered, filled as filled_gathered, hold as hold_gathered,
     is_full as has_gathered, spare as spare_gathered, take_out as take_gathered,
 };
-use pt_table::held::{HeldDesk, HeldGathered, History};
+use crate::held::HeldGathered;
+use crate::keeping::GatheredNode;
+use crate::quiet_handle::{
+    QuietHandle, claim as claim_quiet, filled as filled_quiet, hold as hold_quiet,
+    is_full as has_quiet, spare as spare_quiet,
+};
+use pt_handles::ending::end_code;
+use pt_node::{Config, Desk, Gathered, OpenError, Quiet, Setting, abandon, gather_keeping, open};
+use pt_structs::codes::{DONE, EMPTY, FILLED, MEMORY, open_code, stop_code};
+use pt_structs::types::PtConfig;
+use pt_table::desk_handle::{DeskHandle, claim as claim_desk};
+use pt_table::held::{HeldDesk, History};
 use pt_table::history_handle::{
     HistoryHandle, claim as claim_history, filled as filled_history, is_full as has_history,
     spare as spare_history,
-};
-use pt_table::quiet_handle::{
-    QuietHandle, claim as claim_quiet, filled as filled_quiet, hold as hold_quiet,
-    is_full as has_quiet, spare as spare_quiet,
 };
 use pt_table::rows::{are_in_order, count_full, empty_all, fill_all, spare_places};
 use std::alloc::{AllocError, Global};
@@ -70,8 +72,8 @@ fn open_many(alloc: Global, count: usize, config: PtConfig) -> Result<Vec<Desk>,
     )
 }
 
-/// Brings the desks of a node together, as `gather` does. `out` has the node then, and the handles of the desks are
-/// empty.
+/// Brings the desks of a node together, as `gather` does. `out` has the node then, with its directory of exited
+/// processes, and the handles of the desks are empty.
 ///
 /// All handles must have a desk: it returns 9 if one has none, or there is no handle. They must be all desks of one
 /// `open_desks` or of one resumption, each once and in order: it returns 11 if there are more or fewer than their node has, or
@@ -133,9 +135,9 @@ fn gather_all(
     let mut places = places;
     let mut list = list;
     empty_all(alloc, desks, &mut places, &mut list);
-    match gather(alloc, list) {
-        Ok(gathered) => {
-            *out = filled_gathered(place, gathered);
+    match gather_keeping(alloc, list) {
+        Ok((gathered, kept)) => {
+            *out = filled_gathered(place, GatheredNode::of(gathered, kept));
             DONE
         }
         Err(back) => {
@@ -146,10 +148,10 @@ fn gather_all(
 }
 
 /// Settles the node, as `Gathered::settle` does. `out` has the settled node then, and the handle of the gathered one is
-/// empty.
+/// empty. The directory of exited processes is not kept.
 ///
 /// `out` must be empty: it returns 10 if it is not. If it returns 2 or 3, the handle has the node with what was handled
-/// so far, and the node may be settled again.
+/// so far and with its directory, and the node may be settled again.
 pub fn settle_gathered(alloc: Global, g: &mut GatheredHandle, out: &mut QuietHandle) -> u32
     ensures { SettlesAs result g.old.state g.new.state out.old.state out.new.state }
 {
@@ -162,14 +164,15 @@ pub fn settle_gathered(alloc: Global, g: &mut GatheredHandle, out: &mut QuietHan
     let Ok(empty) = spare_quiet(alloc) else {
         return MEMORY;
     };
-    let (place, gathered) = take_gathered(alloc, g).unwrap();
+    let (place, node) = take_gathered(alloc, g).unwrap();
+    let (gathered, kept) = node.apart();
     match gathered.settle() {
         Ok(quiet) => {
             *out = filled_quiet(empty, quiet);
             DONE
         }
         Err(back) => {
-            *g = filled_gathered(place, back.gathered);
+            *g = filled_gathered(place, GatheredNode::of(back.gathered, kept));
             stop_code(Some(back.fault))
         }
     }
@@ -227,7 +230,7 @@ pub fn gathered_history(alloc: Global, g: &mut GatheredHandle, out: &mut History
         return EMPTY;
     };
     let code = match &place.gathered {
-        Some(gathered) => tell(alloc, gathered, out),
+        Some(node) => tell(alloc, node.gathered(), out),
         None => EMPTY,
     };
     *g = hold_gathered(place);

@@ -7,13 +7,13 @@ ghost use Rattle.pt_table.specs.Answers.{ReadsThrough, ShowsCode};
 ghost use Rattle.pt_table.specs.Reading.{TellsCount, TellsPid, TellsAccount, TellsLinked, TellsKept, TellsWatching};
 ghost use Rattle.pt_structs.specs.Crossing.{pid_crossed, ref_in, event_out, left_out};
 
+use crate::gathered_handle::{GatheredHandle, claim as claim_gathered, hold as hold_gathered};
+use crate::quiet_handle::{QuietHandle, claim as claim_quiet, hold as hold_quiet};
 use pt_structs::codes::{DONE, EMPTY};
 use pt_structs::crossing::{pid_in, ref_in};
 use pt_structs::types::{PtAccount, PtEvent, PtIds, PtLeftOver, PtPid, PtRef};
-use pt_table::gathered_handle::{GatheredHandle, claim as claim_gathered, hold as hold_gathered};
 use pt_table::history_handle::{HistoryHandle, claim as claim_history, hold as hold_history};
 use pt_table::looking;
-use pt_table::quiet_handle::{QuietHandle, claim as claim_quiet, hold as hold_quiet};
 use std::alloc::Global;
 
 /// The number of desks of the node.
@@ -25,8 +25,8 @@ pub fn gathered_desks(alloc: Global, g: &mut GatheredHandle, out: &mut u8) -> u3
         return EMPTY;
     };
     let code = match &held.gathered {
-        Some(gathered) => {
-            *out = gathered.desks();
+        Some(node) => {
+            *out = node.gathered().desks();
             DONE
         }
         None => EMPTY,

@@ -1,36 +1,38 @@
 //! A settled node without the list of its pids: settling, reading, listing, resuming and giving up.
 
-ghost use Rattle.std.specs.Prelude.{◌≡◌, length, map};
+ghost use Rattle.std.specs.Prelude.{◌≡◌, length, map, IfErr, IfOk};
 ghost use Rattle.std.specs.Option.{option_map};
+ghost use Rattle.pt_node.specs.Resuming.{Resumes};
 ghost use Rattle.pt_table.specs.Answers.{ReadsThrough, value_behind};
 ghost use Rattle.pt_nodes.specs.Nodes.{SettlesAs, ListsAs, ResumesAs, HandleTells, Writes, IsQuietHistoryOf};
 ghost use Rattle.pt_handles.specs.Handles.{GivesUp};
 
-use pt_handles::ending::end_code;
-use pt_node::{OpenError, Setting, Settled, resume_settled};
-use pt_structs::codes::{DONE, EMPTY, FILLED, MEMORY, open_code, stop_code};
-use pt_table::desk_handle::DeskHandle;
-use pt_table::gathered_handle::{
+use crate::gathered_handle::{
     GatheredHandle, filled as filled_gathered, is_full as has_gathered, take_out as take_gathered,
 };
+use crate::keeping::{GatheredNode, SettledNode};
+use crate::quiet_handle::{
+    QuietHandle, filled as filled_quiet, is_full as has_quiet, spare as spare_quiet,
+};
+use crate::settled_handle::{
+    SettledHandle, claim, filled, hold, is_full as has_settled, spare, take_out,
+};
+use pt_handles::ending::end_code;
+use pt_node::{Desk, OpenError, RestingSettled, Setting, Settled, resume_kept, resume_settled};
+use pt_structs::codes::{DONE, EMPTY, FILLED, MEMORY, open_code, stop_code};
+use pt_table::desk_handle::DeskHandle;
 use pt_table::held::History;
 use pt_table::history_handle::{
     HistoryHandle, filled as filled_history, is_full as has_history, spare as spare_history,
 };
-use pt_table::quiet_handle::{
-    QuietHandle, filled as filled_quiet, is_full as has_quiet, spare as spare_quiet,
-};
 use pt_table::rows::{count_full, fill_all, spare_places};
-use pt_table::settled_handle::{
-    SettledHandle, claim, filled, hold, is_full as has_settled, spare, take_out,
-};
 use std::alloc::Global;
 
 /// Settles the node, as `Gathered::settle_unlisted` does: without the list of all pids that ever were. `out` has the
-/// settled node then, and the handle of the gathered one is empty.
+/// settled node then, with its directory of exited processes, and the handle of the gathered one is empty.
 ///
 /// `out` must be empty: it returns 10 if it is not. If it returns 2 or 3, the handle has the node with what was handled
-/// so far, and the node may be settled again.
+/// so far and with its directory, and the node may be settled again.
 pub fn settle_unlisted(alloc: Global, g: &mut GatheredHandle, out: &mut SettledHandle) -> u32
     ensures { SettlesAs result g.old.state g.new.state out.old.state out.new.state }
 {
@@ -43,24 +45,25 @@ pub fn settle_unlisted(alloc: Global, g: &mut GatheredHandle, out: &mut SettledH
     let Ok(empty) = spare(alloc) else {
         return MEMORY;
     };
-    let (place, gathered) = take_gathered(alloc, g).unwrap();
+    let (place, node) = take_gathered(alloc, g).unwrap();
+    let (gathered, kept) = node.apart();
     match gathered.settle_unlisted() {
         Ok(settled) => {
-            *out = filled(empty, settled);
+            *out = filled(empty, SettledNode::of(settled, Some(kept)));
             DONE
         }
         Err(back) => {
-            *g = filled_gathered(place, back.gathered);
+            *g = filled_gathered(place, GatheredNode::of(back.gathered, kept));
             stop_code(Some(back.fault))
         }
     }
 }
 
 /// The settled node with the list of its pids, as `Settled::into_quiet` makes it. `out` has it then, and the handle of the
-/// node without the list is empty.
+/// node without the list is empty. The directory of exited processes is not kept.
 ///
 /// `out` must be empty: it returns 10 if it is not. If it returns 2, for want of memory, the node is in its handle as it
-/// was.
+/// was, with its directory.
 pub fn settled_into_quiet(alloc: Global, s: &mut SettledHandle, out: &mut QuietHandle) -> u32
     ensures { ListsAs result s.old.state s.new.state out.old.state out.new.state }
 {
@@ -73,25 +76,28 @@ pub fn settled_into_quiet(alloc: Global, s: &mut SettledHandle, out: &mut QuietH
     let Ok(empty) = spare_quiet(alloc) else {
         return MEMORY;
     };
-    let (place, settled) = take_out(alloc, s).unwrap();
+    let (place, node) = take_out(alloc, s).unwrap();
+    let (settled, kept) = node.apart();
     match settled.into_quiet() {
         Ok(quiet) => {
             *out = filled_quiet(empty, quiet);
             DONE
         }
         Err(settled) => {
-            *s = filled(place, settled);
+            *s = filled(place, SettledNode::of(settled, kept));
             MEMORY
         }
     }
 }
 
-/// Continues from a settled node without the list of its pids, as `resume_settled` does. Each handle gets one of its
-/// desks, in order, with an empty journal over what was left, and the handle of the settled node is empty then.
+/// Continues from a settled node without the list of its pids, as `resume_kept` does, in the directory of exited
+/// processes that the node had. Each handle gets one of its desks, in order, with an empty journal over what was left,
+/// and the handle of the settled node is empty then.
 ///
 /// It returns 9 if there is no settled node. The handles must be empty, and as many as the node has desks: it returns
 /// 10 if one is not empty, else 11 if there are more or fewer. If it returns 2, for want of memory, the settled node is
-/// in its handle as it was.
+/// in its handle as it was, but its directory may be lost: the call made again then makes it anew, as `resume_settled`
+/// does.
 pub fn resume_unlisted(alloc: Global, s: &mut SettledHandle, desks: &mut [DeskHandle]) -> u32
     ensures { ResumesAs result s.old.state s.new.state (map (λ h. h.state) desks.old) (map (λ h. h.state) desks.new) }
 {
@@ -107,16 +113,28 @@ pub fn resume_unlisted(alloc: Global, s: &mut SettledHandle, desks: &mut [DeskHa
     let Ok(places) = spare_places(alloc, desks.len()) else {
         return MEMORY;
     };
-    let (place, settled) = take_out(alloc, s).unwrap();
-    match resume_settled(alloc, settled) {
+    let (place, node) = take_out(alloc, s).unwrap();
+    match resume_node(alloc, node) {
         Ok(list) => {
             fill_all(desks, places, list);
             DONE
         }
         Err(back) => {
-            *s = filled(place, back.settled);
+            *s = filled(place, SettledNode::of(back.settled, None));
             MEMORY
         }
+    }
+}
+
+/// Continues from a settled node in the directory that was kept, or in a new one if that is lost.
+fn resume_node(alloc: Global, node: SettledNode) -> Result<Vec<Desk>, RestingSettled>
+    ensures resumes { IfOk result (λ desks. Resumes node.gathered desks.items) }
+    ensures resting { IfErr result (λ back. back.settled ≡ node) }
+{
+    let (settled, kept) = node.apart();
+    match kept {
+        Some(kept) => resume_kept(alloc, settled, kept),
+        None => resume_settled(alloc, settled),
     }
 }
 
@@ -127,7 +145,7 @@ fn desk_count(alloc: Global, s: &mut SettledHandle) -> Option<usize>
 {
     let place = claim(alloc, s)?;
     let count = match &place.settled {
-        Some(settled) => Some(usize::from(settled.desks())),
+        Some(node) => Some(usize::from(node.settled().desks())),
         None => None,
     };
     *s = hold(place);
@@ -145,7 +163,7 @@ pub fn settled_history(alloc: Global, s: &mut SettledHandle, out: &mut HistoryHa
         return EMPTY;
     };
     let code = match &place.settled {
-        Some(settled) => tell_settled(alloc, settled, out),
+        Some(node) => tell_settled(alloc, node.settled(), out),
         None => EMPTY,
     };
     *s = hold(place);
@@ -180,8 +198,8 @@ pub fn settled_desks(alloc: Global, s: &mut SettledHandle, out: &mut u8) -> u32
         return EMPTY;
     };
     let code = match &held.settled {
-        Some(settled) => {
-            *out = settled.desks();
+        Some(node) => {
+            *out = node.settled().desks();
             DONE
         }
         None => EMPTY,
@@ -199,8 +217,8 @@ pub fn settled_handled(alloc: Global, s: &mut SettledHandle, out: &mut u64) -> u
         return EMPTY;
     };
     let code = match &held.settled {
-        Some(settled) => {
-            *out = settled.handled();
+        Some(node) => {
+            *out = node.settled().handled();
             DONE
         }
         None => EMPTY,
