@@ -1,8 +1,8 @@
--- `end_epoch`: its clause `fault`.
+-- `settle`: its clause `fault`.
 use Rattle.std.proofs.Common.{sym, subst}
 use Rattle.pt_report.specs.Epochs.{IsOfEnd}
 use Rattle.pt_report.proofs.Passing.{stopped_of_end}
-use Rattle.pt_report.proofs.epochs.end_epoch.Goals as goal
+use Rattle.pt_report.proofs.epochs.settle.Goals as goal
 
 pub returns-in-Err-clause-fault : goal.returns-in-Err-clause-fault
 returns-in-Err-clause-fault c =
