@@ -59,8 +59,8 @@
 //! more for each pid that ever was, and `settle_unlisted` does not. `history` takes time by the logarithm of the number
 //! of desks for each event. `latest_ends` looks at each slot that was ever used, and `ends_since` at the events since.
 //!
-//! Tests: `checks/rows/settling.txt`, `checks/rows/resumed.txt`, `checks/rows/going_on.txt`, `checks/rows/quiet.txt`
-//! and `checks/tried/test_calls/epochs.rt.txt`.
+//! Tests: `checks/rows/settling.txt`, `checks/rows/resumed.txt`, `checks/rows/going_on.txt`, `checks/rows/quiet.txt`,
+//! `checks/tried/test_calls/epochs.rt.txt` and `checks/tried/test_calls/late.rt.txt`.
 //!
 //! # What is proved
 //!

@@ -1,15 +1,14 @@
 -- What is kept of a node's directory while the node is gathered, settled and resumed.
-use Rattle.std.specs.Prelude.{◌≡◌, ℕ, ◌<◌, ◌≤◌, true, List, length, map}
+use Rattle.std.specs.Prelude.{◌≡◌, ℕ, ◌<◌, ◌≤◌, List, length, map}
 use mathlib.Core.Option.{some}
 use lib.ListN.{get_elem?}
 use Rattle.pt_signal.specs.declared.pid.Pid.{Pid}
-use Rattle.pt_events.specs.History.{is_ended, life}
-use Rattle.pt_events.specs.Journal.{clock, events}
+use Rattle.pt_events.specs.Journal.{clock}
 use Rattle.pt_directory.specs.declared.view.Death.{Death}
 use Rattle.pt_directory.specs.Views.{up_from}
 use Rattle.pt_directory.specs.Seats.{DirectoryState, SeatState, HasToldOf}
 use Rattle.pt_shard.specs.ShardState.{ShardState}
-use Rattle.pt_gathered.specs.Gathered.{GatheredState, begins, journals}
+use Rattle.pt_gathered.specs.Gathered.{GatheredState, journals}
 use Rattle.pt_gathered.specs.Late.{HasEnded}
 use Rattle.pt_gathered.specs.Settling.{Settles}
 
@@ -23,8 +22,7 @@ pub record KeptState : Type 0 where
 pub record IsEndOn (g : GatheredState) (x : Death) : Type 0 where
   pub shard : x.shard < length g.shards
   pub stamp : x.stamp ≤ clock g.config.start (journals g x.shard)
-  pub ended : is_ended (life (begins g) (events (journals g x.shard))
-      (record { shard = x.shard; slot = x.slot; version = x.version })) ≡ true
+  pub ended : HasEnded g (record { shard = x.shard; slot = x.slot; version = x.version })
 
 -- the directory is the node's, and the seat is the home of all its desks; each end that it told is one; of each process
 -- that has ended on the node its end was told, or a later one of its slot; and so many events have the journals

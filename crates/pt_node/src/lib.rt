@@ -59,8 +59,8 @@
 //! [`resume_forgetting`] also forgets why processes exited. So a program whose exit reasons never repeat keeps no more
 //! of its exited processes than one whose reasons do.
 //!
-//! Tests: `checks/rows`, `checks/tried/test_calls/nodes.rt.txt`, `checks/tried/test_calls/opening.rt.txt` and
-//! `crates/test_calls/src/nodes.rt`.
+//! Tests: `checks/rows`, `checks/tried/test_calls/nodes.rt.txt`, `checks/tried/test_calls/opening.rt.txt`,
+//! `checks/tried/test_calls/late.rt.txt` and `crates/test_calls/src/nodes.rt`.
 //!
 //! # What is proved
 //!
