@@ -8,11 +8,15 @@
 
 ghost use Rattle.std.specs.Prelude.{List, OnOk, IfOk};
 ghost use Rattle.pt_events.specs.declared.event.Stamped.{Stamped};
+ghost use Rattle.pt_gathered.specs.Gathered.{GatheredState};
+ghost use Rattle.pt_gathered.specs.Settling.{NothingLeft, Settles};
+ghost use Rattle.pt_node.specs.Gathering.{Gathers};
+ghost use Rattle.pt_node.specs.Keeping.{IsKeptOf};
 ghost use Rattle.pt_workers.specs.Running.{AllWork, always, begins_by};
 ghost use Rattle.example_uses.specs.Epochs.{Archives, IsArchived, Passes, PassAsOne};
 
 use pt_node::{
-    FreeGate, Node, NodeBack, RestingSettled, RunFault, Settled, Stamped, Task, Unsettled,
+    FreeGate, Kept, Node, NodeBack, RestingSettled, RunFault, Settled, Stamped, Task, Unsettled,
 };
 use std::alloc::Global;
 use std::io::Write;
@@ -133,24 +137,36 @@ fn one_epoch<R: Threads + Sync, W: Task + Send, A: Archive>(
 }
 
 /// Ends an epoch: puts its history into the archive, and resumes the node with empty journals.
+///
+/// No list of all pids is made, and the directory of exited processes is kept. So it costs what happened in the epoch,
+/// the live processes, and the slots that were ever used.
 pub fn end_epoch<A: Archive>(alloc: Global, node: Node, archive: &mut A) -> Result<Node, Halted>
     ensures { IfOk result (λ next. (history : List Stamped)
         × Archives A.keeps history node archive.old next archive.new) }
 {
-    let gathered = match node.gather() {
-        Ok(gathered) => gathered,
-        Err(back) => return Err(Halted::Gathering(back)),
-    };
-    let settled = match gathered.settle_unlisted() {
-        Ok(settled) => settled,
-        Err(unsettled) => return Err(Halted::Settling(unsettled)),
-    };
+    let (settled, kept) = settle(node)?;
     if let Err(_refused) = archived(&settled, archive) {
         return Err(Halted::Archiving(settled));
     }
-    match Node::resume_settled(alloc, settled) {
+    match Node::resume_kept(alloc, settled, kept) {
         Ok(node) => Ok(node),
         Err(resting) => Err(Halted::Resuming(resting)),
+    }
+}
+
+/// Gathers and settles the node, and returns what is kept of its directory too.
+fn settle(node: Node) -> Result<(Settled, Kept), Halted>
+    ensures settles { IfOk result (λ r. (gathered : GatheredState) × Gathers node gathered
+        × Settles gathered r.0.gathered × IsKeptOf gathered r.1) }
+    ensures nothing_left { IfOk result (λ r. NothingLeft r.0.gathered) }
+{
+    let (gathered, kept) = match node.gather_keeping() {
+        Ok(both) => both,
+        Err(back) => return Err(Halted::Gathering(back)),
+    };
+    match gathered.settle_unlisted() {
+        Ok(settled) => Ok((settled, kept)),
+        Err(unsettled) => Err(Halted::Settling(unsettled)),
     }
 }
 

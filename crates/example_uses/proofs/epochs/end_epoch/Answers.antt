@@ -2,22 +2,22 @@
 use Rattle.example_uses.proofs.Archiving.{one_history}
 use Rattle.example_uses.proofs.epochs.end_epoch.Goals as goal
 
-pub returns-in-Ok-resume_settled : goal.returns-in-Ok-resume_settled
-returns-in-Ok-resume_settled g c =
+pub returns-in-Ok : goal.returns-in-Ok
+returns-in-Ok g c =
     let kept = c.in_default.ensures in
-    let gathered = c.in-Ok.gathered in
-    let settled = c.in-Ok-settle_unlisted.settled.gathered in
-    let settles = c.in-Ok-settle_unlisted.ensures.runs.settles in
-    let resumes = c.in-Ok-resume_settled.ensures.resumes in (
+    let before = c.in_ok-settled.ensures.settles in
+    let gathered = before.0 in
+    let settled = c.in_ok-settled.settled.gathered in
+    let resumes = c.in-Ok.ensures.resumes in (
       kept.0,
       record {
         gathered = gathered;
-        gathers = c.in-Ok.ensures.gathers;
+        gathers = before.1;
         settled = settled;
-        settles = settles;
-        nothing_left = c.in-Ok-settle_unlisted.ensures.nothing_left;
+        settles = before.2;
+        nothing_left = c.in_ok-settled.ensures.nothing_left;
         archived = kept.1;
         goes_on = resumes;
-        whole = one_history c.args.node c.in-Ok-resume_settled.node gathered settled kept.0 c.in-Ok.ensures.gathers settles kept.1.merge resumes;
+        whole = one_history c.args.node c.in-Ok.node gathered settled kept.0 before.1 before.2 kept.1.merge resumes;
       },
     )
