@@ -22,7 +22,7 @@ use Rattle.pt_accounts.specs.LifeState.{LifeState}
 use Rattle.pt_accounts.specs.DeskLives.{forgotten, bare}
 use Rattle.pt_accounts.specs.Table.{Slots, of_version, slot_at, life_at}
 use Rattle.pt_accounts.specs.Steps.{is_life_of, ChangesLife, PutsLife, changes_parent, Observes, AreAlike, life_after}
-use Rattle.pt_accounts.specs.Changed.{AreForgotten, CameIsNoted, IsNoted, OthersAreForgotten}
+use Rattle.pt_accounts.specs.Changed.{AreForgotten, CameIsNoted, SlotIsNoted, OthersAreForgotten}
 use Rattle.pt_accounts.proofs.Forgetting.{get_map, slot_map}
 use Rattle.pt_accounts.proofs.Places.{slot_at-past, slot_at-set}
 
@@ -186,7 +186,7 @@ came_others : (changed : List ℕ) (a b : Pid) (x : Signal) (old new : Slots) �
 came_others changed a b (Message body) old new noted c = mild_others changed b (Came a b (Message body)) old new tt c
 came_others changed a b x old new noted c = noted_others changed b (life_after (Came a b x)) old new noted c
 
-pub observed_others : (changed : List ℕ) (e : Event) (old new : Slots) → IsNoted e changed → Observes e old new → OthersAreForgotten changed old → OthersAreForgotten changed new
+pub observed_others : (changed : List ℕ) (e : Event) (old new : Slots) → SlotIsNoted e changed → Observes e old new → OthersAreForgotten changed old → OthersAreForgotten changed new
 observed_others changed (Born p parent link) old new noted o others = parent_others changed p parent (Born p parent link) o.0 new tt o.2 (put_others changed p _ old o.0 refl o.1 others)
 observed_others changed (Said a b x) old new noted o others = mild_others changed a (Said a b x) old new tt o others
 observed_others changed (Came a b x) old new noted o others = came_others changed a b x old new noted o others

@@ -25,7 +25,7 @@ abbrev pub OthersAreForgotten : List ℕ → Slots → Type 0
 OthersAreForgotten changed slots = (s : ℕ) → Contains changed s ⊎ AreForgotten (slot_at slots s)
 
 -- what a table has is counted, and it knows where there is something to forget
-pub record IsKept (ever : ℕ) (changed : List ℕ) (slots : Slots) : Type 0 where
+pub record IsWellKept (ever : ℕ) (changed : List ℕ) (slots : Slots) : Type 0 where
   pub counted : IsCountedUpTo ever slots
   pub others : OthersAreForgotten changed slots
 
@@ -35,8 +35,8 @@ CameIsNoted b (Message body) changed = ⊤
 CameIsNoted b x changed = Contains changed b.slot
 
 -- if the event may leave something to forget of its process, that one's slot is in the list
-abbrev pub IsNoted : Event → List ℕ → Type 0
-IsNoted (Came a b x) changed = CameIsNoted b x changed
-IsNoted (Took p k i) changed = Contains changed p.slot
-IsNoted (Left p r) changed = Contains changed p.slot
-IsNoted _ changed = ⊤
+abbrev pub SlotIsNoted : Event → List ℕ → Type 0
+SlotIsNoted (Came a b x) changed = CameIsNoted b x changed
+SlotIsNoted (Took p k i) changed = Contains changed p.slot
+SlotIsNoted (Left p r) changed = Contains changed p.slot
+SlotIsNoted _ changed = ⊤

@@ -10,7 +10,7 @@ ghost use Rattle.pt_accounts.specs.DeskLives.{bare, all_bare, BeginsBare};
 ghost use Rattle.pt_accounts.specs.Table.{slot_at, of_version_in};
 ghost use Rattle.pt_events.specs.declared.event.Event.TheVariants.{Born};
 ghost use Rattle.pt_accounts.specs.SlotState.{IsCountedUpTo};
-ghost use Rattle.pt_accounts.specs.Changed.{IsNoted, OthersAreForgotten};
+ghost use Rattle.pt_accounts.specs.Changed.{SlotIsNoted, OthersAreForgotten};
 ghost use Rattle.pt_accounts.specs.Steps.{ChangesLife, PutsLife, Observes, AreAlike, IsNextOf, TableGoesOn};
 ghost use Rattle.pt_accounts.specs.Steps.{MayShow, MayObserve, life_after};
 
@@ -40,13 +40,13 @@ pub struct DeskLives {
 
 impl Model for DeskLives {
     ghost use Rattle.pt_accounts.specs.DeskLives.{DeskTable};
-    ghost use Rattle.pt_accounts.specs.Changed.{IsKept};
+    ghost use Rattle.pt_accounts.specs.Changed.{IsWellKept};
 
     ghost Value = { DeskTable };
 
     ghost view = { λ d. record { desk = d.desk; slots = d.slots.items; read = d.read } };
 
-    ghost invariant = { λ d. IsKept d.ever d.changed d.slots.items };
+    ghost invariant = { λ d. IsWellKept d.ever d.changed d.slots.items };
 }
 
 /// Plays one of the process's own events.
@@ -146,7 +146,7 @@ fn observe(
 ) -> Result<(), AllocError>
     requires { MayObserve slots.old.items event }
     ensures observes { OnOk result (Observes event slots.old.items slots.new.items) }
-    ensures noted { OnOk result (IsNoted event changed.new) }
+    ensures noted { OnOk result (SlotIsNoted event changed.new) }
     ensures stays { (s : ℕ) → Contains changed.old s → Contains changed.new s }
     ensures refused { OnErr result (AreAlike slots.old.items slots.new.items) }
 {

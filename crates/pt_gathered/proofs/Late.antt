@@ -24,7 +24,7 @@ use Rattle.pt_laws.specs.BirthsAndEnds.{ends_with, signal_ends}
 use Rattle.pt_laws.proofs.living.BirthsAndEnds.{reason_step}
 use Rattle.pt_gathered.specs.Gathered.{GatheredState, IsGathered, begins, journals}
 use Rattle.pt_gathered.specs.Quiet.{QuietState, IsSettled}
-use Rattle.pt_gathered.specs.Late.{HasEnded, HadEnded, AreEndsSince, may_end, is_over, end_of, ends_in, after_oldest, ends_below, ends_since}
+use Rattle.pt_gathered.specs.Late.{HasEndedOn, HadEndedBy, AreEndsSince, may_end, is_over, late_end, ends_in, after_oldest, ends_below, ends_since}
 use Rattle.pt_gathered.proofs.Lawful.{locals}
 
 -- the one event ----------------------------------------------------------------------------------
@@ -100,7 +100,7 @@ module _ (t : DeskTable) (n : ℕ) where
   abbrev IsEnd : Pid × ℕ → Type 0
   IsEnd x = (is_over (life_in t x.0) ≡ true) × (x.1 ≡ n)
 
-  end_is : (o : Option Pid) → All IsEnd (end_of t n o)
+  end_is : (o : Option Pid) → All IsEnd (late_end t n o)
   end_is None = All-nil IsEnd
   end_is (Some p) = go (is_over (life_in t p)) refl
     where
@@ -110,10 +110,10 @@ module _ (t : DeskTable) (n : ℕ) where
 
   ends_are : (journal : List Stamped) → All IsEnd (ends_in t n journal)
   ends_are [] = All-nil IsEnd
-  ends_are (s ∷ journal) = All-append IsEnd (ends_in t n journal) (end_of t n (may_end s.event)) (ends_are journal) (end_is (may_end s.event))
+  ends_are (s ∷ journal) = All-append IsEnd (ends_in t n journal) (late_end t n (may_end s.event)) (ends_are journal) (end_is (may_end s.event))
 
-  the_end : (p : Pid) → is_over (life_in t p) ≡ true → (o : Option Pid) → o ≡ Some p → Contains (end_of t n o) (p, n)
-  the_end p over o is = subst (λ z. Contains (end_of t n z) (p, n)) (sym is) (let x : Pid × ℕ = (p, n) in rw over (Contains-push [] x))
+  the_end : (p : Pid) → is_over (life_in t p) ≡ true → (o : Option Pid) → o ≡ Some p → Contains (late_end t n o) (p, n)
+  the_end p over o is = subst (λ z. Contains (late_end t n z) (p, n)) (sym is) (let x : Pid × ℕ = (p, n) in rw over (Contains-push [] x))
 
   -- a process that has ended had ended by the older events, or is among those of the newer ones
   ended_since : (start : Start) (low top d : ℕ) (newer older : List Stamped) → IsLocal start low top d (newer ++ older) → (p : Pid) → is_over (life_in t p) ≡ true
@@ -127,15 +127,15 @@ module _ (t : DeskTable) (n : ℕ) where
       go true e before =
           ⊎_elim
           (λ (had : is_ended (life start (events older) p) ≡ true). inl had)
-          (λ (c : Contains (ends_in t n newer) (p, n)). inr (Contains-append_left (ends_in t n newer) (end_of t n (may_end s.event)) (p, n) c))
+          (λ (c : Contains (ends_in t n newer) (p, n)). inr (Contains-append_left (ends_in t n newer) (late_end t n (may_end s.event)) (p, n) c))
           (before e)
       go false e before =
           let is = ended_by start (events (newer ++ older)) p s.event local.0.may e h in
-          inr (Contains-append_right (ends_in t n newer) (end_of t n (may_end s.event)) (p, n) (the_end p over (may_end s.event) is))
+          inr (Contains-append_right (ends_in t n newer) (late_end t n (may_end s.event)) (p, n) (the_end p over (may_end s.event) is))
 
   -- with one event more
   pub one_more : (past evs : List Stamped) → evs ≡ reverse past → (from k : ℕ) (o s : Stamped) → from ≤ k → k < length evs → s ≡ get_or evs k o
-      → ends_in t n (take (k + 1 - from) (oldest (k + 1) past)) ≡ ends_in t n (take (k - from) (oldest k past)) ++ end_of t n (may_end s.event)
+      → ends_in t n (take (k + 1 - from) (oldest (k + 1) past)) ≡ ends_in t n (take (k - from) (oldest k past)) ++ late_end t n (may_end s.event)
   one_more past evs given from k o s low within here =
       let next : k + 1 - from ≡ suc (k - from) = omega (arith, low) in
       ap (λ m. ends_in t n (take m (oldest (k + 1) past))) next
@@ -157,7 +157,7 @@ module _ (q : QuietState) (whole : IsGathered q.gathered) (settled : IsSettled q
   is_table d h = settled.lives_are.told d (record { desk = d; slots = []; read = 0 }) (omega (arith, h, settled.count))
 
   abbrev IsLate : Pid × ℕ → Type 0
-  IsLate x = (x.0.shard < length g.shards) × HasEnded g x.0 × (x.1 ≡ n)
+  IsLate x = (x.0.shard < length g.shards) × HasEndedOn g x.0 × (x.1 ≡ n)
 
   each_below : (k : ℕ) → k ≤ length g.shards → All IsLate (ends_below q places n k)
   each_below zero h = All-nil IsLate
@@ -171,7 +171,7 @@ module _ (q : QuietState) (whole : IsGathered q.gathered) (settled : IsSettled q
       (ends_in (table d) n (newer d)) (ends_are (table d) n (newer d)))
 
   -- those of one desk
-  all_of : (d : ℕ) → d < length g.shards → (p : Pid) → p.shard ≡ d → HasEnded g p → HadEnded g (get_or places p.shard 0) p ⊎ Contains (ends_in (table d) n (newer d)) (p, n)
+  all_of : (d : ℕ) → d < length g.shards → (p : Pid) → p.shard ≡ d → HasEndedOn g p → HadEndedBy g (get_or places p.shard 0) p ⊎ Contains (ends_in (table d) n (newer d)) (p, n)
   all_of d h p here ends =
       let m = get_or places d 0 in
       let j = journals g d in
@@ -185,19 +185,19 @@ module _ (q : QuietState) (whole : IsGathered q.gathered) (settled : IsSettled q
       (λ (c : Contains (ends_in (table d) n (newer d)) (p, n)). inr c)
       (ended_since (table d) n (begins g) g.config.start g.config.top_version d (newer d) (oldest m j) local p over ended_split)
 
-  all_below : (k : ℕ) → k ≤ length g.shards → (p : Pid) → p.shard < k → HasEnded g p → HadEnded g (get_or places p.shard 0) p ⊎ Contains (ends_below q places n k) (p, n)
+  all_below : (k : ℕ) → k ≤ length g.shards → (p : Pid) → p.shard < k → HasEndedOn g p → HadEndedBy g (get_or places p.shard 0) p ⊎ Contains (ends_below q places n k) (p, n)
   all_below zero h p below ends = absurd (omega arith)
   all_below (suc d) h p below ends =
       ⊎_elim
       (λ (l : p.shard < d).
       ⊎_elim
-      (λ (had : HadEnded g (get_or places p.shard 0) p). inl had)
+      (λ (had : HadEndedBy g (get_or places p.shard 0) p). inl had)
       (λ (c : Contains (ends_below q places n d) (p, n)). inr (Contains-append_left (ends_below q places n d) (ends_in (table d) n (newer d)) (p, n) c))
       (all_below d (omega (arith, h)) p l ends))
       (λ (l : d ≤ p.shard).
       let here : p.shard ≡ d = omega (arith, l, below) in
       ⊎_elim
-      (λ (had : HadEnded g (get_or places p.shard 0) p). inl had)
+      (λ (had : HadEndedBy g (get_or places p.shard 0) p). inl had)
       (λ (c : Contains (ends_in (table d) n (newer d)) (p, n)). inr (Contains-append_right (ends_below q places n d) (ends_in (table d) n (newer d)) (p, n) c))
       (all_of d (omega (arith, h)) p here ends))
       (cases_lt p.shard d)

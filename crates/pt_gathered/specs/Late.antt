@@ -15,19 +15,19 @@ use Rattle.pt_gathered.specs.Gathered.{GatheredState, begins, journals}
 use Rattle.pt_gathered.specs.Quiet.{QuietState}
 
 -- the process has ended on the node
-abbrev pub HasEnded : GatheredState → Pid → Type 0
-HasEnded g p = is_ended (life (begins g) (events (journals g p.shard)) p) ≡ true
+abbrev pub HasEndedOn : GatheredState → Pid → Type 0
+HasEndedOn g p = is_ended (life (begins g) (events (journals g p.shard)) p) ≡ true
 
 -- it had ended already by the oldest n events of its desk's journal
-abbrev pub HadEnded : GatheredState → ℕ → Pid → Type 0
-HadEnded g n p = is_ended (life (begins g) (events (oldest n (journals g p.shard))) p) ≡ true
+abbrev pub HadEndedBy : GatheredState → ℕ → Pid → Type 0
+HadEndedBy g n p = is_ended (life (begins g) (events (oldest n (journals g p.shard))) p) ≡ true
 
 -- each of these processes has ended on the node, and has the stamp; each process that has ended there is among them, or
 -- had ended already by the oldest events of its desk's journal, as many as its desk's place says
 pub record AreEndsSince (g : GatheredState) (places : List ℕ) (stamp : ℕ) (ends : List (Pid × ℕ)) : Type 0 where
-  pub each : All (λ (x : Pid × ℕ). (x.0.shard < length g.shards) × HasEnded g x.0 × (x.1 ≡ stamp)) ends
-  pub all : (p : Pid) → p.shard < length g.shards → HasEnded g p
-      → HadEnded g (slice_index_or places p.shard 0) p ⊎ Contains ends (p, stamp)
+  pub each : All (λ (x : Pid × ℕ). (x.0.shard < length g.shards) × HasEndedOn g x.0 × (x.1 ≡ stamp)) ends
+  pub all : (p : Pid) → p.shard < length g.shards → HasEndedOn g p
+      → HadEndedBy g (slice_index_or places p.shard 0) p ⊎ Contains ends (p, stamp)
 
 -- which they are, exactly ----------------------------------------------------------------------------
 
@@ -43,15 +43,15 @@ is_over None = false
 is_over (Some l) = is_ended l.phase
 
 -- this process with the stamp, if the table says that it has ended
-abbrev pub end_of : DeskTable → ℕ → Option Pid → List (Pid × ℕ)
-end_of t stamp None = []
-end_of t stamp (Some p) = cond (is_over (life_in t p)) ((p, stamp) ∷ []) []
+abbrev pub late_end : DeskTable → ℕ → Option Pid → List (Pid × ℕ)
+late_end t stamp None = []
+late_end t stamp (Some p) = cond (is_over (life_in t p)) ((p, stamp) ∷ []) []
 
 -- the processes that the events may have ended, and that have ended, in the order of the events, the newest of which
 -- is first
 abbrev pub ends_in : DeskTable → ℕ → List Stamped → List (Pid × ℕ)
 ends_in t stamp [] = []
-ends_in t stamp (s ∷ journal) = ends_in t stamp journal ++ end_of t stamp (may_end s.event)
+ends_in t stamp (s ∷ journal) = ends_in t stamp journal ++ late_end t stamp (may_end s.event)
 
 -- a journal without its oldest n events
 abbrev pub after_oldest : ℕ → List Stamped → List Stamped

@@ -13,7 +13,7 @@ ghost use Rattle.std.specs.Option.{option_copied};
 ghost use Rattle.pt_gathered.specs.Gathered.{IsGathered, begins, journals, lost_on, over};
 ghost use Rattle.pt_gathered.specs.Tables.{IsTold};
 ghost use Rattle.pt_gathered.specs.Quiet.{AreBornLater, AreInTurn, IsSettled, latest_stamp, ends_of};
-ghost use Rattle.pt_gathered.specs.Late.{AreEndsSince, may_end, end_of, ends_in, ends_since, after_oldest};
+ghost use Rattle.pt_gathered.specs.Late.{AreEndsSince, may_end, late_end, ends_in, ends_since, after_oldest};
 ghost use Rattle.pt_gathered.specs.Settling.{NothingLeft};
 ghost use Rattle.pt_gathered.specs.Lawful.{LanesKeep, KeepsHeadline, IsQuietNode, LinksStand, WatchesStand};
 ghost use Rattle.pt_gathered.specs.Lawful.{HoldingsStand, AnswersHold, QuestionsAnswered, BeginsAgain};
@@ -88,7 +88,7 @@ fn add_end(
     stamp: u64,
     ends: &mut Vec<(Pid, u64)>,
 ) -> Result<(), AllocError>
-    ensures { OnOk result (ends.new.items ≡ ends.old.items ++ end_of table.now stamp pid) }
+    ensures { OnOk result (ends.new.items ≡ ends.old.items ++ late_end table.now stamp pid) }
 {
     let Some(pid) = pid else {
         return Ok(());

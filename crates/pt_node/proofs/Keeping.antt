@@ -31,7 +31,7 @@ use Rattle.pt_gathered.specs.Gathered.{GatheredState, IsGathered, begins, journa
 use Rattle.pt_gathered.specs.Settling.{Settles}
 use Rattle.pt_gathered.specs.Tables.{IsTold}
 use Rattle.pt_gathered.specs.Quiet.{AreInTurn}
-use Rattle.pt_gathered.specs.Late.{AreEndsSince, HadEnded, HasEnded}
+use Rattle.pt_gathered.specs.Late.{AreEndsSince, HadEndedBy, HasEndedOn}
 use Rattle.pt_gathered.proofs.Agreeing.{local_as}
 use Rattle.pt_gathered.proofs.Starts.{start_same}
 use Rattle.pt_gathered.proofs.Owned.{life_same}
@@ -119,10 +119,10 @@ module _ (g : GatheredState) (whole : IsGathered g) where
       let own : life z.start (events z.journal) p ≡ life (begins g) (events z.journal) p = life_same z.start (begins g) p.shard (start_same g.config g.shards whole.shards p.shard s h) (events z.journal) p refl in
       own ∙ ap (λ j. life (begins g) (events j) p) (sym (journal_is p.shard s h))
 
-  ended_by_own : (p : Pid) (s : ShardState) → p.shard < length g.shards → HasEnded g p → is_ended (phase_of (get_or g.shards p.shard s) p) ≡ true
+  ended_by_own : (p : Pid) (s : ShardState) → p.shard < length g.shards → HasEndedOn g p → is_ended (phase_of (get_or g.shards p.shard s) p) ≡ true
   ended_by_own p s h e = ap is_ended (own_life p s h) ∙ e
 
-  ended_on_node : (p : Pid) (s : ShardState) → p.shard < length g.shards → is_ended (phase_of (get_or g.shards p.shard s) p) ≡ true → HasEnded g p
+  ended_on_node : (p : Pid) (s : ShardState) → p.shard < length g.shards → is_ended (phase_of (get_or g.shards p.shard s) p) ≡ true → HasEndedOn g p
   ended_on_node p s h e = ap is_ended (sym (own_life p s h)) ∙ e
 
   module _ (old : GatheredState) (settles : Settles old g) where
@@ -170,13 +170,13 @@ module _ (g : GatheredState) (whole : IsGathered g) (n : ℕ) (lives : List Desk
   ends_here j x at = end_settled g whole for.gathered for.settles x (for.kept.ends j x at)
 
   -- a process that ended was born, so it has a slot and a version
-  in_turn : (p : Pid) (s : ShardState) → p.shard < length g.shards → HasEnded g p → IsInTurn (get_or g.shards p.shard s) p
+  in_turn : (p : Pid) (s : ShardState) → p.shard < length g.shards → HasEndedOn g p → IsInTurn (get_or g.shards p.shard s) p
   in_turn p s h e = turns p.shard s h p (born (phase_of (get_or g.shards p.shard s) p) (ended_by_own g whole p s h e))
 
-  late_at : (i : ℕ) (x : Pid × ℕ) → get_elem? late i ≡ some x → (x.0.shard < length g.shards) × HasEnded g x.0 × (x.1 ≡ n)
+  late_at : (i : ℕ) (x : Pid × ℕ) → get_elem? late i ≡ some x → (x.0.shard < length g.shards) × HasEndedOn g x.0 × (x.1 ≡ n)
   late_at i x at =
       let u = get_of late i x at in
-      subst (λ (v : Pid × ℕ). (v.0.shard < length g.shards) × HasEnded g v.0 × (v.1 ≡ n)) u.1 (since.each i x u.0)
+      subst (λ (v : Pid × ℕ). (v.0.shard < length g.shards) × HasEndedOn g v.0 × (v.1 ≡ n)) u.1 (since.each i x u.0)
 
   pub are_late : AreLate k.directory k.seat.deaths late
   are_late = record {
@@ -192,7 +192,7 @@ module _ (g : GatheredState) (whole : IsGathered g) (n : ℕ) (lives : List Desk
   }
 
   -- a process that had ended by as many events as were written had ended when the node was gathered
-  had_before : (p : Pid) → p.shard < length g.shards → HadEnded g (get_or k.written p.shard 0) p → HasEnded for.gathered p
+  had_before : (p : Pid) → p.shard < length g.shards → HadEndedBy g (get_or k.written p.shard 0) p → HasEndedOn for.gathered p
   had_before p h had =
       let old = for.gathered in
       let d = p.shard in
@@ -212,10 +212,10 @@ module _ (g : GatheredState) (whole : IsGathered g) (n : ℕ) (lives : List Desk
   ends_of_desk d = tell_each d late (filter (is_of d) k.seat.deaths)
 
   -- the end of each process of a desk that has ended is told
-  all_told_on : (d : ℕ) (p : Pid) → p.shard ≡ d → p.shard < length g.shards → HasEnded g p → IsToldIn p (ends_of_desk d)
+  all_told_on : (d : ℕ) (p : Pid) → p.shard ≡ d → p.shard < length g.shards → HasEndedOn g p → IsToldIn p (ends_of_desk d)
   all_told_on d p home h e =
       ⊎_elim
-      (λ (had : HadEnded g (get_or k.written p.shard 0) p).
+      (λ (had : HadEndedBy g (get_or k.written p.shard 0) p).
       let old : p.shard < length for.gathered.shards = omega (arith, h, for.settles.count) in
       let a = for.kept.all p old (had_before p h had) in
       let b = to_filter d k.seat.deaths a.0 a.1 a.2 (a.3 ∙ home) in

@@ -22,7 +22,7 @@ use Rattle.pt_shard.specs.Outbox.{held_from}
 use Rattle.pt_gathered.specs.Gathered.{GatheredState, IsGathered, begins, start_of, IsShardOf, journal_at, box_at, hold_at, over_in}
 use Rattle.pt_gathered.specs.Taking.{AreShards}
 use Rattle.pt_gathered.specs.Beginning.{IsBeginning}
-use Rattle.pt_gathered.specs.Late.{HasEnded}
+use Rattle.pt_gathered.specs.Late.{HasEndedOn}
 use Rattle.pt_gathered.proofs.Starts.{start_same}
 use Rattle.pt_gathered.proofs.Agreeing.{local_as}
 use Rattle.pt_gathered.proofs.Owned.{life_same, posts_same}
@@ -222,7 +222,7 @@ module _ (desks : List DeskState) (g : GatheredState) (whole : AreWhole desks) (
         }
 
     -- each desk told all ends of its processes, before its journal and in it
-    all_told : (p : Pid) → p.shard < length g.shards → HasEnded g p → HasToldOf p k.seat
+    all_told : (p : Pid) → p.shard < length g.shards → HasEndedOn g p → HasToldOf p k.seat
     all_told p h e =
         let d = p.shard in
         let here : p.shard < length desks = omega (arith, h, count) in

@@ -9,7 +9,7 @@ use Rattle.pt_directory.specs.Views.{up_from}
 use Rattle.pt_directory.specs.Seats.{DirectoryState, SeatState, HasToldOf}
 use Rattle.pt_shard.specs.ShardState.{ShardState}
 use Rattle.pt_gathered.specs.Gathered.{GatheredState, journals}
-use Rattle.pt_gathered.specs.Late.{HasEnded}
+use Rattle.pt_gathered.specs.Late.{HasEndedOn}
 use Rattle.pt_gathered.specs.Settling.{Settles}
 
 -- the directory, one seat that knows all that the desks' seats knew, and how many events each desk's journal had
@@ -22,7 +22,7 @@ pub record KeptState : Type 0 where
 pub record IsEndOn (g : GatheredState) (x : Death) : Type 0 where
   pub shard : x.shard < length g.shards
   pub stamp : x.stamp ≤ clock g.config.start (journals g x.shard)
-  pub ended : HasEnded g (record { shard = x.shard; slot = x.slot; version = x.version })
+  pub ended : HasEndedOn g (record { shard = x.shard; slot = x.slot; version = x.version })
 
 -- the directory is the node's, and the seat is the home of all its desks; each end that it told is one; of each process
 -- that has ended on the node its end was told, or a later one of its slot; and so many events have the journals
@@ -32,7 +32,7 @@ pub record IsKeptOf (g : GatheredState) (k : KeptState) : Type 0 where
   pub name : k.seat.name ≡ k.directory.name
   pub homes : k.seat.homes ≡ up_from 0 g.config.desks
   pub ends : (j : ℕ) (x : Death) → get_elem? k.seat.deaths j ≡ some x → IsEndOn g x
-  pub all : (p : Pid) → p.shard < length g.shards → HasEnded g p → HasToldOf p k.seat
+  pub all : (p : Pid) → p.shard < length g.shards → HasEndedOn g p → HasToldOf p k.seat
   pub written : k.written ≡ map (λ (s : ShardState). length s.journal) g.shards
 
 -- it was kept when this node was gathered, or before it was settled

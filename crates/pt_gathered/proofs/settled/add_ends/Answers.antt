@@ -4,7 +4,7 @@ use Rattle.std.proofs.lemmas.List.{length-reverse}
 use Rattle.pt_events.specs.declared.event.Event.TheVariants.{Born}
 use Rattle.pt_events.specs.declared.event.Stamped.{Stamped}
 use Rattle.pt_accounts.specs.DeskLives.{oldest}
-use Rattle.pt_gathered.specs.Late.{may_end, end_of, ends_in}
+use Rattle.pt_gathered.specs.Late.{may_end, late_end, ends_in}
 use Rattle.pt_gathered.proofs.Late.{one_more}
 use Rattle.pt_gathered.proofs.settled.add_ends.Goals as goal
 
@@ -29,8 +29,8 @@ loop-k-preserved c =
       from = omega (arith, low);
       within = omega (arith, here, few);
       ends =
-          c.in_ok-add_end.ensures ∙ ap (λ z. z ++ end_of t n c.may_end.result) i.ends
-          ∙ append_assoc c.args.ends.now.items (ends_in t n (take (k - from) (oldest k past))) (end_of t n c.may_end.result)
-          ∙ ap (λ o. c.args.ends.now.items ++ (ends_in t n (take (k - from) (oldest k past)) ++ end_of t n o)) by
+          c.in_ok-add_end.ensures ∙ ap (λ z. z ++ late_end t n c.may_end.result) i.ends
+          ∙ append_assoc c.args.ends.now.items (ends_in t n (take (k - from) (oldest k past))) (late_end t n c.may_end.result)
+          ∙ ap (λ o. c.args.ends.now.items ++ (ends_in t n (take (k - from) (oldest k past)) ++ late_end t n o)) by
           ∙ ap (λ z. c.args.ends.now.items ++ z) (sym (one_more t n past evs c.events-events.ensures.events from k nothing s low here refl));
     }
