@@ -9,10 +9,10 @@ ghost use Rattle.pt_nodes.specs.Nodes.{IsHistoryOf, IsQuietHistoryOf};
 
 use pt_nodes::gathered_handle::GatheredHandle;
 use pt_nodes::node;
-use pt_nodes::quiet_handle::QuietHandle;
 use pt_structs::types::PtConfig;
 use pt_table::desk_handle::DeskHandle;
 use pt_table::history_handle::HistoryHandle;
+use pt_table::quiet_handle::QuietHandle;
 use std::alloc::Global;
 
 /// Opens a node: each handle gets one of its desks, in order, as `open` makes them.

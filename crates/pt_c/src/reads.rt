@@ -16,11 +16,11 @@ ghost use Rattle.pt_structs.specs.Crossing.{pid_crossed, pid_out, ref_in, ref_ou
 
 use pt_calls::reads;
 use pt_nodes::gathered_handle::GatheredHandle;
-use pt_nodes::quiet_handle::QuietHandle;
 use pt_nodes::reads as node_reads;
 use pt_structs::types::{PtAccount, PtEvent, PtIds, PtItem, PtLeftOver, PtPid, PtRef};
 use pt_table::desk_handle::DeskHandle;
 use pt_table::history_handle::HistoryHandle;
+use pt_table::quiet_handle::QuietHandle;
 use std::alloc::Global;
 
 /// The stamp of the newest event, or the start of the clock.

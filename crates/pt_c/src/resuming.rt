@@ -3,9 +3,9 @@
 ghost use Rattle.std.specs.Prelude.{map};
 ghost use Rattle.pt_nodes.specs.Nodes.{ResumesAs};
 
-use pt_nodes::quiet_handle::QuietHandle;
 use pt_nodes::resuming;
 use pt_table::desk_handle::DeskHandle;
+use pt_table::quiet_handle::QuietHandle;
 use std::alloc::Global;
 
 /// Continues from a settled node, as `resume` does. Each handle gets one of its desks, in order, with an empty journal

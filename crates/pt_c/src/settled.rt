@@ -6,11 +6,11 @@ ghost use Rattle.pt_nodes.specs.Nodes.{SettlesAs, ListsAs, ResumesAs, HandleTell
 ghost use Rattle.pt_handles.specs.Handles.{GivesUp};
 
 use pt_nodes::gathered_handle::GatheredHandle;
-use pt_nodes::quiet_handle::QuietHandle;
 use pt_nodes::settled;
 use pt_nodes::settled_handle::SettledHandle;
 use pt_table::desk_handle::DeskHandle;
 use pt_table::history_handle::HistoryHandle;
+use pt_table::quiet_handle::QuietHandle;
 use std::alloc::Global;
 
 /// Settles the node, as `Gathered::settle_unlisted` does: without the list of all pids that ever were. `out` has the

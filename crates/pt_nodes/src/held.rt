@@ -1,7 +1,6 @@
 //! The places that handles of nodes have: a value on the heap, which can be taken out and leaves its place.
 
 use crate::keeping::{GatheredNode, SettledNode};
-use pt_node::Quiet;
 use std::marker::Model;
 
 /// The place of a gathered node.
@@ -17,21 +16,6 @@ impl Model for HeldGathered {
     ghost Value = { Option GatheredState };
 
     ghost view = { λ h. h.gathered };
-}
-
-/// The place of a settled node.
-#[derive(Drop)]
-pub struct HeldQuiet {
-    pub quiet: Option<Quiet>,
-}
-
-impl Model for HeldQuiet {
-    ghost use Rattle.std.specs.Prelude.{Option};
-    ghost use Rattle.pt_gathered.specs.Quiet.{QuietState};
-
-    ghost Value = { Option QuietState };
-
-    ghost view = { λ h. h.quiet };
 }
 
 /// The place of a settled node without the list of its pids.

@@ -24,7 +24,6 @@ pub mod going_on_teams;
 pub mod held;
 pub mod keeping;
 pub mod node;
-pub mod quiet_handle;
 pub mod reads;
 pub mod resuming;
 pub mod settled;

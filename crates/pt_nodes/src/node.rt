@@ -14,10 +14,6 @@ use crate::gathered_handle::{
 };
 use crate::held::HeldGathered;
 use crate::keeping::GatheredNode;
-use crate::quiet_handle::{
-    QuietHandle, claim as claim_quiet, filled as filled_quiet, hold as hold_quiet,
-    is_full as has_quiet, spare as spare_quiet,
-};
 use pt_handles::ending::end_code;
 use pt_node::{Config, Desk, Gathered, OpenError, Quiet, Setting, abandon, gather_keeping, open};
 use pt_structs::codes::{DONE, EMPTY, FILLED, MEMORY, open_code, stop_code};
@@ -27,6 +23,10 @@ use pt_table::held::{HeldDesk, History};
 use pt_table::history_handle::{
     HistoryHandle, claim as claim_history, filled as filled_history, is_full as has_history,
     spare as spare_history,
+};
+use pt_table::quiet_handle::{
+    QuietHandle, claim as claim_quiet, filled as filled_quiet, hold as hold_quiet,
+    is_full as has_quiet, spare as spare_quiet,
 };
 use pt_table::rows::{are_in_order, count_full, empty_all, fill_all, spare_places};
 use std::alloc::{AllocError, Global};

@@ -8,12 +8,12 @@ ghost use Rattle.pt_table.specs.Reading.{TellsCount, TellsPid, TellsAccount, Tel
 ghost use Rattle.pt_structs.specs.Crossing.{pid_crossed, ref_in, event_out, left_out};
 
 use crate::gathered_handle::{GatheredHandle, claim as claim_gathered, hold as hold_gathered};
-use crate::quiet_handle::{QuietHandle, claim as claim_quiet, hold as hold_quiet};
 use pt_structs::codes::{DONE, EMPTY};
 use pt_structs::crossing::{pid_in, ref_in};
 use pt_structs::types::{PtAccount, PtEvent, PtIds, PtLeftOver, PtPid, PtRef};
 use pt_table::history_handle::{HistoryHandle, claim as claim_history, hold as hold_history};
 use pt_table::looking;
+use pt_table::quiet_handle::{QuietHandle, claim as claim_quiet, hold as hold_quiet};
 use std::alloc::Global;
 
 /// The number of desks of the node.

@@ -5,10 +5,10 @@ ghost use Rattle.std.specs.Option.{option_map};
 ghost use Rattle.pt_table.specs.Answers.{value_behind};
 ghost use Rattle.pt_nodes.specs.Nodes.{ResumesAs};
 
-use crate::quiet_handle::{QuietHandle, claim, filled, hold, take_out};
 use pt_node::{OpenError, Setting, resume};
 use pt_structs::codes::{DONE, EMPTY, FILLED, MEMORY, open_code};
 use pt_table::desk_handle::DeskHandle;
+use pt_table::quiet_handle::{QuietHandle, claim, filled, hold, take_out};
 use pt_table::rows::{count_full, fill_all, spare_places};
 use std::alloc::Global;
 

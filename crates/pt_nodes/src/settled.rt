@@ -11,9 +11,6 @@ use crate::gathered_handle::{
     GatheredHandle, filled as filled_gathered, is_full as has_gathered, take_out as take_gathered,
 };
 use crate::keeping::{GatheredNode, SettledNode};
-use crate::quiet_handle::{
-    QuietHandle, filled as filled_quiet, is_full as has_quiet, spare as spare_quiet,
-};
 use crate::settled_handle::{
     SettledHandle, claim, filled, hold, is_full as has_settled, spare, take_out,
 };
@@ -24,6 +21,9 @@ use pt_table::desk_handle::DeskHandle;
 use pt_table::held::History;
 use pt_table::history_handle::{
     HistoryHandle, filled as filled_history, is_full as has_history, spare as spare_history,
+};
+use pt_table::quiet_handle::{
+    QuietHandle, filled as filled_quiet, is_full as has_quiet, spare as spare_quiet,
 };
 use pt_table::rows::{count_full, fill_all, spare_places};
 use std::alloc::Global;

@@ -1,7 +1,7 @@
 //! The places that handles have: a value on the heap, which can be taken out and leaves its place.
 
 use pt_hands::Hands;
-use pt_node::{Desk, LeftOver, Stamped};
+use pt_node::{Desk, LeftOver, Quiet, Stamped};
 use std::marker::Model;
 
 /// The place of a desk.
@@ -32,6 +32,21 @@ fn give_up(desk: Desk) {
     let (_shard, outs, ins, _directory, _seat, _before) = desk.apart();
     outs.close();
     ins.close();
+}
+
+/// The place of a settled node.
+#[derive(Drop)]
+pub struct HeldQuiet {
+    pub quiet: Option<Quiet>,
+}
+
+impl Model for HeldQuiet {
+    ghost use Rattle.std.specs.Prelude.{Option};
+    ghost use Rattle.pt_gathered.specs.Quiet.{QuietState};
+
+    ghost Value = { Option QuietState };
+
+    ghost view = { λ h. h.quiet };
 }
 
 /// A history: the events of all desks, and the letters left over.

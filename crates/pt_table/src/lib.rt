@@ -1,5 +1,5 @@
-//! The table for C without its exports: the handles of desks, crews and histories, and the calls of a desk and of a
-//! crew with the structs and codes of `pt_structs`.
+//! The table for C without its exports: the handles of desks, crews, histories and quiet nodes, and the calls of a desk
+//! and of a crew with the structs and codes of `pt_structs`.
 //!
 //! `pt_c` exports it. It is a library of its own so that the gate proves it once. A static library keeps no checked
 //! crate, so what is in `pt_c` is proved again when its archive is built.
@@ -28,4 +28,5 @@ pub mod held;
 pub mod history_handle;
 pub mod looking;
 pub mod losing;
+pub mod quiet_handle;
 pub mod rows;

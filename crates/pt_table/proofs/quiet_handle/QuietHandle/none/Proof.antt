@@ -19,11 +19,11 @@ use denote.Triple.Entry.{alive}
 use denote.Triple.Walked.{Stays, walk_of}
 use Rattle.std.proofs.raw_atomic.Walks.{proved_at, leaves}
 use Rattle.pt_places.proofs.Handles.{one_val, one_own, one_made, one_typed}
-use Rattle.pt_nodes.specs.contracts.quiet_handle.QuietHandle as handle
-use Rattle.pt_nodes.specs.contracts.quiet_handle.QuietHandle.none.{ended, clauses}
-use Rattle.pt_nodes.specs.contracts.quiet_handle.QuietHandle.none.Key.{name as #self}
-use Rattle.pt_nodes.proofs.quiet_handle.QuietHandle.none.Statement.{statement}
-use Rattle.pt_nodes.proofs.quiet_handle.QuietHandle.none.Code as compiled
+use Rattle.pt_table.specs.contracts.quiet_handle.QuietHandle as handle
+use Rattle.pt_table.specs.contracts.quiet_handle.QuietHandle.none.{ended, clauses}
+use Rattle.pt_table.specs.contracts.quiet_handle.QuietHandle.none.Key.{name as #self}
+use Rattle.pt_table.proofs.quiet_handle.QuietHandle.none.Statement.{statement}
+use Rattle.pt_table.proofs.quiet_handle.QuietHandle.none.Code as compiled
 
 pub none_spec : {M : Type 1} → statement M
 none_spec 𝓤 𝓛 𝓜 𝓡 wired =

@@ -10,10 +10,10 @@ use Rattle.std.specs.Prelude.{Option, Some, None}
 use Rattle.std.proofs.Crossing as heap
 use Rattle.std_alloc.proofs.SendSync.{quiet, lies}
 use Rattle.std_heap.proofs.Handle.{handle}
-use Rattle.pt_nodes.specs.contracts.held.HeldQuiet as value
-use Rattle.pt_nodes.proofs.held.HeldQuiet.TheSendSync.{the_send}
+use Rattle.pt_table.specs.contracts.held.HeldQuiet as value
+use Rattle.pt_table.proofs.held.HeldQuiet.TheSendSync.{the_send}
 use Rattle.pt_places.specs.Held.{held_on_heap}
-use Rattle.pt_nodes.specs.contracts.quiet_handle.QuietHandle.{the_row, the_type}
+use Rattle.pt_table.specs.contracts.quiet_handle.QuietHandle.{the_row, the_type}
 
 keyless : (d : Option (value.the_row).Denot) (p : Ptr) → Keyless (held_on_heap value.the_row d p)
 keyless None p = λ _. tt

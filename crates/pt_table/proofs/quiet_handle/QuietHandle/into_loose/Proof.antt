@@ -32,13 +32,13 @@ use Rattle.std_heap.specs.contracts.Global as Heap
 use Rattle.std_heap.proofs.Global.TheLaws as heap
 use Rattle.std_heap.proofs.Handle.{heap_val, heap_Tells}
 use Rattle.std_heap.specs.contracts.GlobalAllocator.TheImpl.{ghosts}
-use Rattle.pt_nodes.specs.contracts.held.HeldQuiet as value
+use Rattle.pt_table.specs.contracts.held.HeldQuiet as value
 use Rattle.pt_places.proofs.Values.{both, Loose, loose_in, loose_good}
 use Rattle.pt_places.proofs.Handles.{slot_at, one_val, one_told, one_typed, either_held}
-use Rattle.pt_nodes.specs.contracts.quiet_handle.QuietHandle.into_loose.{ended, clauses}
-use Rattle.pt_nodes.specs.contracts.quiet_handle.QuietHandle.into_loose.Key.{name as #self}
-use Rattle.pt_nodes.proofs.quiet_handle.QuietHandle.into_loose.Statement.{statement}
-use Rattle.pt_nodes.proofs.quiet_handle.QuietHandle.into_loose.Code as compiled
+use Rattle.pt_table.specs.contracts.quiet_handle.QuietHandle.into_loose.{ended, clauses}
+use Rattle.pt_table.specs.contracts.quiet_handle.QuietHandle.into_loose.Key.{name as #self}
+use Rattle.pt_table.proofs.quiet_handle.QuietHandle.into_loose.Statement.{statement}
+use Rattle.pt_table.proofs.quiet_handle.QuietHandle.into_loose.Code as compiled
 
 pub into_loose_spec : {M : Type 1} → statement M
 into_loose_spec 𝓤 𝓛 𝓜 𝓡 wired =

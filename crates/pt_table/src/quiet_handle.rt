@@ -3,7 +3,7 @@
 ghost use Rattle.std.specs.Prelude.{◌≡◌, Option, Some, None, IfOk, is_some};
 ghost use Rattle.std.specs.Coded.{coded_option};
 ghost use Rattle.std.specs.Option.{option_map};
-ghost use Rattle.pt_nodes.specs.contracts.held.HeldQuiet.{the_row as row};
+ghost use Rattle.pt_table.specs.contracts.held.HeldQuiet.{the_row as row};
 ghost use Rattle.pt_table.specs.Answers.{value_behind, full};
 ghost use Rattle.pt_places.specs.Held.{held_on_heap};
 

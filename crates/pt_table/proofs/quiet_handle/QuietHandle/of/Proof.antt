@@ -23,14 +23,14 @@ use Rattle.std.proofs.raw_atomic.Walks.{proved_at, leaves}
 use Rattle.std_heap.specs.contracts.Global as Heap
 use Rattle.std_heap.proofs.Global.TheLaws as heap
 use Rattle.std_heap.specs.contracts.GlobalAllocator.TheImpl.{ghosts}
-use Rattle.pt_nodes.specs.contracts.held.HeldQuiet as value
+use Rattle.pt_table.specs.contracts.held.HeldQuiet as value
 use Rattle.pt_places.proofs.Values.{both, loose_out, loose_good}
 use Rattle.pt_places.proofs.Handles.{slot_at, one_val, one_own, one_made, one_typed}
-use Rattle.pt_nodes.specs.contracts.quiet_handle.QuietHandle as handle
-use Rattle.pt_nodes.specs.contracts.quiet_handle.QuietHandle.of.{ended, clauses}
-use Rattle.pt_nodes.specs.contracts.quiet_handle.QuietHandle.of.Key.{name as #self}
-use Rattle.pt_nodes.proofs.quiet_handle.QuietHandle.of.Statement.{statement}
-use Rattle.pt_nodes.proofs.quiet_handle.QuietHandle.of.Code as compiled
+use Rattle.pt_table.specs.contracts.quiet_handle.QuietHandle as handle
+use Rattle.pt_table.specs.contracts.quiet_handle.QuietHandle.of.{ended, clauses}
+use Rattle.pt_table.specs.contracts.quiet_handle.QuietHandle.of.Key.{name as #self}
+use Rattle.pt_table.proofs.quiet_handle.QuietHandle.of.Statement.{statement}
+use Rattle.pt_table.proofs.quiet_handle.QuietHandle.of.Code as compiled
 
 pub of_spec : {M : Type 1} → statement M
 of_spec 𝓤 𝓛 𝓜 𝓡 wired =
