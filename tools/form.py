@@ -25,7 +25,7 @@ BOUNDS = {"words": 0, "functions": 0, "prose": 0, "sentences": 0, "crates": 37}
 # the node that goes on by itself, and the supervisors of a crew whose handlers are outside
 NEW = {
     "pt_lines", "pt_answers", "pt_session", "pt_shell", "pt_timers", "pt_names", "pt_schedules", "pt_explore", "pt_explorer",
-    "pt_workers", "pt_table", "test_recipes", "pt_registry", "pt_hands", "example_exchange", "pt_epochs", "pt_pauses",
+    "pt_workers", "pt_table", "pt_registry", "pt_hands", "example_exchange", "pt_epochs", "pt_pauses",
     "pt_places", "pt_tools", "pt_teams", "pt_structs", "pt_asking", "pt_doors", "pt_team_handles", "pt_handles", "pt_calls",
     "pt_nodes",
 }

@@ -15,7 +15,7 @@
 //! A recipe keeps a desk a desk of its node (`IsStill`), so [`gather`](pt_node::gather) takes it. The calls of the desk
 //! promise all else that a recipe promises.
 //!
-//! Tests: `checks/tried/test_calls/recipes.rt.txt`, `crates/test_recipes` and `crates/test_stress`.
+//! Tests: `checks/tried/test_calls/recipes.rt.txt`, `crates/test_calls` and `crates/test_stress`.
 //!
 //! # What is proved
 //!
