@@ -8,11 +8,15 @@ in no program of bin/ (./test builds them) and no test, and no program that ./te
 of it that always refuses would pass then. A law, which is a function with an empty body or one that calls laws alone,
 needs no caller.
 
+With PT_PROVED=1 the programs are those that the last `rt ci` proved and Rattle's own compiler built. (LLVM leaves out
+functions that it copies into their callers.)
+
 Each line of tools/unrun.txt is a function, or a crate, module or type with `::*` behind it, and why nothing here runs
 it. A line that is not needed is told too.
 """
 from __future__ import annotations
 
+import os
 import re
 import subprocess
 import sys
@@ -113,6 +117,8 @@ def names_it(exception: str, call: str) -> bool:
 def run_functions() -> set[str]:
     """The functions that some program has."""
     programs = [file for file in sorted((ROOT / "bin").glob("pt_*")) if file.is_file()]
+    if os.environ.get("PT_PROVED"):
+        programs = [ROOT / "crates" / file.name / "out" / f"{file.name}.by-rattle" for file in programs]
     if not programs:
         raise Fault("there is no program in bin/: ./test builds them")
     return set().union(*(functions_in(program) for program in programs))
