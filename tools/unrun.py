@@ -118,7 +118,8 @@ def run_functions() -> set[str]:
     """The functions that some program has."""
     programs = [file for file in sorted((ROOT / "bin").glob("pt_*")) if file.is_file()]
     if os.environ.get("PT_PROVED"):
-        programs = [ROOT / "crates" / file.name / "out" / f"{file.name}.by-rattle" for file in programs]
+        proved = {file: ROOT / "crates" / file.name / "out" / f"{file.name}.by-rattle" for file in programs}
+        programs = [proved[file] if proved[file].exists() else file for file in programs]
     if not programs:
         raise Fault("there is no program in bin/: ./test builds them")
     return set().union(*(functions_in(program) for program in programs))
