@@ -138,8 +138,8 @@ fn one_epoch<R: Threads + Sync, W: Task + Send, A: Archive>(
 
 /// Ends an epoch: puts its history into the archive, and resumes the node with empty journals.
 ///
-/// No list of all pids is made, and the directory of exited processes is kept. So it costs what happened in the epoch,
-/// the live processes, and the slots that were ever used.
+/// No list of all pids is made, and the directory of exited processes is kept. So it costs what happened in the epoch. A
+/// process or a slot to which nothing happened costs nothing.
 pub fn end_epoch<A: Archive>(alloc: Global, node: Node, archive: &mut A) -> Result<Node, Halted>
     ensures { IfOk result (λ next. (history : List Stamped)
         × Archives A.keeps history node archive.old next archive.new) }
