@@ -10,13 +10,13 @@ use Rattle.pt_gathered.specs.Settling.{Settles}
 use Rattle.pt_gathered.proofs.Pasts.{settles_keep}
 use Rattle.pt_desk.specs.DeskState.{DeskState}
 use Rattle.pt_node.specs.Gathering.{Gathers}
-use Rattle.pt_node.specs.Pasts.{GoOnFrom}
+use Rattle.pt_node.specs.Pasts.{GoOnFrom, Lengthens}
 use Rattle.pt_node.specs.Resuming.{Resumes}
 use Rattle.pt_node.proofs.Pasts.{gathers_past, go_on_past}
-use Rattle.example_uses.specs.Epochs.{Epoch, IsOneHistory, PassAsOne, Passes, Prolongs}
+use Rattle.example_uses.specs.Epochs.{Epoch, IsOneHistory, PassAsOne, Passes}
 
 -- whoever goes on from a history goes on from a legal and quiet one
-prolonged : (past : Past) (history : List Stamped) (new : List DeskState) → GoOnFrom (events (reverse history) ++ past) new → Prolongs past history new
+prolonged : (past : Past) (history : List Stamped) (new : List DeskState) → GoOnFrom (events (reverse history) ++ past) new → Lengthens past history new
 prolonged past history new on = record {
   legal = subst (IsLegal []) on.begun.past_is on.begun.begun.left.legal;
   quiet = subst (IsQuiet []) on.begun.past_is on.begun.begun.left.quiet;

@@ -11,7 +11,7 @@ use Rattle.pt_gathered.specs.Gathered.{GatheredState, begins, journals}
 use Rattle.pt_gathered.specs.Settling.{Settles, NothingLeft}
 use Rattle.pt_desk.specs.DeskState.{DeskState}
 use Rattle.pt_node.specs.Gathering.{Gathers}
-use Rattle.pt_node.specs.Pasts.{GoOnFrom}
+use Rattle.pt_node.specs.Pasts.{GoOnFrom, Lengthens}
 use Rattle.pt_node.specs.Resuming.{Resumes}
 use Rattle.pt_workers.specs.NodeRunning.{RunsPaired}
 
@@ -23,15 +23,8 @@ pub record IsArchived {A : Type 0} (Keeps : A → List Stamped → A → Type 0)
   pub quiet : IsQuiet (begins g) (events (reverse history))
   pub kept : Keeps before history after
 
--- what desks go on from and then this history are one legal history from the very beginning on, in which at the end
--- nothing is on its way; and the later desks go on from it
-pub record Prolongs (past : Past) (history : List Stamped) (new : List DeskState) : Type 0 where
-  pub legal : IsLegal [] (events (reverse history) ++ past)
-  pub quiet : IsQuiet [] (events (reverse history) ++ past)
-  pub goes_on : GoOnFrom (events (reverse history) ++ past) new
-
 abbrev pub IsOneHistory : List Stamped → List DeskState → List DeskState → Type 0
-IsOneHistory history old new = (past : Past) → GoOnFrom past old → Prolongs past history new
+IsOneHistory history old new = (past : Past) → GoOnFrom past old → Lengthens past history new
 
 -- an epoch ends: the node was gathered and settled, its history went into the archive, and its desks go on over what
 -- that left behind; with all that was before it is one history

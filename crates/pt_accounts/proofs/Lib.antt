@@ -2,6 +2,7 @@
 pub mod Nothing
 pub mod Places
 pub mod Told
+pub mod Ends
 pub mod Listing
 pub mod MayObserve
 pub mod Counted

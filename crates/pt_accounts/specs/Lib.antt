@@ -2,6 +2,7 @@ pub mod Holding
 pub mod LifeState
 pub mod Table
 pub mod Pids
+pub mod Runs
 pub mod SlotState
 pub mod DeskLives
 pub mod Steps

@@ -11,6 +11,7 @@ use Rattle.pt_events.specs.Takes.{taken}
 use Rattle.pt_accounts.specs.declared.account.Account.{Account}
 use Rattle.pt_accounts.specs.DeskLives.{DeskTable, IsTableOf, pids_in}
 use Rattle.pt_accounts.specs.Pids.{AreRising, IsIn}
+use Rattle.pt_signal.specs.declared.reason.Reason.{Reason}
 
 -- the words of the contracts ------------------------------------------------------------------------
 
@@ -21,6 +22,11 @@ account_at f came took = cond (is_unborn f) None (Some (record {
   taken = length took;
   waiting = length (state_of f).waiting;
 }))
+
+-- the reason that a process ended with, if it has
+abbrev pub ended_with : Option Account → Option Reason
+ended_with None = None
+ended_with (Some a) = a.ended
 
 -- what the history says of p, if it was born
 abbrev pub account_in : Start → Past → Pid → Option Account

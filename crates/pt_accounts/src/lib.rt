@@ -27,7 +27,11 @@
 //! signal other than a message. To know these the table takes a byte for each slot, and 4 more for each such slot.
 //! `forget_reasons` looks at every slot ever used.
 //!
-//! Tests: `checks/tried/test_calls/called.rt.txt`, `checks/tried/test_calls/desk.rt.txt` and `checks/rows/quiet.txt`.
+//! [`Reasons`] keeps why the versions of a slot ended as runs of equal reasons. So a million that end as `normal` are one
+//! [`Run`], `push` takes constant time, and `get` finds its run by halves.
+//!
+//! Tests: `checks/tried/test_calls/called.rt.txt`, `checks/tried/test_calls/desk.rt.txt`,
+//! `checks/tried/test_calls/reasons.rt.txt` and `checks/rows/quiet.txt`.
 //!
 //! # What is proved
 //!
@@ -38,6 +42,12 @@
 //! - **Reading on.** `DeskLives::read` reads each event once, and `forget` makes the start of the next journal.
 //! - **Forgetting reasons.** After `forget_reasons` each process is there as before. An exited one stays exited, and
 //!   its reason is `noproc`. (`BeginsBare`)
+//! - **Each reason.** `Reasons::get` returns at each place the reason that was added there, and `None` behind the last
+//!   one. (`listed`)
+//! - **Runs.** `Reasons::runs` returns the runs in order. Each is of one reason at least, and no two that follow one
+//!   another have the same reason. So there are as many runs as changes of reason, and one. (`AreRuns`)
+//! - **Filled.** After `Reasons::fill` there are as many reasons as before, and each is the given one. (`listed`)
+//! - **No room.** `Reasons::push` fails only for want of memory, or if 2^32 - 1 reasons are kept. Nothing has changed then.
 #![tactic(auto)]
 
 mod account;
@@ -46,8 +56,10 @@ mod desk_lives;
 mod held;
 mod life;
 mod lives;
+mod reasons;
 mod slot;
 
 pub use account::Account;
 pub use desk_lives::DeskLives;
 pub use lives::Lives;
+pub use reasons::{Reasons, Run};

@@ -13,8 +13,8 @@ ghost use Rattle.pt_accounts.specs.Steps.{life_after, MaySee, IsNextOf};
 
 use crate::Account;
 use crate::life::Life;
+use crate::reasons::Reasons;
 use pt_events::Event;
-use pt_reasons::Reasons;
 use pt_signal::{Ids, Pid, Reason, Ref};
 use std::alloc::{AllocError, Global};
 use std::marker::Model;

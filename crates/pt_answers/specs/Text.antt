@@ -4,7 +4,7 @@ use Rattle.pt_signal.specs.declared.pid.Pid.{Pid}
 use Rattle.pt_signal.specs.declared.ids.Ref.{Ref}
 use Rattle.pt_signal.specs.declared.item.Item.{Item}
 use Rattle.pt_signal.specs.declared.reason.Reason.{Reason}
-use Rattle.pt_signal.specs.Text.{pid_text, ref_text, ids_text, item_text, reason_text}
+use Rattle.pt_signal.specs.Text.{pid_text, ref_text, ids_text, item_text, reason_text, left_over_text, true_or_false_text}
 use Rattle.pt_events.specs.declared.event.Stamped.{Stamped}
 use Rattle.pt_events.specs.Text.{stamped_text}
 use Rattle.pt_judge.specs.declared.cause.Cause.{Cause}
@@ -19,8 +19,7 @@ use Rattle.pt_signal.specs.declared.config.OpenError.TheVariants as open_error
 use Rattle.pt_signal.specs.declared.config.Setting.{Setting}
 use Rattle.pt_signal.specs.declared.config.Setting.TheVariants as setting
 use Rattle.pt_desk.specs.declared.turned.Turned.{Turned}
-use Rattle.pt_gathered.specs.declared.left_over.LeftOver.{LeftOver}
-use Rattle.pt_gathered.specs.Text.{left_over_text}
+use Rattle.pt_signal.specs.declared.letter.LeftOver.{LeftOver}
 use Rattle.pt_node.specs.declared.node_fault.NodeFault.{NodeFault}
 use Rattle.pt_node.specs.declared.node_fault.NodeFault.TheVariants as node_fault
 use Rattle.pt_workers.specs.declared.stillness.Stopped.{Stopped}
@@ -54,10 +53,6 @@ setting_word setting.TopVersion = codes "top_version"
 setting_word setting.Lane = codes "lane"
 setting_word setting.Start = codes "start"
 
-abbrev pub truth_word : Bool → List ℕ
-truth_word true = codes "true"
-truth_word false = codes "false"
-
 abbrev pub opened_text : Result (Unit {0}) OpenError → List ℕ
 opened_text (Ok u) = text_line (codes "ok")
 opened_text (Err (open_error.Bounds s)) = codes "bounds " ++ setting_word s ++ codes "\n"
@@ -76,7 +71,7 @@ named_text (Ok m) = text_line (ref_text m)
 named_text (Err f) = text_line (refusal_word f)
 
 abbrev pub told_text : Result Bool NodeFault → List ℕ
-told_text (Ok b) = text_line (truth_word b)
+told_text (Ok b) = text_line (true_or_false_text b)
 told_text (Err f) = text_line (refusal_word f)
 
 abbrev pub taken_text : Result (Option Item) NodeFault → List ℕ
@@ -113,7 +108,7 @@ number_line (Some n) = text_line (decimal n)
 number_line None = text_line (codes "unknown")
 
 abbrev pub truth_text : Option Bool → List ℕ
-truth_text (Some b) = text_line (truth_word b)
+truth_text (Some b) = text_line (true_or_false_text b)
 truth_text None = text_line (codes "unknown")
 
 -- a value, or that there is none

@@ -4,6 +4,7 @@ ghost use Rattle.std.specs.Prelude.{◌≡◌, ◌++◌, codes, IfOk, OnOk, stri
 ghost use Rattle.pt_signal.specs.Text as signal_text;
 ghost use Rattle.pt_events.specs.Text.{stamped_text};
 ghost use Rattle.pt_answers.specs.Text as spec;
+ghost use Rattle.pt_signal.specs.Text.{true_or_false_text};
 
 use crate::answer::Answer;
 use crate::parts::{Contradiction, Count, Counts, Then, ThenAt, Turns, word_of_stop};
@@ -109,7 +110,7 @@ fn word_of_refusal(fault: NodeFault) -> &'static str
 }
 
 fn word_of_truth(truth: bool) -> &'static str
-    ensures { result.now ≡ spec.truth_word truth }
+    ensures { result.now ≡ true_or_false_text truth }
 {
     if truth { "true" } else { "false" }
 }

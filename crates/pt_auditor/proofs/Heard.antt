@@ -17,7 +17,7 @@ use Rattle.pt_judge.specs.declared.cause.Cause.{Cause}
 use Rattle.pt_judge.specs.declared.cause.Cause.TheVariants.{NotFront}
 use Rattle.pt_judge.specs.Judging.{JudgeState, now_is, known_state, cause, is_signal}
 use Rattle.pt_judge.proofs.Judged.{front_found, front_not_found}
-use Rattle.pt_texts.specs.declared.left_over.LeftOver.{LeftOver}
+use Rattle.pt_signal.specs.declared.letter.LeftOver.{LeftOver}
 use Rattle.pt_auditor.specs.declared.objection.Contradiction.{Contradiction}
 use Rattle.pt_auditor.specs.declared.objection.Objection.TheVariants.{MayNot, OtherLetter, OfNoNode}
 use Rattle.pt_auditor.specs.declared.desks.Desks.{Desks}
@@ -28,7 +28,8 @@ use Rattle.pt_auditor.specs.declared.foreign.NoNode.{NoNode}
 use Rattle.pt_auditor.specs.Objecting.{contradiction}
 use Rattle.pt_auditor.specs.Lanes.{letters_laid, is_lane, stamp_noted, letters_flying, letters_still, lane, clock_of}
 use Rattle.pt_auditor.specs.Foreigners.{IsOrigin, ComesInOrder, MayBegin, Decides, IsFromNode, IsJudgedForeign, IsLeftByNode, IsJudgedLeft, AllFromNode, IsCarried, first_foreign, no_node, no_left}
-use Rattle.pt_auditor.specs.Hearings.{Heard, IsHeard, IsObjection, IsMisfit, IsOldest, IsOfItsDesks, IsSunk, IsWithout, AllTold, newest, is_above, still, left_flying, with_letter, IsVerdict, MayHear, LettersAreTold, with_event, capped_count}
+use Rattle.pt_auditor.specs.Hearings.{Heard, IsHeard, IsObjection, IsMisfit, IsOldest, IsOfItsDesks, IsSunk, IsWithout, AllTold, newest, is_above, still, left_flying, with_letter, IsVerdict, MayHear, LettersAreTold, with_event}
+use Rattle.pt_events.specs.Counting.{capped}
 use Rattle.pt_auditor.specs.Hearings.{IsNodeAfter, TellsBegin, IsAfterEvent, IsAfterRest, is_late, follows, strange}
 use Rattle.pt_auditor.proofs.Rested.{after_next, named_late, all_late, may_come, may_not_come, contradicts, MakesLate}
 use Rattle.pt_auditor.proofs.Carried.{ComesInOrderOf, carried, landed_lane, sends_are}
@@ -165,7 +166,7 @@ module _ (t : Heard) (h : Hearing) (k : IsHeard t h) where
     last = l;
     count = omega (arith, e, k.count);
     desks = d ∙ ap (λ n. max n (s.desk + 1)) k.desks;
-    letters = z ∙ ap (λ left. capped_count (length left)) (sym m.0);
+    letters = z ∙ ap (λ left. capped (length left)) (sym m.0);
     origin = subst (λ left. IsOrigin (s ∷ t.events) left new.foreign) (sym m.0) (subst (IsOrigin (s ∷ t.events) []) (sym f) (origin_after s m.0 m.1));
     node = λ n. subst (λ left. IsNodeAfter (s ∷ t.events) left new.node) (sym m.0) (node n);
     since = r ∙ k.since;

@@ -16,13 +16,12 @@ use Rattle.pt_signal.specs.declared.signal.Signal.{Signal}
 use Rattle.pt_signal.specs.declared.signal.Signal.TheVariants.{Message, Link, Unlink, LinkExit, Monitor, Demonitor}
 use Rattle.pt_signal.specs.declared.signal.Signal.TheVariants.{AliveAsk, AliveSay}
 use Rattle.pt_signal.specs.declared.letter.Letter.{Letter}
-use Rattle.pt_signal.specs.Text.{pid_text, ref_text, link_id_text, second_text, ids_text, who_text, body_text, reason_text, yes_or_no_text, item_text, pick_text, signal_text, route_text, letter_text}
+use Rattle.pt_signal.specs.Text.{pid_text, ref_text, link_id_text, second_text, ids_text, who_text, body_text, reason_text, yes_or_no_text, item_text, pick_text, signal_text, route_text, letter_text, left_over_text}
 use Rattle.pt_events.specs.declared.event.Event.{Event}
 use Rattle.pt_events.specs.declared.event.Event.TheVariants.{Born, Said, Came, Took, Flag, Left, Refused}
 use Rattle.pt_events.specs.declared.event.Stamped.{Stamped}
 use Rattle.pt_events.specs.Text.{parent_text, link_text, switch_text, event_text, stamped_text}
-use Rattle.pt_texts.specs.declared.left_over.LeftOver.{LeftOver}
-use Rattle.pt_texts.specs.Text.{left_over_line}
+use Rattle.pt_signal.specs.declared.letter.LeftOver.{LeftOver}
 use Rattle.pt_texts.specs.Fits.{FitsIfAny, FitsPid, FitsRef, FitsLinkId, FitsIds, FitsBody, FitsReason, FitsItem, FitsPick, FitsSignal, FitsLetter, FitsEvent, FitsStamped, FitsLeftOver}
 
 byte : (n : ℕ) → n < 2 ^ 8 → length (decimal n) ≤ 3
@@ -142,6 +141,6 @@ letter_length : (l : Letter) → FitsLetter l → length (letter_text l) ≤ 200
 unfolding letter_text
 letter_length l h = simp length-append (omega (arith, route_length l.from l.to h.0.0 h.0.1, signal_length l.signal h.1, long l.stamp h.2))
 
-pub left_over_length : (l : LeftOver) → FitsLeftOver l → length (left_over_line l) < 1024
-unfolding left_over_line
+pub left_over_length : (l : LeftOver) → FitsLeftOver l → length (left_over_text l) < 1024
+unfolding left_over_text
 left_over_length l h = simp length-append (omega (arith, byte l.from_desk h.0, byte l.to_desk h.1, letter_length l.letter h.2))

@@ -11,17 +11,17 @@ use Rattle.pt_signal.specs.Process.{Sent}
 use Rattle.pt_events.specs.declared.event.Event.{Event}
 use Rattle.pt_events.specs.declared.event.Event.TheVariants.{Born, Said, Came, Took, Flag, Left, Refused}
 use Rattle.pt_events.specs.declared.event.Stamped.{Stamped}
-use Rattle.pt_events.specs.History.{Past, Phase, unborn, living, ended, is_living, is_unborn, is_ended, reason_of, life, flying}
+use Rattle.pt_events.specs.History.{Past, Phase, unborn, living, ended, is_living, is_unborn, is_ended, reason_of, life, flying, is_born}
 use Rattle.pt_events.specs.Journal.{events, clock, IsHome, IsLinkAt, IsNewAt, IsKnown}
 use Rattle.pt_events.specs.Refusals.{stamped_below}
 use Rattle.pt_judge.specs.Judging.{JudgeState, now_is}
-use Rattle.pt_texts.specs.declared.left_over.LeftOver.{LeftOver}
+use Rattle.pt_signal.specs.declared.letter.LeftOver.{LeftOver}
 use Rattle.pt_auditor.specs.declared.desks.Desks.{Desks}
 use Rattle.pt_auditor.specs.declared.foreign.Foreign.{Foreign}
 use Rattle.pt_auditor.specs.declared.foreign.NoNode.{NoNode}
 use Rattle.pt_auditor.specs.declared.foreign.NoNode.TheVariants.{Desk, Stamp, Slot, OtherDesk, OtherId, Version, Unborn, Overtakes, OtherStamp}
 use Rattle.pt_auditor.specs.Lanes.{letters_laid, stamp_noted, goes_between, letters_flying, letters_still, lane, IsFirstInLane, clock_of}
-use Rattle.pt_auditor.specs.Foreigners.{IsToDesk, IsNodeDesk, IsNodeStamp, IsNodeSlot, is_newborn, top_of, ComesInOrder, IsNextStamp, IsStillBelow, MayBegin, IsInTime, IsNamedByNode, IsNoNode, IsJudgedForeign, HasItsStamp, IsJudgedLeft, AllFromNode, IsOrigin}
+use Rattle.pt_auditor.specs.Foreigners.{IsToDesk, IsNodeDesk, IsNodeStamp, IsNodeSlot, top_of, ComesInOrder, IsNextStamp, IsStillBelow, MayBegin, IsInTime, IsNamedByNode, IsNoNode, IsJudgedForeign, HasItsStamp, IsJudgedLeft, AllFromNode, IsOrigin}
 use Rattle.pt_auditor.specs.Foreigners.{Decides, is_to_desk, is_node_desk, is_node_stamp, is_node_slot, is_home, is_link_at, is_new_at, has_ended, is_next_version, was_born, is_known, is_in_turn, first_laid, is_between_them, is_in_order, is_begin, may_begin, is_above_both, is_in_time, no_place, no_name, first_reason, no_node, has_its_stamp, no_left, first_foreign}
 use Rattle.pt_auditor.specs.Hearings.{follows, newest, is_above, EventsAreRising, IsNodeAfter, IsAfterRest}
 use Rattle.pt_auditor.proofs.Rested.{same_ended, same_unborn}
@@ -140,8 +140,8 @@ said_of here d born lost e = go (here == d) refl lost (sym e)
 
 -- the version of a newborn, and the receiver of what is said, are as they have to be; or which of the two is not
 abbrev pub Turn : ℕ → Past → Event → Bool → Bool → Type 0
-Turn d past e false f = (is_newborn e ≡ true) × ¬ IsKnown [] d (top_of e) past e
-Turn d past e true false = (is_newborn e ≡ false) × ¬ IsKnown [] d (top_of e) past e
+Turn d past e false f = (is_born e ≡ true) × ¬ IsKnown [] d (top_of e) past e
+Turn d past e true false = (is_born e ≡ false) × ¬ IsKnown [] d (top_of e) past e
 Turn d past e true true = IsKnown [] d (top_of e) past e
 
 -- what an event is alone, or the first reason why no node prints it anywhere

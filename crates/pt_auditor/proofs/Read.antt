@@ -5,8 +5,8 @@ use Rattle.std.proofs.lemmas.List.{take-append-drop}
 use Rattle.std.proofs.Math.Seq.{take-suc, drop-cons}
 use Rattle.pt_events.specs.declared.event.Stamped.{Stamped}
 use Rattle.pt_events.specs.Text.{stamped_text}
-use Rattle.pt_texts.specs.declared.left_over.LeftOver.{LeftOver}
-use Rattle.pt_texts.specs.Text.{left_over_line}
+use Rattle.pt_signal.specs.declared.letter.LeftOver.{LeftOver}
+use Rattle.pt_signal.specs.Text.{left_over_text}
 use Rattle.pt_texts.specs.Fits.{FitsStamped, FitsLeftOver}
 use Rattle.pt_auditor.specs.declared.fault.Fault.{Fault}
 use Rattle.pt_auditor.specs.declared.fault.Why.{Why}
@@ -18,7 +18,8 @@ use Rattle.pt_auditor.specs.declared.rest.Restless.{Restless}
 use Rattle.pt_auditor.specs.declared.rest.Restless.TheVariants.{Line, Letters, OfNoNode}
 use Rattle.pt_auditor.specs.declared.rest.Restless.TheVariants as restless
 use Rattle.pt_auditor.specs.Rests.{IsTextOf, LeavesRest, RestsText}
-use Rattle.pt_auditor.specs.Hearings.{Heard, IsHeard, MayHear, with_event, with_letter, capped_count}
+use Rattle.pt_auditor.specs.Hearings.{Heard, IsHeard, MayHear, with_event, with_letter}
+use Rattle.pt_events.specs.Counting.{capped}
 use Rattle.pt_auditor.specs.Reading.{without_return, IsEventLine, EventLines, HistoryLines, IsPlain, joined_lines, OneMore, IsFault, IsRead, LineIsOver, LineGoesOn, IsWhy, IsFaulty, IsWholeText, Concludes, ClosesText, Grows}
 
 -- the line tells an event, or a letter ----------------------------------------------------
@@ -27,7 +28,7 @@ pub heard_event : (t : Heard) (line : List ℕ) (s : Stamped) (h : Hearing) → 
     → (u : Heard) × OneMore t line u × IsHeard u h
 heard_event t line s h e f m = (with_event s t, inl (s, (e, f), m.0, refl), m.1)
 
-pub heard_letter : (t : Heard) (line : List ℕ) (l : LeftOver) (h : Hearing) → line ≡ left_over_line l → FitsLeftOver l → IsHeard (with_letter l t) h
+pub heard_letter : (t : Heard) (line : List ℕ) (l : LeftOver) (h : Hearing) → line ≡ left_over_text l → FitsLeftOver l → IsHeard (with_letter l t) h
     → (u : Heard) × OneMore t line u × IsHeard u h
 heard_letter t line l h e f m = (with_letter l t, inr (l, (e, f), refl), m)
 
@@ -189,14 +190,14 @@ rests_text text t h line count r e (Err Letters) k = (e, k)
 rests_text text t h line count r e (Err (OfNoNode f)) k = (e, k)
 rests_text text t h line count r e (Err restless.Memory) k = (e, k)
 
-pub read_over : (text : List ℕ) (past : List Stamped) (since : Option Stamped) (h : Hearing) (line : List ℕ) (count : ℕ) → IsTextOf text past → IsHeard (record { events = past; left = []; since = since }) h → line ≡ [] → count ≡ capped_count (length past)
+pub read_over : (text : List ℕ) (past : List Stamped) (since : Option Stamped) (h : Hearing) (line : List ℕ) (count : ℕ) → IsTextOf text past → IsHeard (record { events = past; left = []; since = since }) h → line ≡ [] → count ≡ capped (length past)
     → IsRead text (record { events = past; left = []; since = since }) h line count
 read_over text past since h line count t k e n = record {
   lines = t.lines;
   splits = t.splits ∙ sym (append-nil (joined_lines t.lines)) ∙ ap (λ z. joined_lines t.lines ++ z) (sym e);
   plain = t.plain;
   open_plain = subst IsPlain (sym e) tt;
-  count_is = n ∙ ap capped_count (sym (lines_length t.lines past t.tells));
+  count_is = n ∙ ap capped (sym (lines_length t.lines past t.tells));
   tells = t.tells;
   heard = k;
 }

@@ -30,7 +30,8 @@ use Rattle.pt_auditor.specs.declared.saved.Flaw.{Flaw}
 use Rattle.pt_auditor.specs.declared.saved.Flaw.TheVariants.{Unread, Misplaced, Sum, Behind, Memory}
 use Rattle.pt_auditor.specs.Rests.{holds_so, ended_run, resident_lives, lives_in, IsRestOf}
 use Rattle.pt_auditor.specs.Lanes.{stamp_noted}
-use Rattle.pt_auditor.specs.Hearings.{TellsBegin, capped_count}
+use Rattle.pt_auditor.specs.Hearings.{TellsBegin}
+use Rattle.pt_events.specs.Counting.{capped}
 use Rattle.pt_auditor.specs.Saving.{IsClosed, IsUnclosed, IsHeldSo, IsToldSo, Entry, alive, run, StateTold, entry_of, entries_with, told_of, clock_record, link_record, watch_record, kept_record, held_records, entry_records, entries_records, last_records, told_records, lines_of, sum_behind, end_line, rest_text, is_nil, first_told, held_with, entry_with, entries_held, no_holding, told_with, told_more, then_told, told_by, AreNewClocks, AreFit, FitsRest, MayStand, is_end_line, StartsWith, IsFlaw, IsDamaged, ParsesRest, IsReadTo, IsReadWhole, EndsReading}
 
 -- lists ------------------------------------------------------------------------------------------
@@ -530,7 +531,7 @@ reread text (Err d) k = record {
 pub record IsReading (text left : List ℕ) (state : Option Rest) (line : ℕ) : Type 0 where
   pub before : List Record
   pub read : IsReadTo text before left (option_map told_of state)
-  pub line_is : line ≡ capped_count (length before + 1)
+  pub line_is : line ≡ capped (length before + 1)
 
 pub reading_begins : (text : List ℕ) → IsReading text text None 1
 reading_begins text = record { before = []; read = record { splits = refl; fits = tt; stands = tt; tells = refl }; line_is = omega arith }
@@ -542,7 +543,7 @@ may_stand (x ∷ xs) t h = (t, h)
 module _ (text left : List ℕ) (state : Option Rest) (line : ℕ) (k : IsReading text left state line) where
   -- one line more
   pub reading_more : (x : Record) (behind : List ℕ) (rest : Rest) → left ≡ record_line x ++ behind → FitsRecord x → told_more (option_map told_of state) x ≡ Some (told_of rest)
-      → (next : ℕ) → next ≡ capped_count (line + 1) → IsReading text behind (Some rest) next
+      → (next : ℕ) → next ≡ capped (line + 1) → IsReading text behind (Some rest) next
   reading_more x behind rest e f h next n =
       let told = told_one_more k.before x _ k.read.stands k.read.tells ∙ h in
       record {

@@ -12,11 +12,11 @@ use Rattle.pt_events.specs.declared.event.Event.{Event}
 use Rattle.pt_events.specs.declared.event.Event.TheVariants.{Born, Said, Came, Took, Flag, Left, Refused}
 use Rattle.pt_events.specs.declared.event.Stamped.{Stamped}
 use Rattle.pt_signal.specs.declared.config.TheConstants.{MAX_SLOTS, MAX_STAMP}
-use Rattle.pt_events.specs.History.{Past, flying, is_living, reason_of}
+use Rattle.pt_events.specs.History.{Past, flying, is_living, reason_of, is_born}
 use Rattle.pt_events.specs.Journal.{events, letter, IsHome, IsNewAt, IsKnown}
 use Rattle.pt_events.specs.Refusals.{stamped_below}
 use Rattle.pt_judge.specs.Judging.{JudgeState, now_is, judge_sends}
-use Rattle.pt_texts.specs.declared.left_over.LeftOver.{LeftOver}
+use Rattle.pt_signal.specs.declared.letter.LeftOver.{LeftOver}
 use Rattle.pt_auditor.specs.declared.desks.Desks.{Desks}
 use Rattle.pt_auditor.specs.declared.foreign.Foreign.{Foreign}
 use Rattle.pt_auditor.specs.declared.foreign.NoNode.{NoNode}
@@ -51,10 +51,6 @@ top_of _ = 0
 -- what is said to a pid of the desk comes after that pid's birth; a slot's versions follow one another
 abbrev pub IsKnownHere : Past → Stamped → Type 0
 IsKnownHere past s = IsKnown [] s.desk (top_of s.event) past s.event
-
-abbrev pub is_newborn : Event → Bool
-is_newborn (Born p parent link) = true
-is_newborn _ = false
 
 -- letters come from desk to desk in the order of their sending
 abbrev pub ComesInOrder : List Stamped → Event → Type 0
@@ -108,8 +104,8 @@ IsNoNode past s OtherDesk = IsNodeDesk s × IsNodeStamp s.stamp × IsNodeSlot s.
 IsNoNode past s OtherId =
     IsNodeDesk s × IsNodeStamp s.stamp × IsNodeSlot s.event × IsHome s.desk s.event
     × ¬ IsNewAt s.desk s.stamp s.event
-IsNoNode past s Version = IsNamedByNode s × (is_newborn s.event ≡ true) × ¬ IsKnownHere (events past) s
-IsNoNode past s Unborn = IsNamedByNode s × (is_newborn s.event ≡ false) × ¬ IsKnownHere (events past) s
+IsNoNode past s Version = IsNamedByNode s × (is_born s.event ≡ true) × ¬ IsKnownHere (events past) s
+IsNoNode past s Unborn = IsNamedByNode s × (is_born s.event ≡ false) × ¬ IsKnownHere (events past) s
 IsNoNode past s Overtakes = IsNamedByNode s × IsKnownHere (events past) s × ¬ ComesInOrder past s.event
 IsNoNode past s OtherStamp =
     IsNamedByNode s × IsKnownHere (events past) s × ComesInOrder past s.event

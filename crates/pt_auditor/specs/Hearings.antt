@@ -14,7 +14,7 @@ use Rattle.pt_events.specs.History.{Past, May, IsLegal, flying, is_between, life
 use Rattle.pt_events.specs.Leaving.{outcome}
 use Rattle.pt_judge.specs.Judging.{JudgeState, IsStep, known_after, lived, now_is}
 use Rattle.pt_judge.specs.Judge.{IsCause}
-use Rattle.pt_texts.specs.declared.left_over.LeftOver.{LeftOver}
+use Rattle.pt_signal.specs.declared.letter.LeftOver.{LeftOver}
 use Rattle.pt_auditor.specs.declared.objection.Objection.{Objection}
 use Rattle.pt_auditor.specs.declared.objection.Objection.TheVariants.{Behind, Sinks, MayNot, OtherDesks, OtherLetter}
 use Rattle.pt_auditor.specs.declared.objection.Objection.TheVariants.{Untold, OfNoNode, Memory}
@@ -25,6 +25,7 @@ use Rattle.pt_auditor.specs.declared.desks.Desks.{Desks}
 use Rattle.pt_auditor.specs.declared.foreign.NoNode.{NoNode}
 use Rattle.pt_auditor.specs.Lanes.{IsLaid, letters_laid, letters_flying, letters_still, lane, clock_of, stamp_noted}
 use Rattle.pt_auditor.specs.Foreigners.{IsOrigin, IsNoNode, MayBegin, Decides, IsMovedOn, first_foreign, no_node, no_left, may_begin}
+use Rattle.pt_events.specs.Counting.{capped}
 
 -- the events, the newest first, and the letters left over, the last told first; and the last event of the rest from
 -- which the hearing went on, if it did
@@ -53,10 +54,6 @@ EventsAreRising (s ∷ past) = (is_above (newest past) s ≡ true) × EventsAreR
 abbrev pub desks_of : List Stamped → ℕ
 desks_of [] = 0
 desks_of (s ∷ past) = max (desks_of past) (s.desk + 1)
-
--- counts stop at the greatest number of 64 bits
-abbrev pub capped_count : ℕ → ℕ
-capped_count n = min n (2 ^ 64 - 1)
 
 -- the history leaves these on their way
 abbrev pub left_flying : List Stamped → List Sent
@@ -121,9 +118,9 @@ pub record IsHeard (t : Heard) (h : Hearing) : Type 0 where
   pub knows : IsAfterRest t.since (events t.events) (record h.state { flights = left_flying t.events })
   pub flies : h.state.flights ≡ still (left_flying t.events) t.left
   pub last : h.last ≡ newest t.events
-  pub count : h.events ≡ capped_count (length t.events)
+  pub count : h.events ≡ capped (length t.events)
   pub desks : h.desks ≡ desks_of t.events
-  pub letters : h.letters ≡ capped_count (length t.left)
+  pub letters : h.letters ≡ capped (length t.left)
   pub origin : IsOrigin t.events t.left h.foreign
   pub node : h.foreign ≡ None → IsNodeAfter t.events t.left h.node
   pub since : h.since ≡ t.since
@@ -178,9 +175,9 @@ TellsLetter t l (Err o) = IsMisfit t l o
 
 -- the counts of what was heard, and the first line that no node prints, if there is one
 pub record IsVerdict (t : Heard) (v : Verdict) : Type 0 where
-  pub events : v.events ≡ capped_count (length t.events)
+  pub events : v.events ≡ capped (length t.events)
   pub desks : v.desks ≡ desks_of t.events
-  pub letters : v.letters ≡ capped_count (length t.left)
+  pub letters : v.letters ≡ capped (length t.left)
   pub origin : IsOrigin t.events t.left v.foreign
 
 -- the letters told of are all that is on its way

@@ -9,7 +9,7 @@ use Rattle.pt_events.specs.declared.event.Event.TheVariants.{Came}
 use Rattle.pt_events.specs.declared.event.Stamped.{Stamped}
 use Rattle.pt_events.specs.History.{sent_by, is_between}
 use Rattle.pt_events.specs.Journal.{events, letter, content, clock, of_desk, in_lane}
-use Rattle.pt_texts.specs.declared.left_over.LeftOver.{LeftOver}
+use Rattle.pt_signal.specs.declared.letter.LeftOver.{LeftOver}
 
 -- the letter goes from a to b
 abbrev pub goes_between : Pid → Pid → Letter → Bool

@@ -2,8 +2,8 @@
 use Rattle.std.specs.Prelude.{◌≡◌, ◌<◌, length}
 use Rattle.pt_events.specs.declared.event.Stamped.{Stamped}
 use Rattle.pt_events.specs.Text.{stamped_text}
-use Rattle.pt_texts.specs.declared.left_over.LeftOver.{LeftOver}
-use Rattle.pt_texts.specs.Text.{left_over_line}
+use Rattle.pt_signal.specs.declared.letter.LeftOver.{LeftOver}
+use Rattle.pt_signal.specs.Text.{left_over_text}
 use Rattle.pt_texts.specs.Fits.{FitsStamped, FitsLeftOver}
 use Rattle.pt_auditor.specs.declared.fault.TheConstants.{MOST_LINE}
 
@@ -12,4 +12,4 @@ abbrev pub LinesAreShort : Type 0
 LinesAreShort =
     (MOST_LINE ≡ 1024)
     × ((s : Stamped) → FitsStamped s → length (stamped_text s) < MOST_LINE)
-    × ((l : LeftOver) → FitsLeftOver l → length (left_over_line l) < MOST_LINE)
+    × ((l : LeftOver) → FitsLeftOver l → length (left_over_text l) < MOST_LINE)

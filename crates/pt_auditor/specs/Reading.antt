@@ -3,9 +3,9 @@ use Rattle.std.specs.Prelude.{◌≡◌, ℕ, ◌+◌, ◌-◌, ◌==◌, ◌^�
 use Rattle.std.specs.Prelude.{◌++◌, length, take, slice_index, Result, Ok, Err, ⊤}
 use Rattle.pt_events.specs.declared.event.Stamped.{Stamped}
 use Rattle.pt_events.specs.Text.{stamped_text}
-use Rattle.pt_texts.specs.declared.left_over.LeftOver.{LeftOver}
+use Rattle.pt_signal.specs.declared.letter.LeftOver.{LeftOver}
 use Rattle.pt_texts.specs.declared.parse.Refused.{Refused}
-use Rattle.pt_texts.specs.Text.{left_over_line}
+use Rattle.pt_signal.specs.Text.{left_over_text}
 use Rattle.pt_texts.specs.Fits.{FitsStamped, FitsLeftOver}
 use Rattle.pt_texts.specs.Parsing.{finished}
 use Rattle.pt_texts.specs.Readers.{stamped_at, left_over_at}
@@ -18,7 +18,8 @@ use Rattle.pt_auditor.specs.declared.audit.Audit.{Audit}
 use Rattle.pt_auditor.specs.declared.hearing.Hearing.{Hearing}
 use Rattle.pt_auditor.specs.declared.hearing.Verdict.{Verdict}
 use Rattle.pt_auditor.specs.Hearings.{Heard, IsStanding, IsHeard, MayHear, IsObjection, IsMisfit, AllTold, IsUntold}
-use Rattle.pt_auditor.specs.Hearings.{with_event, with_letter, IsVerdict, capped_count}
+use Rattle.pt_auditor.specs.Hearings.{with_event, with_letter, IsVerdict}
+use Rattle.pt_events.specs.Counting.{capped}
 
 -- the line without the carriage return that it ends with, if it does
 abbrev pub without_return : List ℕ → List ℕ
@@ -28,7 +29,7 @@ abbrev pub IsEventLine : List ℕ → Stamped → Type 0
 IsEventLine line s = (line ≡ stamped_text s) × FitsStamped s
 
 abbrev pub IsLetterLine : List ℕ → LeftOver → Type 0
-IsLetterLine line l = (line ≡ left_over_line l) × FitsLeftOver l
+IsLetterLine line l = (line ≡ left_over_text l) × FitsLeftOver l
 
 -- these lines, the newest first, are the texts of the events
 abbrev pub EventLines : List (List ℕ) → List Stamped → Type 0
@@ -89,7 +90,7 @@ pub record IsRead (text : List ℕ) (t : Heard) (h : Hearing) (line : List ℕ) 
   pub splits : text ≡ joined_lines lines ++ line
   pub plain : ArePlain lines
   pub open_plain : IsPlain line
-  pub count_is : count ≡ capped_count (length lines)
+  pub count_is : count ≡ capped (length lines)
   pub tells : HistoryLines lines t.left t.events
   pub heard : IsHeard t h
 
@@ -97,7 +98,7 @@ pub record IsRead (text : List ℕ) (t : Heard) (h : Hearing) (line : List ℕ) 
 abbrev pub IsTorn : List ℕ → Option ℕ → Type 0
 IsTorn text None = (lines : List (List ℕ)) × (text ≡ joined_lines lines) × ArePlain lines
 IsTorn text (Some n) = (lines : List (List ℕ)) × (line : List ℕ) × (text ≡ joined_lines lines ++ line) × ArePlain lines × IsPlain line
-    × (¬ (line ≡ [])) × (n ≡ capped_count (length lines + 1))
+    × (¬ (line ≡ [])) × (n ≡ capped (length lines + 1))
 
 -- the line feed of the line stands there, or the text is over
 abbrev pub LineIsOver : List ℕ → Type 0
@@ -124,7 +125,7 @@ pub record IsFaulty (text : List ℕ) (f : Fault) : Type 0 where
   pub splits : text ≡ joined_lines lines ++ line ++ rest
   pub plain : ArePlain lines
   pub open_plain : IsPlain line
-  pub number : f.line ≡ capped_count (length lines + 1)
+  pub number : f.line ≡ capped (length lines + 1)
   pub tells : HistoryLines lines heard.left heard.events
   pub stands : IsStanding heard
   pub why : IsWhy heard line rest f.why
@@ -150,7 +151,7 @@ pub record IsWholeText (text : List ℕ) (t : Heard) : Type 0 where
 
 -- a letter on its way was not told of, and the text is over behind that many lines
 abbrev pub IsUnfinished : Heard → ℕ → Fault → Type 0
-IsUnfinished t count f = ((o : Objection) × (f.why ≡ Over o) × IsUntold t o) × (f.line ≡ capped_count (count + 1))
+IsUnfinished t count f = ((o : Objection) × (f.why ≡ Over o) × IsUntold t o) × (f.line ≡ capped (count + 1))
 
 abbrev pub Concludes : List ℕ → Result Verdict Fault → Type 0
 Concludes text (Ok v) = (t : Heard) × IsWholeText text t × AllTold t × IsVerdict t v

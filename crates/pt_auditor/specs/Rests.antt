@@ -26,7 +26,8 @@ use Rattle.pt_auditor.specs.declared.rest.Restless.TheVariants.{Line, Letters, O
 use Rattle.pt_auditor.specs.Lanes.{clock_of, stamp_noted}
 use Rattle.pt_auditor.specs.Foreigners.{AllFromNode, IsFirstForeign}
 use Rattle.pt_auditor.specs.Reading.{joined_lines, ArePlain, EventLines}
-use Rattle.pt_auditor.specs.Hearings.{Heard, EventsAreRising, TellsBegin, newest, desks_of, capped_count, left_flying}
+use Rattle.pt_auditor.specs.Hearings.{Heard, EventsAreRising, TellsBegin, newest, desks_of, left_flying}
+use Rattle.pt_events.specs.Counting.{capped}
 
 -- what the process holds
 abbrev pub holds_so : Holding → ProcessState
@@ -64,7 +65,7 @@ pub record IsRestOf (past : List Stamped) (r : Rest) : Type 0 where
   pub clocks : (d : ℕ) → stamp_noted r.clocks d ≡ clock_of d past
   pub last : r.last ≡ newest past
   pub begun : TellsBegin past r.begun
-  pub count : r.events ≡ capped_count (length past)
+  pub count : r.events ≡ capped (length past)
   pub desks : r.desks ≡ desks_of past
 
 -- nothing is on its way, and no letter left over was told of

@@ -22,7 +22,7 @@ use Rattle.pt_judge.specs.declared.judging.resumed.Holding.{Holding}
 use Rattle.pt_auditor.specs.declared.saved.Damage.{Damage}
 use Rattle.pt_auditor.specs.declared.saved.Flaw.{Flaw}
 use Rattle.pt_auditor.specs.declared.saved.Flaw.TheVariants.{Unread, Misplaced, Sum, Behind, Memory}
-use Rattle.pt_auditor.specs.Hearings.{capped_count}
+use Rattle.pt_events.specs.Counting.{capped}
 use Rattle.pt_auditor.specs.Rests.{holds_so, IsRestOf}
 
 -- a process that lives, and what it holds; or processes of a slot, up to a version, that ended for a reason
@@ -215,7 +215,7 @@ pub record IsDamaged (text : List ℕ) (d : Damage) : Type 0 where
   pub splits : text ≡ lines_of before ++ rest
   pub fits : AreFit before
   pub stands : MayStand before
-  pub line : d.line ≡ capped_count (length before + 1)
+  pub line : d.line ≡ capped (length before + 1)
   pub flaw : IsFlaw before rest d.column d.flaw
 
 -- the text tells as much as the rest

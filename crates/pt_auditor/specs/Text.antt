@@ -3,7 +3,7 @@ use Rattle.std.specs.Prelude.{ℕ, List, ◌++◌, codes, decimal, Option, Some,
 use Rattle.pt_signal.specs.declared.reason.Reason.{Reason}
 use Rattle.pt_signal.specs.declared.item.Item.{Item}
 use Rattle.pt_signal.specs.declared.signal.Signal.{Signal}
-use Rattle.pt_signal.specs.Text.{pid_text, reason_text, item_text, signal_text, letter_text}
+use Rattle.pt_signal.specs.Text.{pid_text, reason_text, item_text, signal_text, letter_text, fate_text}
 use Rattle.pt_events.specs.Text.{stamped_text}
 use Rattle.pt_judge.specs.Text.{cause_text}
 use Rattle.pt_auditor.specs.declared.hearing.Verdict.{Verdict}
@@ -48,10 +48,6 @@ verdict_text_of v (Some f) = codes "legal, but of no node: " ++ foreign_text f
 
 unfoldable pub verdict_text : Verdict → List ℕ
 verdict_text v = verdict_text_of v v.foreign
-
-unfoldable pub fate_text : Option Reason → List ℕ
-fate_text None = codes "alive"
-fate_text (Some r) = codes "ended " ++ reason_text r
 
 unfoldable pub standing_text : Standing → List ℕ
 standing_text s = pid_text s.pid ++ codes " " ++ fate_text s.ended ++ codes " waiting " ++ decimal s.waiting

@@ -1,11 +1,11 @@
 //! The texts of verdicts, processes and faults.
 
-#![tactic(auto, unfolding(crate::specs::Text::verdict_text, crate::specs::Text::verdict_text_of, crate::specs::Text::verdict_counts_text, crate::specs::Text::no_node_text, crate::specs::Text::foreign_text, crate::specs::Text::fate_text, crate::specs::Text::standing_text, crate::specs::Text::any_signal_text, crate::specs::Text::any_item_text, crate::specs::Text::absence_text, crate::specs::Text::contradiction_text, crate::specs::Text::objection_text, crate::specs::Text::line_fault_text, crate::specs::Text::fault_text, crate::specs::Text::flaw_text, crate::specs::Text::damage_text,))]
+#![tactic(auto, unfolding(crate::specs::Text::verdict_text, crate::specs::Text::verdict_text_of, crate::specs::Text::verdict_counts_text, crate::specs::Text::no_node_text, crate::specs::Text::foreign_text, crate::specs::Text::standing_text, crate::specs::Text::any_signal_text, crate::specs::Text::any_item_text, crate::specs::Text::absence_text, crate::specs::Text::contradiction_text, crate::specs::Text::objection_text, crate::specs::Text::line_fault_text, crate::specs::Text::fault_text, crate::specs::Text::flaw_text, crate::specs::Text::damage_text,))]
 
 use crate::{
     Contradiction, Damage, Fault, Flaw, Foreign, NoNode, Objection, Standing, Verdict, Why,
 };
-use pt_signal::{Item, Reason, Signal};
+use pt_signal::{Fate, Item, Reason, Signal};
 use std::fmt;
 
 /// A signal, or the word that there is none.
@@ -19,24 +19,6 @@ struct AnyItem(Option<Item>);
 /// Why a process is not alive.
 #[derive(Clone, Copy)]
 struct Absence(Option<Reason>);
-
-/// Whether a process is alive, or the reason of its exit.
-#[derive(Clone, Copy)]
-struct Fate(Option<Reason>);
-
-impl fmt::Display for Fate {
-    ghost use Rattle.std.specs.Prelude.{Some};
-    ghost use Rattle.pt_auditor.specs.Text.{fate_text};
-
-    ghost output = { λ f. Some (fate_text f.0) };
-
-    fn fmt<W: fmt::Write>(&self, f: &mut fmt::Formatter<W>) -> fmt::Result {
-        match self.0 {
-            Some(reason) => write!(f, "ended {reason}"),
-            None => f.write_str("alive"),
-        }
-    }
-}
 
 impl fmt::Display for Standing {
     ghost use Rattle.std.specs.Prelude.{Some};

@@ -8,7 +8,7 @@ use Rattle.pt_signal.specs.declared.pid.Pid.{Pid}
 use Rattle.pt_signal.specs.Process.{Sent}
 use Rattle.pt_events.specs.declared.event.Stamped.{Stamped}
 use Rattle.pt_events.specs.History.{Past}
-use Rattle.pt_chart.specs.Page.{capped}
+use Rattle.pt_events.specs.Counting.{capped}
 use Rattle.pt_chart.specs.Rows.{count_of}
 use Rattle.pt_chart.specs.Drawing.{label_beside, longest_beside}
 use Rattle.pt_chart.specs.declared.layout.Column.{Column}

@@ -1,10 +1,7 @@
 -- Where things stand on the page, in pixels.
 use Rattle.std.specs.Prelude.{ℕ, ◌+◌, ◌-◌, ◌*◌, ◌/◌, ◌^◌, min, max, Option, Some, None}
 use Rattle.pt_chart.specs.declared.page.Page.{Page}
-
--- the largest number of pixels
-abbrev pub capped : ℕ → ℕ
-capped n = min n (2 ^ 64 - 1)
+use Rattle.pt_events.specs.Counting.{capped}
 
 -- 140 from column to column, the first behind the numbers of the events
 abbrev pub x_of : ℕ → ℕ

@@ -1,7 +1,8 @@
 -- Points of the page, and their texts.
 use Rattle.std.specs.Prelude.{ℕ, ◌+◌, ◌==◌, if◌then◌else◌, List, ◌++◌, codes, decimal}
 use Rattle.pt_chart.specs.declared.point.Point.{Point}
-use Rattle.pt_chart.specs.Page.{capped, above, x_of, y_of}
+use Rattle.pt_chart.specs.Page.{above, x_of, y_of}
+use Rattle.pt_events.specs.Counting.{capped}
 
 unfoldable pub point_text : Point → List ℕ
 point_text p = decimal p.x ++ codes " " ++ decimal p.y

@@ -9,11 +9,8 @@ use Rattle.pt_events.specs.declared.event.Event.TheVariants.{Born}
 use Rattle.pt_events.specs.declared.event.Stamped.{Stamped}
 use Rattle.pt_chart.specs.declared.layout.Arrow.{Arrow}
 use Rattle.pt_chart.specs.declared.layout.Column.{Column}
-use Rattle.pt_chart.specs.Page.{capped}
-
-abbrev pub is_born : Event → Bool
-is_born (Born p parent link) = true
-is_born _ = false
+use Rattle.pt_events.specs.Counting.{capped}
+use Rattle.pt_events.specs.History.{is_born}
 
 -- how many births stand in front of every other event
 abbrev pub births_in_front : List Stamped → ℕ

@@ -22,7 +22,8 @@ use Rattle.pt_chart.specs.declared.strokes.Stroke.{Stroke}
 use Rattle.pt_chart.specs.declared.strokes.Stroke.TheVariants as stroke
 use Rattle.pt_chart.specs.declared.style.TheConstants.{STYLE}
 use Rattle.pt_chart.specs.Rows.{is_at_row}
-use Rattle.pt_chart.specs.Page.{capped, above, x_of, y_of, row_or_end, width_of, height_of}
+use Rattle.pt_chart.specs.Page.{above, x_of, y_of, row_or_end, width_of, height_of}
+use Rattle.pt_events.specs.Counting.{capped}
 
 -- by which stroke the letter of a signal is drawn
 abbrev pub stroke_of : Signal → Stroke

@@ -3,7 +3,8 @@
 ghost use Rattle.std.specs.Prelude.{◌≡◌, ◌<◌, ◌≤◌, ◌+◌, ◌^◌, ◌==◌, true, false, not, position, length};
 ghost use Rattle.std.specs.Prelude.{ℕ, slice_index_or, IfOk};
 ghost use Rattle.std.specs.List.{list_any};
-ghost use Rattle.pt_chart.specs.Rows.{AreRows, births_in_front, comes_next, follows_sending, is_born};
+ghost use Rattle.pt_chart.specs.Rows.{AreRows, births_in_front, comes_next, follows_sending};
+ghost use Rattle.pt_events.specs.History.{is_born};
 ghost use Rattle.pt_chart.specs.Standing.{AreNumbered, Notes};
 
 use crate::layout::{Arrow, Column};

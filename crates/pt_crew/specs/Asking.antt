@@ -6,7 +6,7 @@ use Rattle.pt_signal.specs.declared.item.Body.{Body}
 use Rattle.pt_signal.specs.declared.item.Item.{Item}
 use Rattle.pt_signal.specs.declared.item.Item.TheVariants.{User}
 use Rattle.pt_signal.specs.declared.signal.Signal.{Signal}
-use Rattle.pt_signal.specs.Values.{same_pid}
+use Rattle.pt_signal.specs.Values.{same_pid, is_pid}
 use Rattle.pt_events.specs.declared.event.Event.TheVariants.{Said}
 use Rattle.pt_shard.specs.declared.fault.Fault.{Fault}
 use Rattle.pt_shard.specs.declared.fault.Fault.TheVariants.{NoProc}
@@ -21,13 +21,9 @@ use Rattle.pt_crew.specs.Telling.{IfKnown}
 use Rattle.pt_crew.specs.declared.pending.Pending.{Pending}
 use Rattle.pt_crew.specs.declared.request.Request.{Request}
 
-abbrev pub is_who : Option Pid → Pid → Bool
-is_who None p = false
-is_who (Some q) p = same_pid q p
-
 -- the message speaks of the process
 abbrev pub speaks_of : Body → Pid → Bool
-speaks_of body p = is_who body.who p
+speaks_of body p = is_pid body.who p
 
 -- a request is a message that speaks of its own sender
 abbrev pub request_of : Item → Option Request

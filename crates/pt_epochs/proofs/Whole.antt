@@ -13,12 +13,12 @@ use Rattle.pt_workers.specs.Running.{AllGoOn}
 use Rattle.pt_workers.specs.Stillness.{AllDesksGoOn}
 use Rattle.pt_workers.specs.declared.stillness.Rested.{Rested}
 use Rattle.pt_node.specs.Gathering.{Gathers}
-use Rattle.pt_node.specs.Pasts.{GoOnFrom}
+use Rattle.pt_node.specs.Pasts.{GoOnFrom, Lengthens}
 use Rattle.pt_node.specs.Resuming.{Resumes}
 use Rattle.pt_node.proofs.Pasts.{gathers_past, go_on_past}
 use Rattle.pt_node.proofs.RoundByRound.{all_rounds_go_on}
 use Rattle.pt_epochs.specs.Idle.{EndsBy, Leg, Legs, Worked}
-use Rattle.pt_epochs.specs.Epochs.{AreOneHistory, Lengthens}
+use Rattle.pt_epochs.specs.Epochs.{AreOneHistory}
 
 -- whoever goes on from a history goes on from a legal and quiet one
 lengthened : (past : Past) (history : List Stamped) (new : List DeskState) → GoOnFrom (events (reverse history) ++ past) new → Lengthens past history new

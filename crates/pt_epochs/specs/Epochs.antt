@@ -13,7 +13,7 @@ use Rattle.pt_gathered.specs.Settling.{Settles, NothingLeft}
 use Rattle.pt_desk.specs.DeskState.{DeskState}
 use Rattle.pt_workers.specs.Desks.{desk_kept}
 use Rattle.pt_node.specs.Gathering.{Gathers}
-use Rattle.pt_node.specs.Pasts.{GoOnFrom}
+use Rattle.pt_node.specs.Pasts.{GoOnFrom, Lengthens}
 use Rattle.pt_node.specs.Resuming.{Resumes}
 use Rattle.pt_crew.specs.declared.crew.Crew.{Crew}
 use Rattle.pt_crew.specs.declared.crew.Member.{Member}
@@ -32,13 +32,6 @@ pub record IsSettledHistory (g : GatheredState) (history : List Stamped) : Type 
   pub merge : IsMerge (journals g) (reverse history)
   pub legal : IsLegal (begins g) (events (reverse history))
   pub quiet : IsQuiet (begins g) (events (reverse history))
-
--- what desks go on from and then this history are one legal history from the very beginning on, in which at the end
--- nothing is on its way; and the later desks go on from it
-pub record Lengthens (past : Past) (history : List Stamped) (new : List DeskState) : Type 0 where
-  pub legal : IsLegal [] (events (reverse history) ++ past)
-  pub quiet : IsQuiet [] (events (reverse history) ++ past)
-  pub goes_on : GoOnFrom (events (reverse history) ++ past) new
 
 abbrev pub AreOneHistory : List Stamped → List DeskState → List DeskState → Type 0
 AreOneHistory history old new = (past : Past) → GoOnFrom past old → Lengthens past history new

@@ -1,5 +1,5 @@
 -- Counts and sums.
-use Rattle.std.specs.Prelude.{ℕ, zero, suc, ◌+◌, Bool, true, false, List, [], ◌∷◌}
+use Rattle.std.specs.Prelude.{ℕ, zero, suc, ◌+◌, ◌-◌, ◌^◌, min, Bool, true, false, List, [], ◌∷◌}
 
 abbrev pub one_if : Bool → ℕ
 one_if true = 1
@@ -14,3 +14,7 @@ count test (x ∷ xs) = one_if (test x) + count test xs
 abbrev pub below : (ℕ → ℕ) → ℕ → ℕ
 below f zero = 0
 below f (suc n) = f n + below f n
+
+-- a number of 64 bits, which stays at the greatest
+abbrev pub capped : ℕ → ℕ
+capped n = min n (2 ^ 64 - 1)

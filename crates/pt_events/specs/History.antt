@@ -29,6 +29,10 @@ use Rattle.pt_signal.specs.Process.{ProcessState, fresh, held, enter, handle, sa
 abbrev pub Past : Type 0
 Past = List Event
 
+abbrev pub is_born : Event → Bool
+is_born (Born p parent link) = true
+is_born _ = false
+
 -- the life of one pid ----------------------------------------------------------------
 
 pub data Phase : Type 0 where

@@ -29,7 +29,8 @@ use Rattle.pt_shard.specs.ShardState.{ShardState, past}
 use Rattle.pt_shard.specs.Begun.{Every}
 use Rattle.pt_shard.specs.Opening.{fresh_shard}
 use Rattle.pt_shard.specs.Restart.{restarted}
-use Rattle.pt_gathered.specs.Gathered.{GatheredState, IsGathered, begins, journals, start_of}
+use Rattle.pt_gathered.specs.Gathered.{GatheredState, IsGathered, begins, journals}
+use Rattle.pt_beginning.specs.Beginning.{start_of}
 use Rattle.pt_gathered.specs.Lawful.{IsQuietNode, BeginsAgain}
 use Rattle.pt_gathered.specs.Pasts.{IsOutlineOf}
 use Rattle.pt_gathered.proofs.Starts.{Own, own_each, owned, at_own, above_all, start_same, nobody_beyond}

@@ -9,8 +9,7 @@ use Rattle.pt_events.proofs.Forgetting.{forgets_each, forgets_both, reasonless_u
 use Rattle.pt_laws.proofs.living.StartAfter.{less_reasonless, forgetting_left, forgetting_start, forgetting_entries, forgetting_keeps}
 use Rattle.pt_shard.specs.ShardState.{ShardState}
 use Rattle.pt_shard.specs.Restart.{forgetful}
-use Rattle.pt_gathered.specs.Beginning.{IsBeginning}
-use Rattle.pt_gathered.specs.Gathered.{start_of}
+use Rattle.pt_beginning.specs.Beginning.{IsBeginning, start_of}
 use Rattle.pt_gathered.specs.Pasts.{IsOutlineOf}
 
 old_refs : (low : ℕ) (start : Start) → HasOldRefs low start → HasOldRefs low (without_reasons start)

@@ -24,7 +24,8 @@ use Rattle.pt_laws.specs.BirthsAndEnds.{ends_with, signal_ends}
 use Rattle.pt_laws.proofs.living.BirthsAndEnds.{reason_step}
 use Rattle.pt_gathered.specs.Gathered.{GatheredState, IsGathered, begins, journals}
 use Rattle.pt_gathered.specs.Quiet.{QuietState, IsSettled}
-use Rattle.pt_gathered.specs.Late.{HasEndedOn, HadEndedBy, AreEndsSince, may_end, is_over, late_end, ends_in, after_oldest, ends_below, ends_since}
+use Rattle.pt_gathered.specs.Late.{HasEndedOn, HadEndedBy, AreEndsSince, may_end, is_over, late_end, ends_in, ends_below, ends_since}
+use Rattle.pt_events.specs.Since.{after_oldest}
 use Rattle.pt_gathered.proofs.Lawful.{locals}
 
 -- the one event ----------------------------------------------------------------------------------

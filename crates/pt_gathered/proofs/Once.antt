@@ -8,7 +8,7 @@ use Rattle.pt_events.specs.History.{Start, unborn, at_start, phase_or_unborn, is
 use Rattle.pt_laws.specs.Load.{IsStart, times}
 use Rattle.pt_shard.specs.ShardState.{ShardState}
 use Rattle.pt_shard.specs.Begun.{Every}
-use Rattle.pt_gathered.specs.Gathered.{start_of}
+use Rattle.pt_beginning.specs.Beginning.{start_of}
 use Rattle.pt_gathered.proofs.Starts.{Own, at_own, above_all, elsewhere, other_first}
 
 times_both : (p : Pid) (xs ys : Start) → times p (keys_of (xs ++ ys)) ≡ times p (keys_of xs) + times p (keys_of ys)

@@ -14,8 +14,8 @@ use Rattle.pt_laws.proofs.living.Resumed.{known, over_legal, over_flying}
 use Rattle.pt_signal.specs.declared.config.Config.{Config}
 use Rattle.pt_shard.specs.Opening.{fresh_shard}
 use Rattle.pt_shard.specs.Restart.{restarted}
-use Rattle.pt_gathered.specs.Beginning.{IsBeginning}
-use Rattle.pt_gathered.specs.Gathered.{GatheredState, IsGathered, begins, journals, over, start_of}
+use Rattle.pt_beginning.specs.Beginning.{IsBeginning, start_of}
+use Rattle.pt_gathered.specs.Gathered.{GatheredState, IsGathered, begins, journals, over}
 use Rattle.pt_gathered.specs.Lawful.{IsQuietNode}
 use Rattle.pt_gathered.specs.Pasts.{IsBeginningOf, IsOutlineOf, KeepsPast, IsLegalWhole, IsQuietWhole, BeginsAgainAfter, IsLegalOutline, IsQuietOutline, OutlinesAgainAfter}
 use Rattle.pt_gathered.specs.Settling.{Settles}

@@ -25,7 +25,8 @@ use Rattle.pt_accounts.specs.LivesState.{AreAllPids, InEveryMerge, account_at, a
 use Rattle.pt_shard.specs.ShardState.{ShardState, past, phase_of}
 use Rattle.pt_shard.specs.Opening.{fresh_shard}
 use Rattle.pt_shard.specs.Restart.{restarted}
-use Rattle.pt_gathered.specs.Gathered.{GatheredState, IsGathered, begins, journals, start_of}
+use Rattle.pt_gathered.specs.Gathered.{GatheredState, IsGathered, begins, journals}
+use Rattle.pt_beginning.specs.Beginning.{start_of}
 use Rattle.pt_gathered.proofs.Starts.{start_same, nobody_beyond}
 use Rattle.pt_gathered.proofs.Owned.{life_same}
 use Rattle.pt_gathered.proofs.Lawful.{locals, past_end}

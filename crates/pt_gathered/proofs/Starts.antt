@@ -10,7 +10,7 @@ use Rattle.pt_events.specs.History.{Start, at_start, phase_or_unborn, unborn}
 use Rattle.pt_signal.specs.declared.config.Config.{Config}
 use Rattle.pt_shard.specs.ShardState.{ShardState}
 use Rattle.pt_shard.specs.Begun.{Every}
-use Rattle.pt_gathered.specs.Gathered.{start_of}
+use Rattle.pt_beginning.specs.Beginning.{start_of}
 use Rattle.pt_gathered.specs.Taking.{AreShards}
 
 -- the desks, which began with nothing, began together with nothing

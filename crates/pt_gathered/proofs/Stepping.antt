@@ -22,8 +22,8 @@ use Rattle.pt_shard.specs.Outbox.{held_from}
 use Rattle.pt_shard.specs.Fit.{IsFit}
 use Rattle.pt_gathered.proofs.Starts.{start_same, same_starts}
 use Rattle.pt_gathered.proofs.Owned.{sent_same}
-use Rattle.pt_gathered.specs.Beginning.{IsBeginning}
-use Rattle.pt_gathered.specs.Gathered.{GatheredState, start_of, IsGathered, IsShardOf, journal_at, box_at, hold_at, over_in}
+use Rattle.pt_beginning.specs.Beginning.{IsBeginning, start_of}
+use Rattle.pt_gathered.specs.Gathered.{GatheredState, IsGathered, IsShardOf, journal_at, box_at, hold_at, over_in}
 use Rattle.pt_gathered.specs.Settling.{receipt, replies, replies_to, Receives, Steps}
 use Rattle.pt_gathered.specs.Taking.{without_letters, AreShards, TakesOut}
 use Rattle.pt_gathered.specs.Waits.{posted_in, StepsPosted}

@@ -11,17 +11,13 @@ use Rattle.pt_shard.specs.declared.loss.Loss.{Loss}
 use Rattle.pt_shard.specs.ShardState.{ShardState}
 use Rattle.pt_shard.specs.Outbox.{held_from}
 use Rattle.pt_shard.specs.Fit.{IsFit}
-use Rattle.pt_gathered.specs.Beginning.{IsBeginning}
+use Rattle.pt_beginning.specs.Beginning.{IsBeginning, start_of}
 
 -- the lane from desk d to desk e stands at d * desks + e
 pub record GatheredState : Type 0 where
   pub config : Config
   pub shards : List ShardState
   pub lanes : List (List Letter)
-
--- what was before the journals of all desks: what was before each, one desk after the other
-abbrev pub start_of : List ShardState → Start
-start_of shards = flat_map (λ (s : ShardState). s.start) shards
 
 -- what was before a node: the state that it was opened with, in which there is nobody, or that it goes on from
 abbrev pub begins : GatheredState → Start

@@ -13,6 +13,7 @@ use Rattle.pt_accounts.specs.LifeState.{LifeState}
 use Rattle.pt_accounts.specs.DeskLives.{DeskTable, life_in, oldest}
 use Rattle.pt_gathered.specs.Gathered.{GatheredState, begins, journals}
 use Rattle.pt_gathered.specs.Quiet.{QuietState}
+use Rattle.pt_events.specs.Since.{after_oldest}
 
 -- the process has ended on the node
 abbrev pub HasEndedOn : GatheredState → Pid → Type 0
@@ -52,10 +53,6 @@ late_end t stamp (Some p) = cond (is_over (life_in t p)) ((p, stamp) ∷ []) []
 abbrev pub ends_in : DeskTable → ℕ → List Stamped → List (Pid × ℕ)
 ends_in t stamp [] = []
 ends_in t stamp (s ∷ journal) = ends_in t stamp journal ++ late_end t stamp (may_end s.event)
-
--- a journal without its oldest n events
-abbrev pub after_oldest : ℕ → List Stamped → List Stamped
-after_oldest n journal = take (length journal - n) journal
 
 -- so of the desks below k, in order, each from its place on
 abbrev pub ends_below : QuietState → List ℕ → ℕ → ℕ → List (Pid × ℕ)

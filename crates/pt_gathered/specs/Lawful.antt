@@ -17,8 +17,8 @@ use Rattle.pt_laws.specs.MonitorLaws.{demonitors_and_downs, times_made}
 use Rattle.pt_laws.specs.Asking.{IsAnswer, is_question, is_answer}
 use Rattle.pt_laws.specs.Words.{HoldsSince}
 use Rattle.pt_shard.specs.Restart.{restarted}
-use Rattle.pt_gathered.specs.Beginning.{IsBeginning}
-use Rattle.pt_gathered.specs.Gathered.{GatheredState, begins, journals, over, start_of}
+use Rattle.pt_beginning.specs.Beginning.{IsBeginning, start_of}
+use Rattle.pt_gathered.specs.Gathered.{GatheredState, begins, journals, over}
 use Rattle.pt_gathered.specs.Settling.{event_count}
 
 -- the merge is legal, and what is in flight in it is what is left over

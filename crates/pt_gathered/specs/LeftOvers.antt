@@ -1,7 +1,7 @@
 -- All letters left over, as one list.
 use Rattle.std.specs.Prelude.{ℕ, zero, suc, List, [], ◌++◌, length, map}
 use Rattle.pt_signal.specs.declared.letter.Letter.{Letter}
-use Rattle.pt_gathered.specs.declared.left_over.LeftOver.{LeftOver}
+use Rattle.pt_signal.specs.declared.letter.LeftOver.{LeftOver}
 use Rattle.pt_gathered.specs.Gathered.{GatheredState, over_in}
 
 -- the lists f 0, f 1, up to below n, one after the other

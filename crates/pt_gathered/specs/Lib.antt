@@ -1,8 +1,6 @@
-pub mod Beginning
 pub mod Gathered
 pub mod Tables
 pub mod LeftOvers
-pub mod Text
 pub mod Settling
 pub mod Order
 pub mod Lawful

@@ -7,8 +7,8 @@ use Rattle.pt_laws.specs.Laws.{LanesFly}
 use Rattle.pt_laws.specs.Load.{IsQuiet}
 use Rattle.pt_laws.specs.Resumed.{HasAllReasons}
 use Rattle.pt_shard.specs.Restart.{restarted}
-use Rattle.pt_gathered.specs.Beginning.{IsBeginning}
-use Rattle.pt_gathered.specs.Gathered.{GatheredState, begins, journals, over, start_of}
+use Rattle.pt_beginning.specs.Beginning.{IsBeginning, start_of}
+use Rattle.pt_gathered.specs.Gathered.{GatheredState, begins, journals, over}
 
 -- the start is what this history left behind, all that happened before it from the very beginning on; why processes
 -- ended may be forgotten

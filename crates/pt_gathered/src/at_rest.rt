@@ -18,12 +18,11 @@ ghost use Rattle.pt_gathered.specs.Taking.{TakesOut, AreShards};
 ghost use Rattle.pt_gathered.specs.History.{AreJournalsOf};
 ghost use Rattle.pt_gathered.specs.Waits.{StepsPosted};
 
-use crate::left_over::LeftOver;
 use crate::node_laws::laws_of_node;
 use pt_events::{Journal, Stamped};
 use pt_merge::merge;
 use pt_shard::{Config, Loss, Shard, Stop};
-use pt_signal::Letter;
+use pt_signal::{LeftOver, Letter};
 use std::alloc::{AllocError, Global};
 use std::collections::VecDeque;
 use std::marker::Model;

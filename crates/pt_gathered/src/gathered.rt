@@ -11,11 +11,11 @@ ghost use Rattle.pt_gathered.specs.Pasts.{GoesOnFrom};
 ghost use Rattle.pt_gathered.specs.Tables.{AreTables};
 
 use crate::at_rest::{AtRest, Lane};
-use crate::left_over::LeftOver;
 use crate::node_laws::laws_of_node;
 use pt_accounts::DeskLives;
 use pt_events::{Journal, Stamped};
 use pt_shard::{Config, Shard};
+use pt_signal::LeftOver;
 use std::alloc::{AllocError, Global};
 use std::marker::Model;
 

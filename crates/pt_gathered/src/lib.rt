@@ -81,11 +81,10 @@
 //! - **Accounts.** `Quiet` returns for each process what the definitions give for every merge of the journals.
 //! - **Settling that fails.** It keeps all that holds for a gathered node, and its contract says where it stopped.
 //!   (`SettlingStops`)
-#![tactic(auto, unfolding(crate::specs::Text::left_over_text))]
+#![tactic(auto)]
 
 mod at_rest;
 mod gathered;
-mod left_over;
 mod node_laws;
 mod quiet;
 mod resumed;
@@ -94,9 +93,9 @@ mod settling;
 
 pub use at_rest::Lane;
 pub use gathered::Gathered;
-pub use left_over::LeftOver;
 pub use node_laws::laws_of;
 pub use pt_accounts::{Account, DeskLives};
+pub use pt_signal::LeftOver;
 pub use quiet::Quiet;
 pub use settled::Settled;
 pub use settling::Unsettled;

@@ -7,7 +7,8 @@ ghost use Rattle.pt_judge.specs.Judge.{IsAfter};
 ghost use Rattle.pt_judge.specs.Judging.{now_is};
 ghost use Rattle.pt_accounts.specs.LivesState.{InEveryMerge};
 ghost use Rattle.pt_shard.specs.Restart.{restarted};
-ghost use Rattle.pt_gathered.specs.Gathered.{begins, journals, start_of};
+ghost use Rattle.pt_gathered.specs.Gathered.{begins, journals};
+ghost use Rattle.pt_beginning.specs.Beginning.{start_of};
 
 use crate::quiet::Quiet;
 use pt_judge::{Holding, State};

@@ -2,16 +2,13 @@
 use Rattle.std.specs.Prelude.{ℕ, zero, suc, ◌+◌, ◌-◌, ◌*◌, ◌^◌, ℤ, pos, negsuc, Bool, ◌&&◌, ◌==◌, nat_le, List, [], ◌∷◌}
 use Rattle.std.specs.Prelude.{Option, Some, None, if◌then◌else◌}
 use Rattle.std.specs.Option.{option_map}
-
--- `0` to `9`
-abbrev pub is_line_digit : ℕ → Bool
-is_line_digit c = nat_le 48 c && nat_le c 57
+use Rattle.pt_texts.specs.Numbers.{is_digit}
 
 -- the number that the digits write behind those of n, where nothing else stands there and it is not above the most
 abbrev pub number_after_digits : ℕ → ℕ → List ℕ → Option ℕ
 number_after_digits most n [] = Some n
 number_after_digits most n (c ∷ text) =
-    if is_line_digit c
+    if is_digit c
     then (if nat_le (n * 10 + (c - 48)) most then number_after_digits most (n * 10 + (c - 48)) text else None)
     else None
 

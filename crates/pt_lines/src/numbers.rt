@@ -2,9 +2,10 @@
 
 ghost use Rattle.std.specs.Prelude.{◌≡◌, ◌-◌, ◌^◌, ◌≤◌, IfSome};
 ghost use Rattle.pt_lines.specs.Numbers as spec;
+ghost use Rattle.pt_texts.specs.Numbers.{is_digit};
 
 fn is_digit(byte: u8) -> bool
-    ensures { result ≡ spec.is_line_digit byte }
+    ensures { result ≡ is_digit byte }
 {
     b'0' <= byte && byte <= b'9'
 }

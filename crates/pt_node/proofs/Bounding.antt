@@ -12,7 +12,8 @@ use Rattle.pt_laws.proofs.DeskLoads.{merge_load}
 use Rattle.pt_signal.specs.declared.config.Config.{Config}
 use Rattle.pt_shard.specs.ShardState.{ShardState}
 use Rattle.pt_shard.specs.Outbox.{held_from}
-use Rattle.pt_gathered.specs.Gathered.{IsShardOf, journal_at, start_of}
+use Rattle.pt_gathered.specs.Gathered.{IsShardOf, journal_at}
+use Rattle.pt_beginning.specs.Beginning.{start_of}
 use Rattle.pt_gathered.specs.Settling.{Follows}
 use Rattle.pt_gathered.specs.Taking.{AreShards}
 use Rattle.pt_gathered.proofs.Agreeing.{local_as}

@@ -7,8 +7,8 @@ use Rattle.pt_signal.specs.declared.config.Config.{Config}
 use Rattle.pt_carrier.specs.Node.{IsNode}
 use Rattle.pt_shard.specs.ShardState.{ShardState}
 use Rattle.pt_shard.specs.Restart.{restarted, forgetful}
-use Rattle.pt_gathered.specs.Beginning.{IsBeginning}
-use Rattle.pt_gathered.specs.Gathered.{GatheredState, start_of}
+use Rattle.pt_beginning.specs.Beginning.{IsBeginning, start_of}
+use Rattle.pt_gathered.specs.Gathered.{GatheredState}
 use Rattle.pt_gathered.specs.Pasts.{IsOutlineOf}
 use Rattle.pt_gathered.specs.Quiet.{latest_stamp}
 use Rattle.pt_gathered.proofs.Forgetting.{beginning_without, outline_without}

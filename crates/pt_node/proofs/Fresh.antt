@@ -10,7 +10,7 @@ use Rattle.pt_signal.specs.declared.config.Config.{Config}
 use Rattle.pt_shard.specs.ShardState.{ShardState}
 use Rattle.pt_signal.specs.Settings.{IsInRange}
 use Rattle.pt_shard.specs.Opening.{fresh_shard}
-use Rattle.pt_gathered.specs.Gathered.{start_of}
+use Rattle.pt_beginning.specs.Beginning.{start_of}
 use Rattle.pt_gathered.specs.Pasts.{IsBeginningOf}
 use Rattle.pt_gathered.proofs.Starts.{all_empty}
 use Rattle.pt_gathered.proofs.Pasts.{from_first}

@@ -3,7 +3,8 @@ use Rattle.std.proofs.Common.{◌≡◌, ◌<◌, List, [], ◌∷◌, map, leng
 use Rattle.std.proofs.lemmas.List.{get_or-map, length-map}
 use Rattle.pt_events.specs.History.{Past}
 use Rattle.pt_signal.specs.declared.config.Config.{Config}
-use Rattle.pt_gathered.specs.Gathered.{GatheredState, start_of}
+use Rattle.pt_gathered.specs.Gathered.{GatheredState}
+use Rattle.pt_beginning.specs.Beginning.{start_of}
 use Rattle.pt_gathered.specs.Pasts.{IsBeginningOf, IsOutlineOf}
 use Rattle.pt_desk.specs.DeskState.{DeskState}
 use Rattle.pt_workers.specs.Desks.{AreDesksOf, all_shards}

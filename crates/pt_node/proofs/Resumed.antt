@@ -23,11 +23,11 @@ use Rattle.pt_shard.specs.ShardState.{ShardState, past, phase_of, box}
 use Rattle.pt_shard.specs.Outbox.{held_from}
 use Rattle.pt_shard.specs.Restart.{restarted}
 use Rattle.pt_shard.specs.InTurn.{IsInTurn}
-use Rattle.pt_gathered.specs.Gathered.{GatheredState, IsGathered, box_at, hold_at, journals, start_of}
+use Rattle.pt_gathered.specs.Gathered.{GatheredState, IsGathered, box_at, hold_at, journals}
 use Rattle.pt_gathered.specs.Pasts.{IsBeginningOf, IsOutlineOf, GoesOnFrom, GoesOnBut}
 use Rattle.pt_gathered.specs.Quiet.{ends_of}
 use Rattle.pt_gathered.specs.Settling.{NothingLeft}
-use Rattle.pt_gathered.specs.Beginning.{IsBeginning}
+use Rattle.pt_beginning.specs.Beginning.{IsBeginning, start_of}
 use Rattle.pt_desk.specs.Sight.{WasInTurn, AreToldBefore}
 use Rattle.pt_desk.specs.DeskState.{DeskState, IsAccounted}
 use Rattle.pt_workers.specs.Desks.{AreAccounted, AreDesksOf, all_ends, all_shards}

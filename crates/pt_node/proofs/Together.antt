@@ -19,9 +19,9 @@ use Rattle.pt_carrier.specs.Node.{all_posted, all_collected, entry}
 use Rattle.pt_signal.specs.declared.config.Config.{Config}
 use Rattle.pt_shard.specs.ShardState.{ShardState}
 use Rattle.pt_shard.specs.Outbox.{held_from}
-use Rattle.pt_gathered.specs.Gathered.{GatheredState, IsGathered, begins, start_of, IsShardOf, journal_at, box_at, hold_at, over_in}
+use Rattle.pt_gathered.specs.Gathered.{GatheredState, IsGathered, begins, IsShardOf, journal_at, box_at, hold_at, over_in}
 use Rattle.pt_gathered.specs.Taking.{AreShards}
-use Rattle.pt_gathered.specs.Beginning.{IsBeginning}
+use Rattle.pt_beginning.specs.Beginning.{IsBeginning, start_of}
 use Rattle.pt_gathered.specs.Late.{HasEndedOn}
 use Rattle.pt_gathered.proofs.Starts.{start_same}
 use Rattle.pt_gathered.proofs.Agreeing.{local_as}

@@ -3,7 +3,8 @@ use Rattle.std.specs.Prelude.{ℕ, ◌≤◌, List}
 use Rattle.pt_events.specs.declared.event.Stamped.{Stamped}
 use Rattle.pt_events.specs.Journal.{IsMerge, events}
 use Rattle.pt_laws.specs.Load.{load}
-use Rattle.pt_gathered.specs.Gathered.{journal_at, start_of}
+use Rattle.pt_gathered.specs.Gathered.{journal_at}
+use Rattle.pt_beginning.specs.Beginning.{start_of}
 use Rattle.pt_desk.specs.DeskState.{DeskState}
 use Rattle.pt_workers.specs.Desks.{all_shards}
 

@@ -16,7 +16,8 @@ use Rattle.pt_shard.specs.Extends.{Extends}
 use Rattle.pt_shard.specs.Known.{is_in_node, issued_in, knows}
 use Rattle.pt_shard.specs.Restart.{restarted}
 use Rattle.pt_shard.specs.ShardState.{ShardState, past as past_of, phase_of}
-use Rattle.pt_gathered.specs.Gathered.{GatheredState, IsGathered, begins, journals, start_of}
+use Rattle.pt_gathered.specs.Gathered.{GatheredState, IsGathered, begins, journals}
+use Rattle.pt_beginning.specs.Beginning.{start_of}
 use Rattle.pt_gathered.specs.Quiet.{latest_stamp}
 use Rattle.pt_gathered.specs.Settling.{Settles}
 use Rattle.pt_gathered.proofs.Lawful.{locals}

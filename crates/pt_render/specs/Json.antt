@@ -12,14 +12,10 @@ use Rattle.pt_signal.specs.declared.signal.Signal.{Signal}
 use Rattle.pt_signal.specs.declared.signal.Signal.TheVariants.{Message, Link, Unlink, LinkExit, Monitor, Demonitor}
 use Rattle.pt_signal.specs.declared.signal.Signal.TheVariants.{AliveAsk, AliveSay}
 use Rattle.pt_signal.specs.declared.letter.Letter.{Letter}
-use Rattle.pt_signal.specs.Text.{pid_text, ref_text, link_id_text, reason_text}
+use Rattle.pt_signal.specs.Text.{pid_text, ref_text, link_id_text, reason_text, true_or_false_text}
 use Rattle.pt_events.specs.declared.event.Event.{Event}
 use Rattle.pt_events.specs.declared.event.Event.TheVariants.{Born, Said, Came, Took, Flag, Left, Refused}
 use Rattle.pt_events.specs.declared.event.Stamped.{Stamped}
-
-abbrev pub truth : Bool → List ℕ
-truth true = codes "true"
-truth false = codes "false"
 
 -- members, with commas between them -----------------------------------------------------------
 
@@ -45,7 +41,7 @@ asking_members (Signal.Down m r) =
     codes "\"signal\":\"down\",\"ref\":\"" ++ ref_text m ++ codes "\",\"reason\":\"" ++ reason_text r ++ codes "\""
 asking_members (AliveAsk m) = codes "\"signal\":\"alive-ask\",\"ref\":\"" ++ ref_text m ++ codes "\""
 asking_members (AliveSay m x) =
-    codes "\"signal\":\"alive-say\",\"ref\":\"" ++ ref_text m ++ codes "\",\"alive\":" ++ truth x
+    codes "\"signal\":\"alive-say\",\"ref\":\"" ++ ref_text m ++ codes "\",\"alive\":" ++ true_or_false_text x
 asking_members _ = codes ""
 
 unfoldable pub signal_members : Signal → List ℕ
@@ -67,7 +63,7 @@ item_members (Item.Down m from r) =
     ++ codes "\",\"reason\":\"" ++ reason_text r ++ codes "\""
 item_members (Item.Alive m from x) =
     codes "\"item\":\"alive\",\"ref\":\"" ++ ref_text m ++ codes "\",\"from\":\"" ++ pid_text from
-    ++ codes "\",\"alive\":" ++ truth x
+    ++ codes "\",\"alive\":" ++ true_or_false_text x
 
 unfoldable pub pick_json : Pick → List ℕ
 pick_json Pick.Any = codes "\"pick\":\"any\""
@@ -92,7 +88,7 @@ route_members from to = codes "\"from\":\"" ++ pid_text from ++ codes "\",\"to\"
 unfoldable pub plain_members : Event → List ℕ
 plain_members (Born p parent link) =
     codes "\"event\":\"born\",\"pid\":\"" ++ pid_text p ++ codes "\"" ++ parent_member parent ++ birth_link_member link
-plain_members (Flag p on) = codes "\"event\":\"flag\",\"pid\":\"" ++ pid_text p ++ codes "\",\"on\":" ++ truth on
+plain_members (Flag p on) = codes "\"event\":\"flag\",\"pid\":\"" ++ pid_text p ++ codes "\",\"on\":" ++ true_or_false_text on
 plain_members (Left p r) =
     codes "\"event\":\"left\",\"pid\":\"" ++ pid_text p ++ codes "\",\"reason\":\"" ++ reason_text r ++ codes "\""
 plain_members (Refused a b) = codes "\"event\":\"refused\"," ++ route_members a b

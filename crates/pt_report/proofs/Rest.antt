@@ -8,7 +8,7 @@ use Rattle.std.proofs.lemmas.List.Sums.{sum_by_more}
 use Rattle.std.proofs.lemmas.Slice.Zip.{get_or-zip, length-zip}
 use Rattle.pt_gathered.specs.Gathered.{GatheredState}
 use Rattle.pt_gathered.specs.LeftOvers.{all_left}
-use Rattle.pt_gathered.specs.declared.left_over.LeftOver.{LeftOver}
+use Rattle.pt_signal.specs.declared.letter.LeftOver.{LeftOver}
 use Rattle.pt_shard.specs.ShardState.{lives}
 use Rattle.pt_desk.specs.DeskState.{DeskState}
 use Rattle.pt_runner.specs.declared.runner.Runner.{Runner}

@@ -3,12 +3,11 @@ use Rattle.std.specs.Prelude.{ℕ, List, [], ◌++◌, codes, decimal, Option, S
 use Rattle.std.specs.List.{flat_map}
 use Rattle.pt_signal.specs.declared.pid.Pid.{Pid}
 use Rattle.pt_signal.specs.declared.reason.Reason.{Reason}
-use Rattle.pt_signal.specs.Text.{pid_text, reason_text}
+use Rattle.pt_signal.specs.Text.{pid_text, reason_text, left_over_text, fate_text}
 use Rattle.pt_events.specs.declared.event.Stamped.{Stamped}
 use Rattle.pt_events.specs.Text.{stamped_text}
 use Rattle.pt_accounts.specs.declared.account.Account.{Account}
-use Rattle.pt_gathered.specs.declared.left_over.LeftOver.{LeftOver}
-use Rattle.pt_gathered.specs.Text.{left_over_text}
+use Rattle.pt_signal.specs.declared.letter.LeftOver.{LeftOver}
 use Rattle.pt_render.specs.Json.{json_text, json_left_over_text}
 use Rattle.pt_render.specs.Mermaid.{mermaid_text, mermaid_left_over_text}
 use Rattle.pt_report.specs.declared.form.Form.{Form}
@@ -44,14 +43,10 @@ left_lines form letters = flat_map (left_line form) letters
 abbrev pub history_text : Form → List Stamped → List LeftOver → List ℕ
 history_text form events letters = form_head form ++ (lines form events ++ left_lines form letters)
 
-unfoldable pub ending_text : Option Reason → List ℕ
-ending_text None = codes "alive"
-ending_text (Some r) = codes "ended " ++ reason_text r
-
 -- what became of a process: PID alive arrived A taken T waiting W
 unfoldable pub account_text : Pid → Account → List ℕ
 account_text p a =
-    pid_text p ++ codes " " ++ ending_text a.ended ++ codes " arrived " ++ decimal a.arrived ++ codes " taken "
+    pid_text p ++ codes " " ++ fate_text a.ended ++ codes " arrived " ++ decimal a.arrived ++ codes " taken "
     ++ decimal a.taken ++ codes " waiting " ++ decimal a.waiting
 
 -- the last line of a summary

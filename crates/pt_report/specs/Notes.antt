@@ -92,8 +92,3 @@ own_text s process reason op (operation ∷ operations) =
 abbrev pub own_end_text : Option (ℕ × List ℕ) → List ℕ
 own_end_text None = codes " ended behind its last op"
 own_end_text (Some end) = codes " ended at op " ++ decimal end.0 ++ codes ": " ++ end.1
-
--- the reason that a process ended with, if it has
-abbrev pub ended_with : Option Account → Option Reason
-ended_with None = None
-ended_with (Some a) = a.ended

@@ -14,10 +14,7 @@ use Rattle.pt_gathered.specs.Settling.{event_count, Settles, NothingLeft}
 use Rattle.pt_report.specs.declared.notes.Note.{Note}
 use Rattle.pt_report.specs.declared.totals.Totals.{Totals}
 use Rattle.pt_report.specs.Lines.{account_text, totals_text}
-
--- a number of 64 bits, which stays at the greatest
-abbrev pub capped_sum : ℕ → ℕ
-capped_sum n = min n (2 ^ 64 - 1)
+use Rattle.pt_events.specs.Counting.{capped}
 
 -- the line of a process, if it was born
 abbrev pub account_line : Pid → Option Account → List ℕ
@@ -41,9 +38,9 @@ AppendsAccounts more q old new =
 pub record Totalled (g : GatheredState) (q : QuietState) (t : Totals) : Type 0 where
   pub settles : Settles g q.gathered
   pub quiet : NothingLeft q.gathered
-  pub events : t.events ≡ capped_sum (event_count g)
+  pub events : t.events ≡ capped (event_count g)
   pub left_over : t.left_over ≡ length (all_left g)
-  pub came : t.settled ≡ capped_sum (event_count q.gathered - event_count g)
+  pub came : t.settled ≡ capped (event_count q.gathered - event_count g)
 
 -- the node is settled; a line a process is written, and then the totals
 abbrev pub Summarizes : GatheredState → Option (List ℕ) → Option (List ℕ) → Type 0

@@ -1,7 +1,7 @@
 //! The lines of a summary.
 
 use pt_gathered::Account;
-use pt_signal::{Pid, Reason};
+use pt_signal::{Fate, Pid};
 use std::fmt;
 
 /// What became of a process.
@@ -20,24 +20,6 @@ pub(crate) struct Totals {
     pub(crate) left_over: u64,
     /// The number of letters that settling delivered.
     pub(crate) settled: u64,
-}
-
-/// Whether a process is alive, or the reason of its exit.
-#[derive(Clone, Copy)]
-struct Fate(Option<Reason>);
-
-impl fmt::Display for Fate {
-    ghost use Rattle.std.specs.Prelude.{Some};
-    ghost use Rattle.pt_report.specs.Lines.{ending_text};
-
-    ghost output = { λ f. Some (ending_text f.0) };
-
-    fn fmt<W: fmt::Write>(&self, f: &mut fmt::Formatter<W>) -> fmt::Result {
-        match self.0 {
-            Some(reason) => write!(f, "ended {reason}"),
-            None => f.write_str("alive"),
-        }
-    }
 }
 
 impl fmt::Display for ProcessLine {

@@ -32,7 +32,8 @@ use Rattle.pt_runner.specs.declared.calls.Progress.TheVariants.{Waits}
 use Rattle.pt_runner.specs.declared.runner.Actor.{Actor}
 use Rattle.pt_runner.specs.declared.runner.Runner.{Runner}
 use Rattle.pt_runner.specs.Acting.{Acting, ActsAt, DoesOperation, Plays, acting, next_of, pick_meant, set_acting}
-use Rattle.pt_runner.specs.Waiting.{RunnerAttends, FindsNothing, IsFresh, IsNoted, IsTrueOf, IsUnmarked, RunnerKnows, KnowsOf, WaitsSince, is_before, marked, since, sleeps, rests, idle_runner, none_fits, takes_none, is_out_of_work, ActorRests, AllRest}
+use Rattle.pt_runner.specs.Waiting.{RunnerAttends, FindsNothing, IsFresh, IsNoted, IsTrueOf, IsUnmarked, RunnerKnows, KnowsOf, WaitsSince, is_before, marked, sleeps, rests, idle_runner, none_fits, takes_none, is_out_of_work, ActorRests, AllRest}
+use Rattle.pt_events.specs.Since.{after_oldest}
 use Rattle.pt_runner.proofs.Acting.{table_of, acting_at, acting_within, set_actor, take_at}
 
 -- whom nothing came to ------------------------------------------------------------------------
@@ -44,7 +45,7 @@ finds_later plans pids a old new e none f =
 
 -- the journal grows -----------------------------------------------------------------------------
 
-since_later : (w : ℕ) (more old : List Stamped) → w ≤ length old → since w (more ++ old) ≡ more ++ since w old
+since_later : (w : ℕ) (more old : List Stamped) → w ≤ length old → after_oldest w (more ++ old) ≡ more ++ after_oldest w old
 since_later w [] old h = refl
 since_later w (s ∷ more) old h =
     let l = length-append more old in
@@ -55,10 +56,10 @@ waits_later : (plans : List Plan) (pids : List (Option Pid)) (a : Acting) (w : �
 waits_later plans pids a w old new e h = record {
   within = let l = length-append e.more old.journal in let j = ap length e.journal in let i = h.within in omega (arith, l, j, i);
   finds = λ none.
-      let split : came_in a.pid (since w new.journal) ≡ (came_in a.pid e.more || came_in a.pid (since w old.journal)) =
-      ap (λ (j : List Stamped). came_in a.pid (since w j)) e.journal ∙ ap (came_in a.pid) (since_later w e.more old.journal h.within)
-      ∙ list_any-append (λ (s : Stamped). came_to a.pid s.event) e.more (since w old.journal) in
-      let two = neither (came_in a.pid e.more) (came_in a.pid (since w old.journal)) (sym split ∙ none) in
+      let split : came_in a.pid (after_oldest w new.journal) ≡ (came_in a.pid e.more || came_in a.pid (after_oldest w old.journal)) =
+      ap (λ (j : List Stamped). came_in a.pid (after_oldest w j)) e.journal ∙ ap (came_in a.pid) (since_later w e.more old.journal h.within)
+      ∙ list_any-append (λ (s : Stamped). came_to a.pid s.event) e.more (after_oldest w old.journal) in
+      let two = neither (came_in a.pid e.more) (came_in a.pid (after_oldest w old.journal)) (sym split ∙ none) in
       finds_later plans pids a old new e two.0 (h.finds two.1);
 }
 
@@ -160,7 +161,7 @@ noted_more came seen x h p n w at le =
       | inl beyond ↦ let none : length (x ∷ seen) - w ≡ 0 = omega (arith, beyond) in ap (λ k. came_in p (take k (x ∷ seen))) none
       | inr within ↦
           let quiet = event_quiet x.event came p n w (length seen) within at le in
-          let rest : came_in p (since w seen) ≡ false = h p n w quiet.1 le in
+          let rest : came_in p (after_oldest w seen) ≡ false = h p n w quiet.1 le in
           ap (came_in p) (since_later w (x ∷ []) seen within) ∙ (λ i. quiet.0 i || rest i)
     ]
 
@@ -201,7 +202,7 @@ asleep plans pids actors came read d a k all h so =
     let s = length-append k.more k.seen in
     let none : length k.more ≡ 0 = omega (arith, l, c, s, all) in
     let is : d.journal ≡ k.seen = k.journal ∙ ap (λ (m : List Stamped). m ++ k.seen) (no_more k.more none) in
-    (h b.1 b.3).finds (ap (λ (j : List Stamped). came_in a.pid (since b.1 j)) is ∙ k.noted a.pid b.0 b.1 b.2 b.4)
+    (h b.1 b.3).finds (ap (λ (j : List Stamped). came_in a.pid (after_oldest b.1 j)) is ∙ k.noted a.pid b.0 b.1 b.2 b.4)
 
 -- a receive that finds nothing does nothing -----------------------------------------------------------
 

@@ -20,10 +20,7 @@ use Rattle.pt_script.specs.declared.values.Pattern.{Pattern}
 use Rattle.pt_runner.specs.Acting.{Acting, RunnerDoes, acting, next_of, pick_meant}
 use Rattle.pt_runner.specs.declared.runner.Actor.{Actor}
 use Rattle.pt_runner.specs.declared.runner.Runner.{Runner}
-
--- the events of a journal from a place on, the newest first as in the journal
-abbrev pub since : ℕ → List Stamped → List Stamped
-since n journal = take (length journal - n) journal
+use Rattle.pt_events.specs.Since.{after_oldest}
 
 -- its next operation is a receive, and no item in its mailbox fits
 pub record FindsNothing (plans : List Plan) (pids : List (Option Pid)) (a : Acting) (d : ShardState) : Type 0 where
@@ -38,7 +35,7 @@ pub record FindsNothing (plans : List Plan) (pids : List (Option Pid)) (a : Acti
 pub record WaitsSince (plans : List Plan) (pids : List (Option Pid)) (a : Acting) (w : ℕ) (d : ShardState)
     : Type 0 where
   pub within : w ≤ length d.journal
-  pub finds : came_in a.pid (since w d.journal) ≡ false → FindsNothing plans pids a d
+  pub finds : came_in a.pid (after_oldest w d.journal) ≡ false → FindsNothing plans pids a d
 
 -- so does a process, where it is marked as waiting from a place on
 abbrev pub IsTrueOf : List Plan → List (Option Pid) → ShardState → Actor → Type 0
@@ -50,7 +47,7 @@ IsUnmarked a = a.waits ≡ None
 -- whoever is not marked at its slot from a place on had nothing come to it there
 abbrev pub IsNoted : List ℕ → List Stamped → Type 0
 IsNoted came seen =
-    (p : Pid) (n w : ℕ) → slice_get came p.slot ≡ Some n → n ≤ w → came_in p (since w seen) ≡ false
+    (p : Pid) (n w : ℕ) → slice_get came p.slot ≡ Some n → n ≤ w → came_in p (after_oldest w seen) ≡ false
 
 -- what was read of a journal, what was noted of that, and that each process waits as it is marked
 pub record KnowsOf (plans : List Plan) (pids : List (Option Pid)) (actors : List Actor) (came : List ℕ) (read : ℕ)

@@ -18,7 +18,7 @@ use Rattle.pt_shard.specs.Calls.{held_by}
 use Rattle.pt_shard.specs.Known.{knows}
 use Rattle.pt_shard.specs.Outbox.{count_pending}
 use Rattle.pt_desk.specs.DeskState.{DeskState}
-use Rattle.pt_gathered.specs.declared.left_over.LeftOver.{LeftOver}
+use Rattle.pt_signal.specs.declared.letter.LeftOver.{LeftOver}
 use Rattle.pt_node.specs.Node.{ReadsAt}
 use Rattle.pt_workers.specs.Stillness.{count_events}
 use Rattle.pt_lines.specs.declared.call.Look.{Look}

@@ -12,7 +12,7 @@ use Rattle.pt_events.specs.History.{IsLegal, state, life, open_monitors}
 use Rattle.pt_events.specs.Journal.{IsMerge}
 use Rattle.pt_judge.specs.Judge.{ReplaysAfter}
 use Rattle.pt_accounts.specs.declared.account.Account.{Account}
-use Rattle.pt_accounts.specs.LivesState.{InEveryMerge, AreAllPids, account_in}
+use Rattle.pt_accounts.specs.LivesState.{InEveryMerge, AreAllPids, account_in, ended_with}
 use Rattle.pt_gathered.specs.Gathered.{GatheredState, begins, journals}
 use Rattle.pt_gathered.specs.LeftOvers.{all_left}
 use Rattle.pt_gathered.specs.Quiet.{QuietState}
@@ -56,10 +56,6 @@ LooksAtGathered Look.Events g earlier a = IfTold a (TellsHistory g Look.Events e
 LooksAtGathered Look.Judge g earlier a = IfTold a (TellsHistory g Look.Judge earlier)
 LooksAtGathered _ g earlier a = IsNotNow a
 
-abbrev pub ended_of : Option Account → Option Reason
-ended_of None = None
-ended_of (Some a) = a.ended
-
 abbrev pub is_alive : Option Account → Bool
 is_alive None = false
 is_alive (Some a) = is_none a.ended
@@ -79,7 +75,7 @@ LooksAtQuiet Look.Pids q earlier a =
 LooksAtQuiet (Look.Account p) q earlier a =
     IfAccount a (λ r. InEach q (λ past. r ≡ account_in (begins q.gathered) past p))
 LooksAtQuiet (Look.Ended p) q earlier a =
-    IfReason a (λ r. InEach q (λ past. r ≡ ended_of (account_in (begins q.gathered) past p)))
+    IfReason a (λ r. InEach q (λ past. r ≡ ended_with (account_in (begins q.gathered) past p)))
 LooksAtQuiet (Look.Alive p) q earlier a =
     IfTrue a (λ b. InEach q (λ past. b ≡ is_alive (account_in (begins q.gathered) past p)))
 -- the items are those of the state that the history leads to, of which no clause tells here

@@ -1,7 +1,7 @@
 //! Looks at a node that was gathered, or settled.
 
 ghost use Rattle.std.specs.Prelude.{◌≡◌, IfOk, Some};
-ghost use Rattle.pt_accounts.specs.LivesState.{account_in};
+ghost use Rattle.pt_accounts.specs.LivesState.{account_in, ended_with};
 ghost use Rattle.pt_gathered.specs.Gathered.{begins};
 ghost use Rattle.pt_session.specs.Looking.{IfItems};
 ghost use Rattle.pt_session.specs.LookingBack as spec;
@@ -87,7 +87,7 @@ fn quiet_history(alloc: Global, quiet: &Quiet, earlier: &[Event], look: Look) ->
 }
 
 fn ended_of(account: Option<Account>) -> Option<Reason>
-    ensures { result ≡ spec.ended_of account }
+    ensures { result ≡ ended_with account }
 {
     match account {
         Some(account) => account.ended,

@@ -36,7 +36,8 @@ use Rattle.pt_shard.specs.declared.loss.Loss.TheVariants.{Exited}
 use Rattle.pt_shard.specs.Losses.{lost_by_exit}
 use Rattle.pt_shard.specs.LedgerState.{Book, wrote, losing}
 use Rattle.pt_shard.specs.Sound.{IsNear, of_phase, live_process, Every}
-use Rattle.pt_shard.specs.Processes.{Table, ProcessesState, seen_process, process_at, in_place, changed, is_place_of, pid_of_key, vacant_at, Puts, Changes, Ends, SameSettings}
+use Rattle.pt_shard.specs.Processes.{Table, ProcessesState, process_at, in_place, changed, is_place_of, pid_of_key, vacant_at, Puts, Changes, Ends, SameSettings}
+use Rattle.pt_shard.specs.Reading.{read_of}
 use Rattle.pt_shard.specs.Whole.{Parts, parts_of, shard_of, IsWhole}
 use Rattle.pt_signal.specs.declared.ids.Ref.{Ref}
 use Rattle.pt_signal.specs.declared.ids.LinkId.{LinkId}
@@ -83,11 +84,11 @@ changed_nothing (Some r) = refl
 pub left_alone : (p : Pid) (table : Table) → Changes p (λ me s. s) table table
 left_alone p table = record { puts = record { live = λ slot version. go slot version (is_place_of p slot version) refl; settings = same_settings table }; next = refl }
   where
-    go : (slot version : ℕ) (b : Bool) → is_place_of p slot version ≡ b → seen_process (at table slot version) ≡ cond (is_place_of p slot version) (changed (λ me s. s) (in_place table p)) (seen_process (at table slot version))
+    go : (slot version : ℕ) (b : Bool) → is_place_of p slot version ≡ b → read_of (at table slot version) ≡ cond (is_place_of p slot version) (changed (λ me s. s) (in_place table p)) (read_of (at table slot version))
     go slot version false h = rw h refl
     go slot version true h =
         let e = same_place p slot version h in
-        rw (h, changed_nothing (in_place table p)) (sym (ap (λ x. seen_process (at table x p.version)) e.0 ∙ ap (λ x. seen_process (at table slot x)) e.1))
+        rw (h, changed_nothing (in_place table p)) (sym (ap (λ x. read_of (at table x p.version)) e.0 ∙ ap (λ x. read_of (at table slot x)) e.1))
 
 -- the place of p itself
 pub own_place : (p : Pid) → is_place_of p p.slot p.version ≡ true

@@ -28,7 +28,8 @@ use Rattle.pt_shard.specs.Extends.{Extends}
 use Rattle.pt_shard.specs.Fit.{IsFit}
 use Rattle.pt_shard.specs.LedgerState.{Book, wrote}
 use Rattle.pt_shard.specs.Sound.{live_process, of_phase}
-use Rattle.pt_shard.specs.Processes.{Table, ProcessesState, seen_process, process_at, in_place, changed, vacant_at, pid_of_key, Changes, IsSameTable, HasRoomFor}
+use Rattle.pt_shard.specs.Processes.{Table, ProcessesState, process_at, in_place, changed, vacant_at, pid_of_key, Changes, IsSameTable, HasRoomFor}
+use Rattle.pt_shard.specs.Reading.{read_of}
 use Rattle.pt_shard.specs.Whole.{Parts, parts_of, shard_of, IsWhole}
 use Rattle.pt_shard.proofs.Births.{issued_more, next_unborn, previous, previous_born, is_unborn_is, ended_is}
 use Rattle.pt_shard.proofs.Frames.{lives_not}
@@ -86,14 +87,14 @@ inserted_reading : (desk : ℕ) (key : Key) (r : ProcessView) (table mid : Table
     → (p : Pid) → process_at desk mid p ≡ cond (same_pid p (pid_of_key desk key)) (Some (r.me, r.state)) (process_at desk table p)
 inserted_reading desk key r table mid ins p = go (p.shard == desk) refl
   where
-    placed : (b : Bool) → names key p.slot p.version ≡ b → seen_process (at mid p.slot p.version) ≡ cond b (Some (r.me, r.state)) (seen_process (at table p.slot p.version))
+    placed : (b : Bool) → names key p.slot p.version ≡ b → read_of (at mid p.slot p.version) ≡ cond b (Some (r.me, r.state)) (read_of (at table p.slot p.version))
     placed true n = rw (ins.live p.slot p.version, n) refl
     placed false n = rw (ins.live p.slot p.version, n) refl
 
     go : (a : Bool) → (p.shard == desk) ≡ a → process_at desk mid p ≡ cond (same_pid p (pid_of_key desk key)) (Some (r.me, r.state)) (process_at desk table p)
     go true h =
         let same = names_is key p desk (eqb-true p.shard desk h) in
-        subst (λ b. cond b (seen_process (at mid p.slot p.version)) None ≡ cond (same_pid p (pid_of_key desk key)) (Some (r.me, r.state)) (cond b (seen_process (at table p.slot p.version)) None)) (sym h)
+        subst (λ b. cond b (read_of (at mid p.slot p.version)) None ≡ cond (same_pid p (pid_of_key desk key)) (Some (r.me, r.state)) (cond b (read_of (at table p.slot p.version)) None)) (sym h)
         (placed (same_pid p (pid_of_key desk key)) same)
     go false h = rw h refl
 

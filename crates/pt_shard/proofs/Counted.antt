@@ -12,10 +12,11 @@ use Rattle.pt_shard.specs.ShardState.{lives, phase_of}
 use Rattle.pt_shard.specs.Fit.{latest_pid}
 use Rattle.pt_shard.specs.Living.{living_in, living_count}
 use Rattle.pt_shard.specs.Sound.{of_phase}
-use Rattle.pt_shard.specs.Processes.{Table, seen_process, process_at}
+use Rattle.pt_shard.specs.Processes.{Table, process_at}
+use Rattle.pt_shard.specs.Reading.{read_of}
 use Rattle.pt_shard.specs.Whole.{Parts, shard_of, IsWhole}
 
-is_seen : (o : Option ProcessView) → is_some (seen_process o) ≡ is_some o
+is_seen : (o : Option ProcessView) → is_some (read_of o) ≡ is_some o
 is_seen None = refl
 is_seen (Some v) = refl
 

@@ -9,7 +9,8 @@ use Rattle.pt_slots.specs.State.{at, issued}
 use Rattle.pt_shard.specs.ShardState.{phase_of, past}
 use Rattle.pt_shard.specs.Known.{issued_in}
 use Rattle.pt_shard.specs.Sound.{is_issued, of_phase}
-use Rattle.pt_shard.specs.Processes.{Table, process_at, seen_process}
+use Rattle.pt_shard.specs.Processes.{Table, process_at}
+use Rattle.pt_shard.specs.Reading.{read_of}
 use Rattle.pt_shard.specs.Whole.{Parts, shard_of, IsWhole}
 use Rattle.pt_shard.specs.InTurn.{IsInTurn}
 
@@ -50,7 +51,7 @@ module _ (a : Parts) (whole : IsWhole a) (beyond : (slot : ℕ) → a.processes.
           absurd (cc)
       go (living s) is =
           let none : process_at a.processes.desk a.processes.table p ≡ None
-          = ap (λ o. cond (p.shard == a.processes.desk) (seen_process o) None) (none_earlier a.processes.table p.slot p.version earlier)
+          = ap (λ o. cond (p.shard == a.processes.desk) (read_of o) None) (none_earlier a.processes.table p.slot p.version earlier)
           ∙ rw (eq-eqb p.shard a.processes.desk was.here) refl in
           let some : process_at a.processes.desk a.processes.table p ≡ Some (p, s) = whole.sound.processes p ∙ ap (of_phase p) is in
           absurd (cc)

@@ -11,7 +11,8 @@ use Rattle.pt_slots.specs.Calls.{Written}
 use Rattle.pt_slots.proofs.Steps.{written}
 use Rattle.pt_process.specs.ProcessView.{ProcessView, Owing, owing_of}
 use Rattle.pt_shard.specs.Acts.{HasRoomIf}
-use Rattle.pt_shard.specs.Processes.{Table, seen_process, in_place, process_at, living_at, key_at, changed, is_place_of, Changes, Ends, IsSameTable, HasRoomFor}
+use Rattle.pt_shard.specs.Processes.{Table, in_place, process_at, living_at, key_at, changed, is_place_of, Changes, Ends, IsSameTable, HasRoomFor}
+use Rattle.pt_shard.specs.Reading.{read_of}
 use Rattle.pt_shard.proofs.Acting.{own_place}
 use Rattle.pt_shard.proofs.Vacancy.{same_place}
 
@@ -24,7 +25,7 @@ module _ (desk : ℕ) (table : Table) (p : Pid) (was : ProcessView) (found : Som
       go false e k = absurd (cc)
 
   pub there : Some (was.me, was.state) ≡ process_at desk table p
-  there = let e = here in rw (eq-eqb p.shard desk e.0) (sym (ap seen_process e.1))
+  there = let e = here in rw (eq-eqb p.shard desk e.0) (sym (ap read_of e.1))
 
   -- given back with its state changed by f
   module _ (f : Pid → ProcessState → ProcessState) (now : ProcessView) (me : now.me ≡ was.me) (state : now.state ≡ f was.me was.state) where
@@ -32,7 +33,7 @@ module _ (desk : ℕ) (table : Table) (p : Pid) (was : ProcessView) (found : Som
     wrote_it = written table (key_at p) was here.1 now
 
     value : changed f (in_place table p) ≡ Some (now.me, now.state)
-    value = ap (λ o. changed f (seen_process o)) here.1 ∙ λ i. Some (sym me i, sym state i)
+    value = ap (λ o. changed f (read_of o)) here.1 ∙ λ i. Some (sym me i, sym state i)
 
     pub given_back : Changes p f table (with_value table (key_at p) now)
     given_back = record {
@@ -44,9 +45,9 @@ module _ (desk : ℕ) (table : Table) (p : Pid) (was : ProcessView) (found : Som
     }
       where
         go : (b : Bool) (slot version : ℕ) → is_place_of p slot version ≡ b
-            → seen_process (at (with_value table (key_at p) now) slot version) ≡ cond (is_place_of p slot version) (changed f (in_place table p)) (seen_process (at table slot version))
-        go true slot version h = let e = wrote_it.live slot version in rw h (ap seen_process e ∙ rw h (sym value))
-        go false slot version h = let e = wrote_it.live slot version in rw h (ap seen_process e ∙ rw h refl)
+            → read_of (at (with_value table (key_at p) now) slot version) ≡ cond (is_place_of p slot version) (changed f (in_place table p)) (read_of (at table slot version))
+        go true slot version h = let e = wrote_it.live slot version in rw h (ap read_of e ∙ rw h (sym value))
+        go false slot version h = let e = wrote_it.live slot version in rw h (ap read_of e ∙ rw h refl)
 
   -- given back with room for one more link
   pub roomy : (now : ProcessView) (link : Option LinkId) → HasRoomIf link now → HasRoomFor link p (with_value table (key_at p) now)
@@ -62,14 +63,14 @@ module _ (desk : ℕ) (table : Table) (p : Pid) (was : ProcessView) (found : Som
       record { live = λ slot version. go (is_place_of p slot version) slot version refl; settings = back.puts.settings; next = back.next }
     where
       there_is : in_place table p ≡ Some (now.me, now.state)
-      there_is = ap seen_process here.1 ∙ λ i. Some (sym me i, sym state i)
+      there_is = ap read_of here.1 ∙ λ i. Some (sym me i, sym state i)
 
-      go : (b : Bool) (slot version : ℕ) → is_place_of p slot version ≡ b → seen_process (at (with_value table (key_at p) now) slot version) ≡ seen_process (at table slot version)
+      go : (b : Bool) (slot version : ℕ) → is_place_of p slot version ≡ b → read_of (at (with_value table (key_at p) now) slot version) ≡ read_of (at table slot version)
       go true slot version h =
           let e = same_place p slot version h in
           let back = (given_back (λ q s. s) now me state).puts.live slot version in
-          let held : seen_process (at table slot version) ≡ Some (now.me, now.state)
-          = sym (ap (λ x. seen_process (at table x p.version)) e.0 ∙ ap (λ x. seen_process (at table slot x)) e.1) ∙ there_is in
+          let held : read_of (at table slot version) ≡ Some (now.me, now.state)
+          = sym (ap (λ x. read_of (at table x p.version)) e.0 ∙ ap (λ x. read_of (at table slot x)) e.1) ∙ there_is in
           back ∙ rw h (value (λ q s. s) now me state ∙ sym held)
       go false slot version h = (given_back (λ q s. s) now me state).puts.live slot version ∙ rw h refl
 
@@ -98,5 +99,5 @@ pub nobody : (desk : ℕ) (table : Table) (p : Pid) → None ≡ living_at desk 
 nobody desk table p none = go (p.shard == desk) refl none
   where
     go : (b : Bool) → (p.shard == desk) ≡ b → None ≡ cond b (at table p.slot p.version) None → process_at desk table p ≡ None
-    go true e k = rw e (sym (ap seen_process k))
+    go true e k = rw e (sym (ap read_of k))
     go false e k = rw e refl

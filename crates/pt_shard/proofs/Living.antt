@@ -8,7 +8,8 @@ use Rattle.pt_process.specs.ProcessView.{ProcessView}
 use Rattle.pt_events.specs.History.{Phase, unborn, living, ended, is_living}
 use Rattle.pt_shard.specs.ShardState.{lives, phase_of}
 use Rattle.pt_shard.specs.Sound.{of_phase}
-use Rattle.pt_shard.specs.Processes.{Table, seen_process, process_at}
+use Rattle.pt_shard.specs.Processes.{Table, process_at}
+use Rattle.pt_shard.specs.Reading.{read_of}
 use Rattle.pt_shard.specs.Whole.{Parts, shard_of, IsWhole}
 
 -- what is live in a slot has the slot's latest version
@@ -25,14 +26,14 @@ phase_seen p unborn h = absurd (cc)
 phase_seen p (living s) h = refl
 phase_seen p (ended r s) h = absurd (cc)
 
-seen_some : (o : Option ProcessView) → is_some (seen_process o) ≡ true → is_some o ≡ true
+seen_some : (o : Option ProcessView) → is_some (read_of o) ≡ true → is_some o ≡ true
 seen_some None h = absurd (cc)
 seen_some (Some v) h = refl
 
 at_home : (desk : ℕ) (table : Table) (p : Pid) → is_some (process_at desk table p) ≡ true → (p.shard ≡ desk) × (is_some (at table p.slot p.version) ≡ true)
 at_home desk table p h = go (p.shard == desk) refl h
   where
-    go : (b : Bool) → (p.shard == desk) ≡ b → is_some (cond b (seen_process (at table p.slot p.version)) None) ≡ true → (p.shard ≡ desk) × (is_some (at table p.slot p.version) ≡ true)
+    go : (b : Bool) → (p.shard == desk) ≡ b → is_some (cond b (read_of (at table p.slot p.version)) None) ≡ true → (p.shard ≡ desk) × (is_some (at table p.slot p.version) ≡ true)
     go true e k = (eqb-true p.shard desk e, seen_some (at table p.slot p.version) k)
     go false e k = absurd (cc)
 

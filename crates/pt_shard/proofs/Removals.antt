@@ -7,7 +7,8 @@ use Rattle.pt_slots.specs.declared.Key.{Key}
 use Rattle.pt_slots.specs.State.{at}
 use Rattle.pt_slots.specs.Calls.{Removed}
 use Rattle.pt_process.specs.ProcessView.{ProcessView, Owing, owing_of}
-use Rattle.pt_shard.specs.Processes.{Table, Ends, seen_process, in_place, is_place_of}
+use Rattle.pt_shard.specs.Processes.{Table, Ends, in_place, is_place_of}
+use Rattle.pt_shard.specs.Reading.{read_of}
 
 abbrev key_at : Pid → Key
 key_at p = record { slot = p.slot; version = p.version }
@@ -18,7 +19,7 @@ key_is k p s v = λ i. record { slot = s i; version = v i }
 removed_at : (p : Pid) (reason : Reason) (r : ProcessView) (owing : Owing) (old new : Table) → owing ≡ owing_of r.me r.state reason
     → Removed (key_at p) r old new → Ends p reason owing old new
 removed_at p reason r owing old new owes removed =
-    let there : in_place old p ≡ Some (r.me, r.state) = ap seen_process removed.was_live in
+    let there : in_place old p ≡ Some (r.me, r.state) = ap read_of removed.was_live in
     record {
       owes = subst (λ o. IfSome o (λ x. owing ≡ owing_of x.0 x.1 reason)) (sym there) owes;
       lived = subst IsSome (sym there) refl;
@@ -30,9 +31,9 @@ removed_at p reason r owing old new owes removed =
       offers = removed.offers;
     }
   where
-    go : (b : Bool) (slot version : ℕ) → is_place_of p slot version ≡ b → seen_process (at new slot version) ≡ cond (is_place_of p slot version) None (seen_process (at old slot version))
-    go true slot version h = let e = removed.live slot version in rw h (ap seen_process e ∙ rw h refl)
-    go false slot version h = let e = removed.live slot version in rw h (ap seen_process e ∙ rw h refl)
+    go : (b : Bool) (slot version : ℕ) → is_place_of p slot version ≡ b → read_of (at new slot version) ≡ cond (is_place_of p slot version) None (read_of (at old slot version))
+    go true slot version h = let e = removed.live slot version in rw h (ap read_of e ∙ rw h refl)
+    go false slot version h = let e = removed.live slot version in rw h (ap read_of e ∙ rw h refl)
 
 pub taken_out : (k : Key) (p : Pid) (reason : Reason) (r : ProcessView) (owing : Owing) (old new : Table) → k.slot ≡ p.slot → k.version ≡ p.version
     → owing ≡ owing_of r.me r.state reason → Removed k r old new → Ends p reason owing old new

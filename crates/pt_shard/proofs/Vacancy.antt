@@ -14,19 +14,20 @@ use Rattle.pt_process.specs.ProcessView.{ProcessView}
 use Rattle.pt_shard.specs.ShardState.{ShardState, phase_of, lives}
 use Rattle.pt_shard.specs.Fit.{IsNextBirth, latest_version, latest_pid}
 use Rattle.pt_shard.specs.Sound.{of_phase}
-use Rattle.pt_shard.specs.Processes.{Table, seen_process, process_at, in_place, is_place_of, changed, pid_of_key, vacant_at, Changes, IsSameTable}
+use Rattle.pt_shard.specs.Processes.{Table, process_at, in_place, is_place_of, changed, pid_of_key, vacant_at, Changes, IsSameTable}
+use Rattle.pt_shard.specs.Reading.{read_of}
 
 -- what is offered where the slots read alike ---------------------------------------------------
 
-still_seen : (o : Option ProcessView) (v : Option (Pid × ProcessState)) → seen_process o ≡ v → IsSome v → IsSome o
+still_seen : (o : Option ProcessView) (v : Option (Pid × ProcessState)) → read_of o ≡ v → IsSome v → IsSome o
 still_seen None v is some = absurd (let none = subst IsSome (sym is) some in cc)
 still_seen (Some r) v is some = refl
 
-unseen : (o : Option ProcessView) → seen_process o ≡ None → o ≡ None
+unseen : (o : Option ProcessView) → read_of o ≡ None → o ≡ None
 unseen None is = refl
 unseen (Some r) is = absurd (cc)
 
-seen_some : (o : Option ProcessView) → IsSome o → IsSome (seen_process o)
+seen_some : (o : Option ProcessView) → IsSome o → IsSome (read_of o)
 seen_some None some = absurd (cc)
 seen_some (Some r) some = refl
 
@@ -58,7 +59,7 @@ pub offers_same : (old new : Table) → OffersTheFree old → IsSameTable old ne
 offers_same old new offers same =
     offers_kept old new offers same.next same.settings.issues same.settings.capacity same.settings.top_version
     (λ slot version some. still_seen _ _ (same.live slot version) (seen_some _ some))
-    (λ slot version none. unseen _ (same.live slot version ∙ ap seen_process none))
+    (λ slot version none. unseen _ (same.live slot version ∙ ap read_of none))
 
 pub same_place : (p : Pid) (slot version : ℕ) → is_place_of p slot version ≡ true → (p.slot ≡ slot) × (p.version ≡ version)
 same_place p slot version h = (grind (arith, nat_tests), grind (arith, nat_tests))
@@ -71,15 +72,15 @@ pub offers_changed : (p : Pid) (f : Pid → ProcessState → ProcessState) (old 
 offers_changed p f old new offers changes =
     offers_kept old new offers changes.next changes.puts.settings.issues changes.puts.settings.capacity changes.puts.settings.top_version
     (λ slot version some. still_seen _ _ (changes.puts.live slot version) (kept slot version (is_place_of p slot version) refl (seen_some _ some)))
-    (λ slot version none. unseen _ (changes.puts.live slot version ∙ gone slot version (is_place_of p slot version) refl (ap seen_process none)))
+    (λ slot version none. unseen _ (changes.puts.live slot version ∙ gone slot version (is_place_of p slot version) refl (ap read_of none)))
   where
-    kept : (slot version : ℕ) (b : Bool) → is_place_of p slot version ≡ b → IsSome (seen_process (at old slot version)) → IsSome (cond (is_place_of p slot version) (changed f (in_place old p)) (seen_process (at old slot version)))
+    kept : (slot version : ℕ) (b : Bool) → is_place_of p slot version ≡ b → IsSome (read_of (at old slot version)) → IsSome (cond (is_place_of p slot version) (changed f (in_place old p)) (read_of (at old slot version)))
     kept slot version true h some =
         let e = same_place p slot version h in
         rw h (changed_some f (in_place old p) (rw (e.0, e.1) some))
     kept slot version false h some = rw h some
 
-    gone : (slot version : ℕ) (b : Bool) → is_place_of p slot version ≡ b → seen_process (at old slot version) ≡ None → cond (is_place_of p slot version) (changed f (in_place old p)) (seen_process (at old slot version)) ≡ None
+    gone : (slot version : ℕ) (b : Bool) → is_place_of p slot version ≡ b → read_of (at old slot version) ≡ None → cond (is_place_of p slot version) (changed f (in_place old p)) (read_of (at old slot version)) ≡ None
     gone slot version true h none =
         let e = same_place p slot version h in
         rw (h, e.0, e.1, none) refl
@@ -87,7 +88,7 @@ offers_changed p f old new offers changes =
 
 -- the same by the journal ------------------------------------------------------------------------
 
-seen_is : (o : Option ProcessView) → is_some (seen_process o) ≡ is_some o
+seen_is : (o : Option ProcessView) → is_some (read_of o) ≡ is_some o
 seen_is None = refl
 seen_is (Some r) = refl
 
@@ -103,7 +104,7 @@ module _ (d : ShardState) (table : Table) (processes : (p : Pid) → process_at 
     lives_is : (slot : ℕ) → lives d (latest_pid d slot) ≡ is_some (at table slot (latest_version d slot))
     lives_is slot =
         let p : Pid = latest_pid d slot in
-        let here : process_at d.number table p ≡ seen_process (at table slot (latest_version d slot)) = rw (eq-eqb d.number d.number refl) refl in
+        let here : process_at d.number table p ≡ read_of (at table slot (latest_version d slot)) = rw (eq-eqb d.number d.number refl) refl in
         sym (living_is p (phase_of d p)) ∙ ap is_some (sym (processes p) ∙ here) ∙ seen_is (at table slot (latest_version d slot))
 
     taken_is : (slot : ℕ) → IsTakenOrRetired table slot → (lives d (latest_pid d slot) ≡ true) ⊎ (latest_version d slot ≡ d.config.top_version)

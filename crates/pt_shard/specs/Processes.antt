@@ -9,6 +9,7 @@ use Rattle.pt_slots.specs.declared.Key.{Key}
 use Rattle.pt_slots.specs.State.{SlotsState, at, issued, next_key, with_value}
 use Rattle.pt_slots.specs.Offers.{OffersTheFree}
 use Rattle.pt_process.specs.ProcessView.{ProcessView, Owing, owing_of}
+use Rattle.pt_shard.specs.Reading.{read_of}
 
 abbrev pub Table : Type 0
 Table = SlotsState ProcessView
@@ -18,13 +19,9 @@ pub record ProcessesState : Type 0 where
   pub desk : ℕ
   pub table : Table
 
-abbrev pub seen_process : Option ProcessView → Option (Pid × ProcessState)
-seen_process None = None
-seen_process (Some r) = Some (r.me, r.state)
-
 -- what the slots of the desk have for p
 abbrev pub process_at : ℕ → Table → Pid → Option (Pid × ProcessState)
-process_at desk table p = cond (p.shard == desk) (seen_process (at table p.slot p.version)) None
+process_at desk table p = cond (p.shard == desk) (read_of (at table p.slot p.version)) None
 
 -- the process p, if it stands in the slots of the desk
 abbrev pub living_at : ℕ → Table → Pid → Option ProcessView
@@ -57,7 +54,7 @@ is_place_of p slot version = (p.slot == slot) && (p.version == version)
 
 -- what stands in the place of p
 abbrev pub in_place : Table → Pid → Option (Pid × ProcessState)
-in_place table p = seen_process (at table p.slot p.version)
+in_place table p = read_of (at table p.slot p.version)
 
 pub record SameSettings (old new : Table) : Type 0 where
   pub issues : (slot : ℕ) → issued new slot ≡ issued old slot
@@ -67,7 +64,7 @@ pub record SameSettings (old new : Table) : Type 0 where
 -- v stands in the place of p, and all else is as before
 pub record Puts (p : Pid) (v : Option (Pid × ProcessState)) (old new : Table) : Type 0 where
   pub live : (slot version : ℕ)
-      → seen_process (at new slot version) ≡ cond (is_place_of p slot version) v (seen_process (at old slot version))
+      → read_of (at new slot version) ≡ cond (is_place_of p slot version) v (read_of (at old slot version))
   pub settings : SameSettings old new
 
 -- the state of p is changed by f, and which slot is vacant is not
@@ -77,7 +74,7 @@ pub record Changes (p : Pid) (f : Pid → ProcessState → ProcessState) (old ne
 
 -- no process differs
 pub record IsSameTable (old new : Table) : Type 0 where
-  pub live : (slot version : ℕ) → seen_process (at new slot version) ≡ seen_process (at old slot version)
+  pub live : (slot version : ℕ) → read_of (at new slot version) ≡ read_of (at old slot version)
   pub settings : SameSettings old new
   pub next : next_key new ≡ next_key old
 

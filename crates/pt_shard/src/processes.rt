@@ -10,7 +10,8 @@ ghost use Rattle.pt_events.specs.History.{linked};
 ghost use Rattle.std.specs.Borrow.{sem};
 ghost use Rattle.std.specs.Option.{option_copied_mut};
 ghost use Rattle.pt_signal.specs.declared.config.TheConstants.{MAX_SLOTS};
-ghost use Rattle.pt_shard.specs.Processes.{living_at, seen_process, in_place, process_at, vacant_at, Changes, Ends, HasRoomFor};
+ghost use Rattle.pt_shard.specs.Processes.{living_at, in_place, process_at, vacant_at, Changes, Ends, HasRoomFor};
+ghost use Rattle.pt_shard.specs.Reading.{read_of};
 
 use pt_process::{Estate, Process};
 use pt_signal::{LinkId, Pid, Reason};
@@ -95,7 +96,7 @@ impl Processes {
 
     /// The process, if it is alive here.
     pub(crate) fn find(&self, p: Pid) -> Option<&Process>
-        ensures { seen_process (option_copied result) ≡ process_at self.now.desk self.now.table p }
+        ensures { read_of (option_copied result) ≡ process_at self.now.desk self.now.table p }
     {
         if p.shard != self.desk {
             return None;

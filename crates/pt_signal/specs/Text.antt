@@ -15,6 +15,7 @@ use Rattle.pt_signal.specs.declared.signal.Signal.{Signal}
 use Rattle.pt_signal.specs.declared.signal.Signal.TheVariants.{Message, Link, Unlink, LinkExit, Monitor, Demonitor}
 use Rattle.pt_signal.specs.declared.signal.Signal.TheVariants.{AliveAsk, AliveSay}
 use Rattle.pt_signal.specs.declared.letter.Letter.{Letter}
+use Rattle.pt_signal.specs.declared.letter.LeftOver.{LeftOver}
 
 -- `<shard.slot.version>`
 unfoldable pub pid_text : Pid → List ℕ
@@ -51,6 +52,15 @@ reason_text Killed = codes "killed"
 reason_text Noproc = codes "noproc"
 reason_text Shutdown = codes "shutdown"
 reason_text (Other number) = codes "other:" ++ decimal number
+
+-- what became of a process: `alive`, or `ended REASON`
+unfoldable pub fate_text : Option Reason → List ℕ
+fate_text None = codes "alive"
+fate_text (Some r) = codes "ended " ++ reason_text r
+
+abbrev pub true_or_false_text : Bool → List ℕ
+true_or_false_text true = codes "true"
+true_or_false_text false = codes "false"
 
 -- whether a process is alive
 unfoldable pub yes_or_no_text : Bool → List ℕ
@@ -91,3 +101,8 @@ route_text from to = pid_text from ++ codes " -> " ++ pid_text to
 -- `PID -> PID SIGNAL @STAMP`
 unfoldable pub letter_text : Letter → List ℕ
 letter_text l = route_text l.from l.to ++ codes " " ++ signal_text l.signal ++ codes " @" ++ decimal l.stamp
+
+-- `left-over DESK -> DESK LETTER`
+unfoldable pub left_over_text : LeftOver → List ℕ
+left_over_text l =
+    codes "left-over " ++ decimal l.from_desk ++ codes " -> " ++ decimal l.to_desk ++ codes " " ++ letter_text l.letter

@@ -1,5 +1,5 @@
 -- The plain values: when two of them are the same, and which items a selective receive takes.
-use Rattle.std.specs.Prelude.{Bool, true, false, cond, ◌==◌, ◌&&◌, List, [], ◌∷◌}
+use Rattle.std.specs.Prelude.{Bool, true, false, cond, ◌==◌, ◌&&◌, List, [], ◌∷◌, Option, None, Some}
 use Rattle.std.specs.declared.cmp.Ordering.{Ordering}
 use Rattle.std.specs.Ordering.{nat_cmp, on, then_cmp}
 use Rattle.pt_signal.specs.declared.pid.Pid.{Pid}
@@ -11,6 +11,11 @@ use Rattle.pt_signal.specs.declared.item.Pick.{Pick}
 
 abbrev pub same_pid : Pid → Pid → Bool
 same_pid p q = (p.shard == q.shard) && (p.slot == q.slot) && (p.version == q.version)
+
+-- there is a pid, and it is this one
+abbrev pub is_pid : Option Pid → Pid → Bool
+is_pid None p = false
+is_pid (Some q) p = same_pid q p
 
 -- by shard, then slot, then version
 abbrev pub pid_order : Pid → Pid → Ordering

@@ -17,7 +17,7 @@
 //! - **Order.** `Pid::cmp` orders pids by shard, slot and version.
 //! - **Settings.** `Config::out_of_range` returns the first setting out of its range, and `None` exactly if all are in
 //!   theirs.
-#![tactic(auto, unfolding(crate::specs::Text::pid_text, crate::specs::Text::ref_text, crate::specs::Text::link_id_text, crate::specs::Text::ids_text, crate::specs::Text::body_text, crate::specs::Text::reason_text, crate::specs::Text::yes_or_no_text, crate::specs::Text::item_text, crate::specs::Text::pick_text, crate::specs::Text::signal_text, crate::specs::Text::route_text, crate::specs::Text::letter_text))]
+#![tactic(auto, unfolding(crate::specs::Text::pid_text, crate::specs::Text::ref_text, crate::specs::Text::link_id_text, crate::specs::Text::ids_text, crate::specs::Text::body_text, crate::specs::Text::reason_text, crate::specs::Text::yes_or_no_text, crate::specs::Text::item_text, crate::specs::Text::pick_text, crate::specs::Text::signal_text, crate::specs::Text::route_text, crate::specs::Text::letter_text, crate::specs::Text::left_over_text, crate::specs::Text::fate_text))]
 
 mod config;
 mod ids;
@@ -32,7 +32,7 @@ pub use config::{Config, MAX_DESKS, MAX_LANE, MAX_SLOTS, MAX_STAMP, OpenError, S
 pub use ids::{Ids, LinkId, Ref};
 pub use item::{Body, Item, Pick};
 pub use laws::{defaults_stand, limits_stand};
-pub use letter::{Letter, Route};
+pub use letter::{LeftOver, Letter, Route};
 pub use pid::Pid;
-pub use reason::Reason;
+pub use reason::{Fate, Reason};
 pub use signal::Signal;

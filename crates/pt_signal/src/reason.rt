@@ -36,3 +36,21 @@ impl fmt::Display for Reason {
         }
     }
 }
+
+/// What became of a process, as it is printed: `alive`, or `ended` and the reason of its exit.
+#[derive(Clone, Copy, Debug)]
+pub struct Fate(pub Option<Reason>);
+
+impl fmt::Display for Fate {
+    ghost use Rattle.std.specs.Prelude.{Some};
+    ghost use Rattle.pt_signal.specs.Text.{fate_text};
+
+    ghost output = { λ f. Some (fate_text f.0) };
+
+    fn fmt<W: fmt::Write>(&self, f: &mut fmt::Formatter<W>) -> fmt::Result {
+        match self.0 {
+            Some(reason) => write!(f, "ended {reason}"),
+            None => f.write_str("alive"),
+        }
+    }
+}

@@ -18,7 +18,7 @@ use Rattle.pt_signal.specs.declared.signal.Signal.TheVariants.{AliveAsk, AliveSa
 use Rattle.pt_events.specs.declared.event.Event.{Event}
 use Rattle.pt_events.specs.declared.event.Event.TheVariants.{Born, Said, Came, Took, Flag, Left, Refused}
 use Rattle.pt_events.specs.declared.event.Stamped.{Stamped}
-use Rattle.pt_gathered.specs.declared.left_over.LeftOver.{LeftOver}
+use Rattle.pt_signal.specs.declared.letter.LeftOver.{LeftOver}
 use Rattle.pt_accounts.specs.declared.account.Account.{Account}
 use Rattle.pt_signal.specs.declared.config.Config.{Config}
 use Rattle.pt_structs.specs.declared.types.PtPid.{PtPid}

@@ -10,7 +10,7 @@ use Rattle.pt_signal.specs.declared.item.Item.{Item}
 use Rattle.pt_signal.specs.declared.signal.Signal.{Signal}
 use Rattle.pt_events.specs.declared.event.Event.{Event}
 use Rattle.pt_events.specs.declared.event.Stamped.{Stamped}
-use Rattle.pt_gathered.specs.declared.left_over.LeftOver.{LeftOver}
+use Rattle.pt_signal.specs.declared.letter.LeftOver.{LeftOver}
 use Rattle.pt_shard.specs.declared.fault.Fault.{Fault}
 use Rattle.pt_shard.specs.ShardState.{ShardState, lives, state_in}
 use Rattle.pt_shard.specs.Known.{knows}

@@ -7,9 +7,8 @@ use Rattle.pt_signal.specs.declared.item.Pick.{Pick}
 use Rattle.pt_signal.specs.declared.signal.Signal.{Signal}
 use Rattle.pt_events.specs.declared.event.Event.{Event}
 use Rattle.pt_events.specs.declared.event.Event.TheVariants.{Born, Said, Came, Took, Flag, Left, Refused}
-use Rattle.pt_signal.specs.Text.{pid_text, link_id_text, item_text, pick_text, signal_text, route_text}
+use Rattle.pt_signal.specs.Text.{pid_text, link_id_text, item_text, pick_text, signal_text, route_text, left_over_text}
 use Rattle.pt_events.specs.Text.{parent_text, link_text, switch_text, event_text, stamped_text}
-use Rattle.pt_texts.specs.Text.{left_over_line}
 use Rattle.pt_texts.specs.Steps.{behind, before, pair}
 use Rattle.pt_texts.specs.Readers.{pid_at, item_at, pick_at, signal_at, route_at, switch_at, parent_at, birth_link_at, birth_at, event_at, stamped_at, left_over_at}
 use Rattle.pt_texts.specs.Fits.{FitsIfAny, FitsPid, FitsLinkId, FitsItem, FitsPick, FitsSignal, FitsEvent, FitsStamped, FitsLeftOver}
@@ -118,10 +117,10 @@ stamped_reads =
     mapped_reads _ _ _ _ all FitsStamped stamped_text (λ x. record { stamp = x.0; desk = x.1.0; event = x.1.1 }) (λ v. (v.stamp, (v.desk, v.event))) (λ v. refl)
     (λ x. simp (append_assoc) refl) (λ x f. (f.0, f.1.0, f.1.1)) (λ v f. (f.0, (f.1, f.2)))
 
-pub left_over_reads : Reads FitsLeftOver NoDigit left_over_line left_over_at
-unfolding left_over_line left_over_at
+pub left_over_reads : Reads FitsLeftOver NoDigit left_over_text left_over_at
+unfolding left_over_text left_over_at
 left_over_reads =
     let letters = spaced _ _ _ _ u8_reads _ _ _ _ letter_reads (λ y. refl) in
     let desks = pair_reads _ _ _ _ u8_reads _ _ _ _ (before_reads _ _ _ _ letters (codes " -> ")) (λ y r s. refl) in
-    mapped_reads _ _ _ _ (before_reads _ _ _ _ desks (codes "left-over ")) FitsLeftOver left_over_line (λ x. record { from_desk = x.0; to_desk = x.1.0; letter = x.1.1 })
+    mapped_reads _ _ _ _ (before_reads _ _ _ _ desks (codes "left-over ")) FitsLeftOver left_over_text (λ x. record { from_desk = x.0; to_desk = x.1.0; letter = x.1.1 })
     (λ l. (l.from_desk, (l.to_desk, l.letter))) (λ l. refl) (λ x. simp (append_assoc) refl) (λ x f. (f.0, f.1.0, f.1.1)) (λ l f. (f.0, (f.1, f.2)))

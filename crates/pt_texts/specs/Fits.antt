@@ -18,7 +18,7 @@ use Rattle.pt_signal.specs.declared.letter.Letter.{Letter}
 use Rattle.pt_events.specs.declared.event.Event.{Event}
 use Rattle.pt_events.specs.declared.event.Event.TheVariants.{Born, Said, Came, Took, Flag, Left, Refused}
 use Rattle.pt_events.specs.declared.event.Stamped.{Stamped}
-use Rattle.pt_texts.specs.declared.left_over.LeftOver.{LeftOver}
+use Rattle.pt_signal.specs.declared.letter.LeftOver.{LeftOver}
 use Rattle.pt_texts.specs.declared.records.Record.{Record}
 use Rattle.pt_texts.specs.declared.records.Record.TheVariants.{Head, Last, Clock, Lives, Waits, Linked, Watches, Watched}
 use Rattle.pt_texts.specs.declared.records.Record.TheVariants.{Ended, End}

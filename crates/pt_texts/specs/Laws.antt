@@ -1,9 +1,9 @@
 -- No two values print alike.
 use Rattle.std.specs.Prelude.{◌≡◌, ℕ, List}
-use Rattle.pt_signal.specs.Text.{pid_text, ref_text, link_id_text, ids_text, body_text, reason_text, item_text}
+use Rattle.pt_signal.specs.Text.{pid_text, ref_text, link_id_text, ids_text, body_text, reason_text, item_text, left_over_text}
 use Rattle.pt_signal.specs.Text.{pick_text, signal_text, letter_text}
 use Rattle.pt_events.specs.Text.{event_text, stamped_text}
-use Rattle.pt_texts.specs.Text.{left_over_line, record_text}
+use Rattle.pt_texts.specs.Text.{record_text}
 use Rattle.pt_texts.specs.Fits.{FitsPid, FitsRef, FitsLinkId, FitsIds, FitsBody, FitsReason, FitsItem, FitsPick}
 use Rattle.pt_texts.specs.Fits.{FitsSignal, FitsLetter, FitsEvent, FitsStamped, FitsLeftOver, FitsRecord}
 
@@ -24,5 +24,5 @@ pub record AllPrintApart : Type 0 where
   pub letters : PrintsApart FitsLetter letter_text
   pub events : PrintsApart FitsEvent event_text
   pub lines : PrintsApart FitsStamped stamped_text
-  pub left_overs : PrintsApart FitsLeftOver left_over_line
+  pub left_overs : PrintsApart FitsLeftOver left_over_text
   pub records : PrintsApart FitsRecord record_text

@@ -1,16 +1,10 @@
--- The printed texts of a letter left over, and of a line of a state.
+-- The printed text of a line of a state.
 use Rattle.std.specs.Prelude.{ℕ, List, [], ◌∷◌, ◌++◌, codes, decimal}
 use Rattle.pt_signal.specs.Text.{pid_text, ref_text, ids_text, reason_text, yes_or_no_text, item_text, letter_text}
 use Rattle.pt_events.specs.Text.{stamped_text}
-use Rattle.pt_texts.specs.declared.left_over.LeftOver.{LeftOver}
 use Rattle.pt_texts.specs.declared.records.Record.{Record}
 use Rattle.pt_texts.specs.declared.records.Record.TheVariants.{Head, Last, Clock, Lives, Waits, Linked, Watches, Watched}
 use Rattle.pt_texts.specs.declared.records.Record.TheVariants.{Ended, End}
-
--- `left-over DESK -> DESK LETTER`
-unfoldable pub left_over_line : LeftOver → List ℕ
-left_over_line l =
-    codes "left-over " ++ decimal l.from_desk ++ codes " -> " ++ decimal l.to_desk ++ codes " " ++ letter_text l.letter
 
 -- a line of a state, without its line feed
 unfoldable pub record_text : Record → List ℕ

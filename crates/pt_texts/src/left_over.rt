@@ -1,4 +1,4 @@
-//! A letter that was sent and did not arrive.
+//! The reader of a letter that was sent and did not arrive, as in the last lines of a printed history.
 
 ghost use Rattle.pt_texts.specs.Readers.{left_over_at};
 ghost use Rattle.pt_texts.specs.Steps.{ReaderGives};
@@ -6,17 +6,7 @@ ghost use Rattle.pt_texts.specs.Steps.{ReaderGives};
 use crate::numbers::u8_at;
 use crate::signals::letter_at;
 use crate::steps::{Read, word_at};
-use pt_signal::Letter;
-
-/// A letter that was sent and did not arrive before the desks were gathered, as in the last lines of a printed history.
-#[derive(Clone, Copy, Debug, PartialEq, Eq)]
-pub struct LeftOver {
-    /// The desk of its sender.
-    pub from_desk: u8,
-    /// The desk of its receiver.
-    pub to_desk: u8,
-    pub letter: Letter,
-}
+use pt_signal::LeftOver;
 
 #[tactic(auto, unfolding(crate::specs::Readers::left_over_at))]
 pub(crate) fn left_over_at(text: &[u8]) -> Read<'_, LeftOver>

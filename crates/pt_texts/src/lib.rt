@@ -23,10 +23,10 @@ mod steps;
 mod values;
 
 pub use laws::no_two_print_alike;
-pub use left_over::LeftOver;
 pub use parse::{
     Refused, parse_body, parse_event, parse_ids, parse_item, parse_left_over, parse_letter,
     parse_link_id, parse_pick, parse_pid, parse_reason, parse_ref, parse_signal, parse_stamped,
     read_record,
 };
+pub use pt_signal::LeftOver;
 pub use records::Record;

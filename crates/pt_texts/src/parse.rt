@@ -1,9 +1,8 @@
 //! Whole texts.
 
-ghost use Rattle.pt_signal.specs.Text.{pid_text, ref_text, link_id_text, ids_text, body_text, reason_text, item_text};
+ghost use Rattle.pt_signal.specs.Text.{pid_text, ref_text, link_id_text, ids_text, body_text, reason_text, item_text, left_over_text};
 ghost use Rattle.pt_signal.specs.Text.{pick_text, signal_text, letter_text};
 ghost use Rattle.pt_events.specs.Text.{event_text, stamped_text};
-ghost use Rattle.pt_texts.specs.Text.{left_over_line};
 ghost use Rattle.std.specs.Prelude.{◌≡◌};
 ghost use Rattle.pt_texts.specs.Steps.{Read as Got, ReaderGives};
 ghost use Rattle.pt_texts.specs.Readers.{pid_at, ref_at, link_id_at, ids_at, body_at, reason_at, item_at, pick_at};
@@ -13,7 +12,7 @@ ghost use Rattle.pt_texts.specs.Fits.{FitsSignal, FitsLetter, FitsEvent, FitsSta
 ghost use Rattle.pt_texts.specs.Parsing.{Parses, ReadsRecord, finished, viewed};
 
 use crate::events::{event_at, stamped_at};
-use crate::left_over::{LeftOver, left_over_at};
+use crate::left_over::left_over_at;
 use crate::records::{Record, line_at};
 use crate::signals::{item_at, letter_at, pick_at, signal_at};
 use crate::steps::Read;
@@ -135,7 +134,7 @@ pub fn parse_stamped(text: &[u8]) -> Result<Stamped, Refused>
 
 /// A letter left over, as `left-over 0 -> 1 <0.0.1> -> <1.0.1> message 1 1 @2`.
 pub fn parse_left_over(text: &[u8]) -> Result<LeftOver, Refused>
-    ensures { Parses FitsLeftOver left_over_line left_over_at text.now result }
+    ensures { Parses FitsLeftOver left_over_text left_over_at text.now result }
 {
     finish(text, left_over_at(text))
 }

@@ -1,6 +1,6 @@
 -- What was before the journals of desks stays, whatever is done to them.
 use Rattle.std.proofs.Common.{◌≡◌, ℕ, suc, ◌<◌, List, [], ◌∷◌, ◌++◌, length, get_or, refl, ◌∙◌, ap, arith}
-use Rattle.pt_gathered.specs.Gathered.{start_of}
+use Rattle.pt_beginning.specs.Beginning.{start_of}
 use Rattle.pt_desk.specs.DeskState.{DeskState}
 use Rattle.pt_workers.specs.Desks.{all_shards}
 

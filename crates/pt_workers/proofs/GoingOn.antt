@@ -8,8 +8,7 @@ use Rattle.pt_carrier.specs.Node.{IsNode}
 use Rattle.pt_signal.specs.declared.config.Config.{Config}
 use Rattle.pt_desk.specs.DeskState.{DeskState, GoesOn, place}
 use Rattle.pt_desk.proofs.Turning.{extends, goes_on_then}
-use Rattle.pt_gathered.specs.Beginning.{IsBeginning}
-use Rattle.pt_gathered.specs.Gathered.{start_of}
+use Rattle.pt_beginning.specs.Beginning.{IsBeginning, start_of}
 use Rattle.pt_workers.specs.Desks.{AreDesksOf, AreDesks, all_shards}
 use Rattle.pt_workers.specs.Running.{AllGoOn}
 use Rattle.pt_workers.proofs.Begun.{starts_stay}

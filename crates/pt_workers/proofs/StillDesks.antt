@@ -14,8 +14,7 @@ use Rattle.pt_shard.specs.ShardState.{ShardState}
 use Rattle.pt_desk.specs.Sight.{Sight}
 use Rattle.pt_desk.specs.DeskState.{DeskState, place}
 use Rattle.pt_events.specs.History.{Start}
-use Rattle.pt_gathered.specs.Beginning.{IsBeginning}
-use Rattle.pt_gathered.specs.Gathered.{start_of}
+use Rattle.pt_beginning.specs.Beginning.{IsBeginning, start_of}
 use Rattle.pt_workers.specs.Desks.{AreDesks, AreDesksOf, IsStill, all_shards, desk_kept}
 use Rattle.pt_workers.proofs.Begun.{starts_stay}
 

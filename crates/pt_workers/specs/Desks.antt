@@ -6,8 +6,7 @@ use Rattle.pt_carrier.specs.Node.{IsNode, kept}
 use Rattle.pt_signal.specs.declared.config.Config.{Config}
 use Rattle.pt_shard.specs.ShardState.{ShardState}
 use Rattle.pt_directory.specs.Seats.{DirectoryState}
-use Rattle.pt_gathered.specs.Beginning.{IsBeginning}
-use Rattle.pt_gathered.specs.Gathered.{start_of}
+use Rattle.pt_beginning.specs.Beginning.{IsBeginning, start_of}
 use Rattle.pt_desk.specs.Sight.{Sight}
 use Rattle.pt_desk.specs.DeskState.{DeskState, GoesOn, IsDesk, IsAccounted, place}
 

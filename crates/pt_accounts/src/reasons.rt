@@ -5,23 +5,11 @@
 //!
 //! # Cost
 //! `push` takes constant time. `get` finds its run by halves.
-//!
-//! Tests: `checks/tried/test_calls/reasons.rt.txt`.
-//!
-//! # What is proved
-//!
-//! - **Each reason.** `get` returns at each place the reason that was added there, and `None` behind the last one.
-//!   (`listed`)
-//! - **Runs.** `runs` returns the runs in order. Each is of one reason at least, and no two that follow one another have
-//!   the same reason. So there are as many runs as changes of reason, and one. (`AreRuns`)
-//! - **Filled.** After `fill` there are as many reasons as before, and each is the given one. (`listed`)
-//! - **Failures.** `push` fails only for want of memory, or if 2^32 - 1 reasons are kept. Nothing has changed then.
-#![tactic(auto)]
 
 ghost use Rattle.std.specs.Prelude.{◌≡◌, ◌+◌, ◌-◌, ◌*◌, ◌≤◌, ◌<◌, ◌^◌, ◌++◌, ◌∷◌, [], OnOk, OnErr, None, length, slice_get};
 ghost use Rattle.std.specs.Prelude.{min, replicate};
-ghost use Rattle.pt_reasons.specs.Runs.{AreRuns, expanded};
-ghost use Rattle.pt_reasons.specs.Runs as spec;
+ghost use Rattle.pt_accounts.specs.Runs.{AreRuns, expanded};
+ghost use Rattle.pt_accounts.specs.Runs as spec;
 
 use pt_signal::Reason;
 use std::alloc::{AllocError, Global};
@@ -44,7 +32,7 @@ pub struct Reasons {
 
 impl Model for Reasons {
     ghost use Rattle.std.specs.Prelude.{None, vec_capacity, vec_len, ◌-◌};
-    ghost use Rattle.pt_reasons.specs.Runs.{AreRuns, ReasonsState, expanded};
+    ghost use Rattle.pt_accounts.specs.Runs.{AreRuns, ReasonsState, expanded};
 
     ghost Value = { ReasonsState };
 

@@ -1,8 +1,8 @@
 -- `Reasons::len`: the number of reasons.
 use Rattle.std.proofs.Common.{◌≡◌, ◌-◌, length, slice_get, Some, None, ap, sym, subst, ◌∙◌, arith}
-use Rattle.pt_reasons.specs.Runs.{AreRuns, expanded, ReasonsState}
-use Rattle.pt_reasons.proofs.Ends.{counted, end_is}
-use Rattle.pt_reasons.proofs.Reasons.len.Goals as goal
+use Rattle.pt_accounts.specs.Runs.{AreRuns, expanded, ReasonsState}
+use Rattle.pt_accounts.proofs.Ends.{counted, end_is}
+use Rattle.pt_accounts.proofs.reasons.Reasons.len.Goals as goal
 
 pub returns-in-Some-clause-len : goal.returns-in-Some-clause-len
 returns-in-Some-clause-len c =

@@ -1,10 +1,10 @@
 -- `Reasons::push_reserved`: one more reason.
 use Rattle.std.proofs.Common.{◌≡◌, ℕ, ◌+◌, ◌++◌, ◌∷◌, [], length, List, MatchOption, Option, refl, None, true, false, ap, sym, subst, ◌∙◌, arith}
-use Rattle.pt_reasons.specs.declared.Run.{Run}
-use Rattle.pt_reasons.specs.Runs.{expanded, last_is, ReasonsState}
-use Rattle.pt_reasons.proofs.Ends.{Pushes, pushed_longer, begun}
-use Rattle.pt_reasons.proofs.Reasons.push_reserved.Goals as goal
-use Rattle.pt_reasons.proofs.Reasons.push_reserved.Goals.{then-last_is, else-last_is}
+use Rattle.pt_accounts.specs.declared.reasons.Run.{Run}
+use Rattle.pt_accounts.specs.Runs.{expanded, last_is, ReasonsState}
+use Rattle.pt_accounts.proofs.Ends.{Pushes, pushed_longer, begun}
+use Rattle.pt_accounts.proofs.reasons.Reasons.push_reserved.Goals as goal
+use Rattle.pt_accounts.proofs.reasons.Reasons.push_reserved.Goals.{then-last_is, else-last_is}
 
 popped_none : (old : List Run) (n m : ℕ) (o : Option Run) → length old ≡ n → MatchOption o ((n ≡ 0) × (m ≡ 0)) (λ _. m + 1 ≡ n) → o ≡ None → old ≡ []
 popped_none [] n m o count cases none = refl

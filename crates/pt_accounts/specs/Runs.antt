@@ -2,7 +2,7 @@
 use Rattle.std.specs.Prelude.{◌≡◌, ℕ, ◌-◌, ◌<◌, Bool, false, List, [], ◌∷◌, ◌++◌, replicate, Option, Some, ⊤}
 use Rattle.pt_signal.specs.declared.reason.Reason.{Reason}
 use Rattle.pt_signal.specs.contracts.reason.ReasonPartialEq.TheImpl.{ghosts as of_reason}
-use Rattle.pt_reasons.specs.declared.Run.{Run}
+use Rattle.pt_accounts.specs.declared.reasons.Run.{Run}
 
 pub record ReasonsState : Type 0 where
   -- the reasons, the first one in front

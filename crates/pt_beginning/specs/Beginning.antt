@@ -1,5 +1,6 @@
 -- The state that a node goes on from.
-use Rattle.std.specs.Prelude.{◌≡◌, ℕ, ◌<◌, false, []}
+use Rattle.std.specs.Prelude.{◌≡◌, ℕ, ◌<◌, false, List, []}
+use Rattle.std.specs.List.{flat_map}
 use Rattle.pt_signal.specs.declared.pid.Pid.{Pid}
 use Rattle.pt_events.specs.History.{Past, Start, at_start, is_unborn}
 use Rattle.pt_laws.specs.Load.{IsStart}
@@ -7,6 +8,11 @@ use Rattle.pt_laws.specs.Links.{IsKnownSaid, IsBornHome}
 use Rattle.pt_events.specs.OldRefs.{HasOldRefs}
 use Rattle.pt_laws.specs.Resumed.{IsLeftBy, MadeUpTo}
 use Rattle.pt_laws.specs.Words.{HasOneEntryEach, KeepsEachOnce}
+use Rattle.pt_shard.specs.ShardState.{ShardState}
+
+-- what was before the journals of all desks: what was before each, one desk after the other
+abbrev pub start_of : List ShardState → Start
+start_of shards = flat_map (λ (s : ShardState). s.start) shards
 
 -- a legal and quiet history, as desks make them, has left it behind, and what was made before is numbered up to low;
 -- why processes ended may be forgotten

@@ -3,10 +3,10 @@ use Rattle.std.proofs.Common.{◌≡◌, leb, length, slice_get, Some, None, ref
 use Rattle.std.specs.Option.{option_map}
 use Rattle.std.proofs.lemmas.List.Sorted.{IsPartitionPoint-from_clause}
 use Rattle.std.proofs.lemmas.Option.{slice_get_read}
-use Rattle.pt_reasons.specs.declared.Run.{Run}
-use Rattle.pt_reasons.specs.Runs.{AreRuns, expanded, ReasonsState}
-use Rattle.pt_reasons.proofs.Ends.{at_place, parted, is_within, is_past, past_all}
-use Rattle.pt_reasons.proofs.Reasons.get.Goals as goal
+use Rattle.pt_accounts.specs.declared.reasons.Run.{Run}
+use Rattle.pt_accounts.specs.Runs.{AreRuns, expanded, ReasonsState}
+use Rattle.pt_accounts.proofs.Ends.{at_place, parted, is_within, is_past, past_all}
+use Rattle.pt_accounts.proofs.reasons.Reasons.get.Goals as goal
 
 pub returns-in-Some : goal.returns-in-Some
 returns-in-Some c =

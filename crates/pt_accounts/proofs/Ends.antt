@@ -9,8 +9,8 @@ use Rattle.std.proofs.lemmas.Grind.{common_steps}
 use Rattle.std.proofs.lemmas.Bool.Decides.{nat_tests}
 use Rattle.pt_signal.specs.declared.reason.Reason.{Reason}
 use Rattle.pt_signal.specs.contracts.reason.ReasonPartialEq.TheImpl.{ghosts as of_reason}
-use Rattle.pt_reasons.specs.declared.Run.{Run}
-use Rattle.pt_reasons.specs.Runs.{AreRuns, expanded, last_is}
+use Rattle.pt_accounts.specs.declared.reasons.Run.{Run}
+use Rattle.pt_accounts.specs.Runs.{AreRuns, expanded, last_is}
 
 pub reason_is : (a b : Reason) → of_reason.eq a b ≡ true → a ≡ b
 reason_is a b h = grind (arith, common_steps)

@@ -1,9 +1,9 @@
 -- `Reasons::fill`: the same reason in each place.
 use Rattle.std.proofs.Common.{◌≡◌, ◌++◌, ◌∷◌, [], length, replicate, None, ap, ◌∙◌}
 use Rattle.std.specs.Prelude.{option_to_list}
-use Rattle.pt_reasons.specs.Runs.{AreRuns, expanded, ReasonsState}
-use Rattle.pt_reasons.proofs.Ends.{filled}
-use Rattle.pt_reasons.proofs.Reasons.fill.Goals as goal
+use Rattle.pt_accounts.specs.Runs.{AreRuns, expanded, ReasonsState}
+use Rattle.pt_accounts.proofs.Ends.{filled}
+use Rattle.pt_accounts.proofs.reasons.Reasons.fill.Goals as goal
 
 whole : (c : goal.After-shrink_to) → AreRuns 0 None c.shrink_to.new.self.items × (expanded 0 c.shrink_to.new.self.items ≡ replicate (length (expanded 0 c.self.inside.runs.items)) c.args.reason)
 whole c =

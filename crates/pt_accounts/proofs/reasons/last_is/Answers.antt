@@ -1,7 +1,7 @@
 -- `last_is`: whether the last run is of a reason.
 use Rattle.std.proofs.Common.{◌≡◌, ◌-◌, length, slice_get, sym, ◌∙◌, Some}
-use Rattle.pt_reasons.proofs.Ends.{ends_is}
-use Rattle.pt_reasons.proofs.last_is.Goals as goal
+use Rattle.pt_accounts.proofs.Ends.{ends_is}
+use Rattle.pt_accounts.proofs.reasons.last_is.Goals as goal
 
 pub returns-in-Some : goal.returns-in-Some
 returns-in-Some c =
