@@ -19,11 +19,12 @@ import shutil
 import subprocess
 import sys
 import tempfile
+from collections import Counter
 from dataclasses import dataclass
 from pathlib import Path
 
 sys.dont_write_bytecode = True
-from unproved import Fault, command, kit  # noqa: E402
+from unproved import Fault, command, kit, toolchain_with  # noqa: E402
 
 ROOT = Path(__file__).resolve().parent.parent
 PROGRAM = "pt_c_unproved"
@@ -96,23 +97,11 @@ def program(all_exports: list[Export], folder: Path) -> None:
                    "fn main(rt: HostRuntime) {\n    if std::hint::black_box(false) {\n" + body + "    }\n}\n")
 
 
-def toolchain_with_a_copy(tools: Path, folder: Path) -> Path:
-    """A toolchain whose clang keeps the program's module, and then fails."""
-    (folder / "bin").mkdir(parents=True)
-    for name in ("lib", *(f"bin/{it.name}" for it in (tools / "toolchain/bin").iterdir())):
-        if name != "bin/clang":
-            (folder / name).symlink_to(tools / "toolchain" / name)
-    clang = folder / "bin/clang"
-    # (the program's own module is the one that is compiled with checks of memory)
-    clang.write_text(f'#!/bin/sh\ncase "$*" in\n*-fsanitize=address*) cp module.bc "{folder}/module.bc"; exit 1 ;;\nesac\n'
-                     f'exec "{tools}/toolchain/bin/clang" "$@"\n')
-    clang.chmod(0o755)
-    return folder
-
-
 def module(tools: Path, folder: Path) -> str:
     """The program's module, as text."""
-    kept = toolchain_with_a_copy(tools, folder / "toolchain")
+    kept = folder / "toolchain"
+    # (it keeps the module, and then fails)
+    toolchain_with(tools, kept, f'cp module.bc "{kept}/module.bc"; exit 1')
     words = [str(kept) if it == f"{tools}/toolchain" else it for it in command(folder, PROGRAM, ["--seconds", "60"])]
     ran = subprocess.run(words, cwd=folder / "crates" / PROGRAM, stdin=subprocess.DEVNULL, capture_output=True, text=True,
                          check=False)
@@ -134,13 +123,20 @@ def with_external(text: str, all_exports: list[Export]) -> str:
     """The module with the exports external, under names of their own, and without a program's entry."""
     text = text.replace(" sanitize_address", "")
     text = re.sub(r"^define i32 @main\(\)", "define internal i32 @pt_entry()", text, flags=re.M)
+    listed = {(it.module, it.name) for it in all_exports}
+    found: Counter[tuple[str, str]] = Counter()
+
+    def inner(match: re.Match[str]) -> str:
+        export = (match[1], match[2])
+        found[export] += export in listed
+        return f"@inner_{match[2]}(" if export in listed else match[0]
+
+    # (a pass over all of the text for each export took minutes)
+    text = re.sub(rf'@"{PROGRAM}::(\w+)::(\w+)"\(', inner, text)
     for it in all_exports:
-        name = f'@"{PROGRAM}::{it.module}::{it.name}"'
-        if text.count(f"{name}(") < 2:
-            raise Fault(f"the module does not name {it.name} as {name}")
-        text = text.replace(f"{name}(", f"@inner_{it.name}(")
-        text = re.sub(rf"^define internal ([^@]*@inner_{it.name}\()", r"define \1", text, flags=re.M)
-    return text
+        if found[it.module, it.name] < 2:
+            raise Fault(f"the module does not name {it.name} as {PROGRAM}::{it.module}::{it.name}")
+    return re.sub(r"^define internal ([^@\n]*@inner_\w+\()", r"define \1", text, flags=re.M)
 
 
 def crossing(name: str, kind: str) -> tuple[list[str], list[str], list[str]]:

@@ -8,7 +8,7 @@
 - functions: functions of crates/*/src of more than 30 lines
 - prose: lines of the pages, outside of tables and code, of more than 300 letters
 - sentences: sentences of the pages, outside of tables and code, of more than 30 words
-- crates: crates of crates.txt, without those for something that came since the bound was set
+- crates: crates of crates.txt
 """
 from __future__ import annotations
 
@@ -20,15 +20,7 @@ from collections.abc import Iterator
 from pathlib import Path
 
 ROOT = Path(__file__).resolve().parent.parent
-BOUNDS = {"words": 0, "functions": 0, "prose": 0, "sentences": 0, "crates": 37}
-# the shell, the timers and names with their example, the explorer, and what was taken out of a crate so that its check holds less,
-# the node that goes on by itself, and the supervisors of a crew whose handlers are outside
-NEW = {
-    "pt_lines", "pt_answers", "pt_session", "pt_shell", "pt_timers", "pt_names", "pt_schedules", "pt_explore", "pt_explorer",
-    "pt_workers", "pt_table", "pt_registry", "pt_hands", "example_exchange", "pt_epochs", "pt_pauses",
-    "pt_places", "pt_tools", "pt_teams", "pt_structs", "pt_asking", "pt_doors", "pt_team_handles", "pt_handles", "pt_calls",
-    "pt_nodes",
-}
+BOUNDS = {"words": 0, "functions": 0, "prose": 0, "sentences": 0, "crates": 62}
 MOST_LINES = 30
 MOST_LETTERS = 300
 MOST_WORDS = 30
@@ -102,9 +94,8 @@ def sentences() -> list[str]:
 
 
 def crates() -> list[str]:
-    """The crates, without the new ones."""
-    listed = re.findall(r"^(\w+)[^:#\n]*:", (ROOT / "crates.txt").read_text(), re.M)
-    return [crate for crate in listed if crate not in NEW]
+    """The crates of crates.txt."""
+    return re.findall(r"^(\w+)[^:#\n]*:", (ROOT / "crates.txt").read_text(), re.M)
 
 
 def main() -> int:

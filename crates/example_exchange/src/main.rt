@@ -3,11 +3,10 @@
 //!
 //! # What is proved
 //!
-//! - **Calls.** Each call of a process ends once: by its answer, by the `DOWN` of the process that was asked, or by its
-//!   deadline. (`calls_end_once`)
-//! - **Names.** A name has the process that was registered last, until a `DOWN` of that process is heard.
-//!   (`names_keep_their_monitors`)
-//! - **The rest.** The program terminates without a fault. What it prints is compared.
+//! - **No fault.** The program terminates without a fault. No clause says that its lines and callers do what a telephone
+//!   does: what it prints is compared.
+//! - **Laws that it applies.** They hold of all calls and all names: a call ends once, and a name has the process that
+//!   was registered last, until the `DOWN` of its monitor is heard. (`calls_end_once`, `names_keep_their_monitors`)
 #![tactic(auto)]
 
 mod actor;

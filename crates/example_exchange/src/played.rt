@@ -61,8 +61,9 @@ pub struct Played {
 
 /// Plays a day of the exchange.
 ///
-/// Each call of a process ends once: by its answer, by the `DOWN` of the process that was asked, or by its deadline. A
-/// name has the process that was registered last, until a `DOWN` of that process is heard.
+/// It applies two laws, which hold of all calls and all names. A call ends once: by its answer, by the `DOWN` of the process
+/// that was asked, or by its deadline. A name has the process that was registered last, until the `DOWN` of its monitor
+/// is heard.
 pub fn play(alloc: Global) -> Result<Played>
     ensures calls { EndsFirst }
     ensures names { KeepMonitors }

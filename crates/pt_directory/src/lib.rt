@@ -33,7 +33,7 @@
 //!
 //! # What is proved
 //!
-//! - **Steps.** A desk writes only the words of its own slots, by six kinds of step. (`Rule`)
+//! - **Steps.** A desk writes only the words of its own slots, and only by the steps of the rule. (`Rule`)
 //! - **A desk sees its own exits.** `probe` returns a stamp for each process of the seat's own desk that has exited.
 //! - **What was seen stays seen.** `probe` returns a stamp for each process that this seat saw as exited before.
 //! - **Every answer is a read.** `probe` answers only after a read of the slot's word.
