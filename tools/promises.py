@@ -21,6 +21,30 @@ MOST = 300
 # a program that README shows whole, so its head is short
 WITHOUT = {"example_hello"}
 
+# What a reader asks, and the crates that answer it, those to read first in front.
+QUESTIONS = (
+    ("My message arrives once, and in order", ("pt_node", "pt_laws", "pt_carrier")),
+    ("A message that is lost is reported", ("pt_shard", "pt_gathered")),
+    ("A monitor delivers one `DOWN`, a link one exit signal", ("pt_laws", "pt_node", "pt_shard")),
+    ("A pid never reaches another process", ("pt_slots", "pt_shard")),
+    ("`NoProc` comes only after the exit", ("pt_directory", "pt_desk", "pt_node")),
+    ("What a call does, and when it fails", ("pt_shard", "pt_desk", "pt_node")),
+    ("What a turn does, and that turning ends", ("pt_desk", "pt_workers")),
+    ("The history is legal, and what it says of a process", ("pt_gathered", "pt_history", "pt_accounts")),
+    ("A node resumes with empty journals", ("pt_node", "pt_epochs", "pt_pauses")),
+    ("A handler gets each item, and no wake-up is lost", ("pt_crew", "pt_resting")),
+    ("A call is answered, or ends by a `DOWN` or a deadline", ("pt_crew", "pt_asking")),
+    ("A supervisor starts its children again", ("pt_supervisor", "pt_teams", "pt_pauses")),
+    ("A timer is never early; a name leads to its process", ("pt_timers", "pt_names", "pt_registry")),
+    ("From C, Rust or Python: a desk and its calls", ("pt_c", "pt_calls", "pt_table")),
+    ("From C, Rust or Python: processes that run code", ("pt_hands", "pt_teams", "pt_team_handles", "pt_asking", "pt_doors")),
+    ("A script is read, run and reported", ("pt_script", "pt_runner", "pt_report", "pt_run")),
+    ("Every schedule of a script", ("pt_schedules", "pt_explorer", "pt_explore")),
+    ("A printed history is judged", ("pt_auditor", "pt_texts", "pt_audit")),
+    ("A history is drawn, or printed for another tool", ("pt_chart", "pt_render")),
+    ("The shell", ("pt_lines", "pt_session", "pt_shell")),
+)
+
 HEAD = """# What each crate promises
 
 With this page you can look up what you may rely on in each crate, and the function or clause that carries it.
@@ -109,7 +133,8 @@ def unknown_names(crate: str, bullets: list[str], below: list[str]) -> list[str]
 
 def page() -> tuple[str, list[str]]:
     """The page, and the faults of the heads."""
-    parts, faults = [HEAD], []
+    questions, faults = index(set(crates()))
+    parts = [HEAD, questions]
     for crate, below in crates().items():
         head = head_of(crate)
         bullets = bullets_of(head)
@@ -117,6 +142,14 @@ def page() -> tuple[str, list[str]]:
         if bullets:
             parts.append(f"## `{crate}`\n{title_of(head)}\n\n" + "\n".join(bullets) + "\n")
     return "\n".join(parts), faults
+
+
+def index(listed: set[str]) -> tuple[str, list[str]]:
+    """The table of questions, with links to the sections, and the crates in it that are not there."""
+    rows = ["| Question | Sections |", "|---|---|"]
+    rows += [f"| {question} | {', '.join(f'[{it}](#{it})' for it in names)} |" for question, names in QUESTIONS]
+    faults = [f"tools/promises.py: no crate {it}" for _, names in QUESTIONS for it in names if it not in listed]
+    return "## By question\n" + "\n".join(rows) + "\n", faults
 
 
 def main() -> int:
