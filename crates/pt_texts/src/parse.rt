@@ -18,7 +18,7 @@ use crate::signals::{item_at, letter_at, pick_at, signal_at};
 use crate::steps::Read;
 use crate::values::{body_at, ids_at, link_id_at, pid_at, reason_at, ref_at};
 use pt_events::{Event, Stamped};
-use pt_signal::{Body, Ids, Item, Letter, LinkId, Pick, Pid, Reason, Ref, Signal};
+use pt_signal::{Body, Ids, Item, LeftOver, Letter, LinkId, Pick, Pid, Reason, Ref, Signal};
 use thiserror::Error;
 
 /// The text is not what a value prints.
