@@ -372,7 +372,7 @@ enum Actor<'a> {
 impl<'a> Behaviour for Actor<'a> {
     ghost use Rattle.std.specs.Prelude.{⊤};
 
-    ghost answers = { λ _ _ _ _ _ _ _ _. ⊤ };
+    ghost answers = { λ _ _ _ _ _ _ _ _ _. ⊤ };
 
     #[tactic(auto, using(pt_workers::proofs::GoingOn::stays))]
     fn handle(

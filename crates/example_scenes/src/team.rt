@@ -90,7 +90,7 @@ impl<'a> Behaviour for Member<'a> {
 impl<'a> Supervised for Member<'a> {
     ghost supervisor = { boss_of };
 
-    ghost supervises = { λ b d me item next now e births h. h };
+    ghost supervises = { λ time b d me item next now e births h. h };
 }
 
 /// A supervisor of three permanent children, which starts each again by itself, at most a hundred times.

@@ -514,9 +514,9 @@ module _ {B : Type 0} (past : Past) (part : PartOf B) where
 
   pub upheld : (answers : Answers B) → SuperviseAs answers part → IsUpheld answers (Keeps past part)
   upheld answers law = record {
-    acts = λ b d p item next now e births a. acts_as (part b) p item d next (part now) e (law b d p item next now e births a).0;
-    hands = λ b before p item was d next now e births h born taken a later. hands_as (part b) before p item was d next (part now) e h born taken later (law b d p item next now e births a).0;
-    bears = λ b d p item next now e births a. all_begin births (law b d p item next now e births a).1;
+    acts = λ time b d p item next now e births a. acts_as (part b) p item d next (part now) e (law time b d p item next now e births a).0;
+    hands = λ time b before p item was d next now e births h born taken a later. hands_as (part b) before p item was d next (part now) e h born taken later (law time b d p item next now e births a).0;
+    bears = λ time b d p item next now e births a. all_begin births (law time b d p item next now e births a).1;
     others = λ b next p d e h born later same. same_holds past (part b) next p d e h later same;
     ends = λ b r p d h born. ended_holds past (part b) r p d h;
     receives = λ b next p d l h born. received past (part b) next p d l h;

@@ -164,13 +164,14 @@ ActsAs (Some s) me item d next now e = (new : Standing) × (now ≡ Some new) ×
 
 -- so the behaviours of a program answer, and whoever of those that they bear is a supervisor begins as one
 abbrev pub AnswerAs : {B : Type 0} → PartOf B → Answers B
-AnswerAs part b d me item next now e births =
+AnswerAs part time b d me item next now e births =
     ActsAs (part b) me item d next (part now) e × AllBegin part births
 
 abbrev pub SuperviseAs : {B : Type 0} → Answers B → PartOf B → Type 0
 SuperviseAs {B} answers part =
-    (b : B) (d : ShardState) (me : Pid) (item : Option Item) (next : Next) (now : B) (e : ShardState)
-    (births : List (Role B)) → answers b d me item next now e births → AnswerAs part b d me item next now e births
+    (time : ℕ) (b : B) (d : ShardState) (me : Pid) (item : Option Item) (next : Next) (now : B) (e : ShardState)
+    (births : List (Role B)) → answers time b d me item next now e births
+    → AnswerAs part time b d me item next now e births
 
 -- nobody of the crew has anything to do
 abbrev pub IsIdle : {B : Type 0} → Crew B → ShardState → Type 0

@@ -311,5 +311,5 @@ impl Behaviour for Member {
 impl Supervised for Member {
     ghost supervisor = { boss_part };
 
-    ghost supervises = { λ b d me item next now e births h. h.0 };
+    ghost supervises = { λ time b d me item next now e births h. h.0 };
 }
