@@ -17,6 +17,8 @@ use Rattle.pt_desk.specs.DeskState.{DeskState}
 use Rattle.pt_desk.specs.Reaching.{Reaches, has_monitor_to_make}
 use Rattle.pt_crew.specs.declared.call_fault.CallFault.{CallFault}
 use Rattle.pt_crew.specs.declared.call_fault.CallFault.TheVariants.{Refused}
+use Rattle.pt_crew.specs.declared.call_fault.AskFault.{AskFault}
+use Rattle.pt_crew.specs.declared.call_fault.AskFault.TheVariants.{Unasked, LeftOpen}
 use Rattle.pt_crew.specs.Telling.{IfKnown}
 use Rattle.pt_crew.specs.declared.pending.Pending.{Pending}
 use Rattle.pt_crew.specs.declared.request.Request.{Request}
@@ -63,17 +65,25 @@ refusal (Ok done) = None
 refusal (Err (Refused NoProc)) = None
 refusal (Err f) = Some f
 
--- the monitor stands, and the request could not be sent: the monitor is given up, if that is not refused too
-pub record IsUnsent (me server : Pid) (asks : ℕ) (old : DeskState) (f : CallFault) (new : DeskState) : Type 0 where
+-- what the client is told of a request that could not be sent: the monitor that stands still, where it was refused to give
+-- it up
+abbrev pub unsent_fault : CallFault → Ref → Result Bool Fault → AskFault
+unsent_fault f m (Ok was_open) = Unasked f
+unsent_fault f m (Err why) = LeftOpen f m
+
+-- the monitor stands, and the request could not be sent: the monitor is given up, or the client is told that it is not
+pub record IsUnsent (me server : Pid) (asks : ℕ) (old : DeskState) (told_of : AskFault) (new : DeskState) : Type 0 where
   pub monitor : Ref
   pub watching : DeskState
   pub watches : Watches me server old (Ok monitor) watching
   pub untold : DeskState
   pub told : Result (Unit {0}) CallFault
   pub tells : SendsTo me server (request_message me monitor asks) watching told untold
-  pub refused : refusal told ≡ Some f
+  pub fault : CallFault
+  pub refused : refusal told ≡ Some fault
   pub given_up : Result Bool Fault
   pub gives_up : Unwatches me monitor untold given_up new
+  pub tells_client : told_of ≡ unsent_fault fault monitor given_up
 
 -- the call is made: its monitor stands, and its request went out; it has this deadline, or none
 pub record IsMade (me server : Pid) (asks : ℕ) (deadline : Option ℕ) (old : DeskState) (p : Pending)
@@ -90,9 +100,13 @@ pub record IsMade (me server : Pid) (asks : ℕ) (deadline : Option ℕ) (old : 
     number = pos p.monitor.number;
     deadline = deadline;
     waits = true;
+    left_open = false;
   }
 
-abbrev pub Asks : Pid → Pid → ℕ → Option ℕ → DeskState → Result Pending CallFault → DeskState → Type 0
+-- the monitor could not be made, for this fault
+abbrev pub IsUnwatched : Pid → Pid → DeskState → AskFault → DeskState → Type 0
+IsUnwatched me server old f new = (why : CallFault) × (f ≡ Unasked why) × Watches me server old (Err why) new
+
+abbrev pub Asks : Pid → Pid → ℕ → Option ℕ → DeskState → Result Pending AskFault → DeskState → Type 0
 Asks me server asks deadline old (Ok p) new = IsMade me server asks deadline old p new
-Asks me server asks deadline old (Err f) new =
-    Watches me server old (Err f) new ⊎ IsUnsent me server asks old f new
+Asks me server asks deadline old (Err f) new = IsUnwatched me server old f new ⊎ IsUnsent me server asks old f new

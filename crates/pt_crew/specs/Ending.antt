@@ -1,10 +1,12 @@
 -- How a call ends: by its answer, by the end of its server or by its deadline, once.
-use Rattle.std.specs.Prelude.{◌≡◌, ℕ, ◌+◌, cond, ◌&&◌, not, MatchBool, Bool, true, false, is_some, nat_le}
+use Rattle.std.specs.Prelude.{◌≡◌, ℕ, ◌+◌, cond, ◌&&◌, not, MatchBool, Bool, true, false, is_err, is_some, nat_le}
 use Rattle.std.specs.Prelude.{List, [], ◌∷◌, ◌++◌}
 use Rattle.std.specs.Prelude.{Option, Some, None, Result}
+use Rattle.std.specs.Bool.{then_some}
 use Rattle.std.specs.List.{list_any}
 use Rattle.std.specs.Ordering.{int_eq}
 use Rattle.pt_signal.specs.declared.pid.Pid.{Pid}
+use Rattle.pt_signal.specs.declared.ids.Ref.{Ref}
 use Rattle.pt_signal.specs.declared.reason.Reason.{Reason}
 use Rattle.pt_signal.specs.declared.item.Body.{Body}
 use Rattle.pt_signal.specs.declared.item.Item.{Item}
@@ -42,14 +44,27 @@ heard_by_call p item = heard_as p.waits (says_to_call p item)
 abbrev pub after_item : Pending → Item → Pending
 after_item p item = record p { waits = p.waits && not (is_some (says_to_call p item)) }
 
--- its monitor is given up, if that is not refused
-abbrev pub IsGivenUp : Pending → DeskState → DeskState → Type 0
-IsGivenUp p old new = (result : Result Bool Fault) × Unwatches p.client p.monitor old result new
+-- its monitor is given up; where that was refused, the call says that it is left open
+abbrev pub IsGivenUp : Pending → DeskState → Bool → DeskState → Type 0
+IsGivenUp p old left_open new =
+    (result : Result Bool Fault) × Unwatches p.client p.monitor old result new × (left_open ≡ is_err result)
 
--- as it ends its monitor is given up, if that is not refused; else nothing is done
-abbrev pub Closes : Pending → Item → DeskState → DeskState → Type 0
-Closes p item old new =
-    MatchBool (p.waits && is_some (says_to_call p item)) (IsGivenUp p old new) (new ≡ old)
+-- where the call ends its monitor is given up; else nothing is done
+abbrev pub ClosesIf : Bool → Pending → DeskState → Bool → DeskState → Type 0
+ClosesIf ends p old left_open new =
+    MatchBool ends (IsGivenUp p old left_open new) ((left_open ≡ p.left_open) × (new ≡ old))
+
+-- so it is as an item comes
+abbrev pub Closes : Pending → Item → DeskState → Bool → DeskState → Type 0
+Closes p item old left_open new = ClosesIf (p.waits && is_some (says_to_call p item)) p old left_open new
+
+-- the call, of which this is known
+abbrev pub noting : Bool → Pending → Pending
+noting left_open p = record p { left_open = left_open }
+
+-- the monitor that was left open as the call ended
+abbrev pub monitor_left : Pending → Option Ref
+monitor_left p = then_some p.left_open p.monitor
 
 -- the call has ended by what was heard
 abbrev pub is_end : Heard → Bool
@@ -93,9 +108,9 @@ is_expired p now = p.waits && is_due p now
 abbrev pub after_moment : Pending → ℕ → Pending
 after_moment p now = record p { waits = p.waits && not (is_due p now) }
 
--- as it ends its monitor is given up, if that is not refused; else nothing is done
-abbrev pub Expires : Pending → ℕ → DeskState → DeskState → Type 0
-Expires p now old new = MatchBool (is_expired p now) (IsGivenUp p old new) (new ≡ old)
+-- and as its deadline comes
+abbrev pub Expires : Pending → ℕ → DeskState → Bool → DeskState → Type 0
+Expires p now old left_open new = ClosesIf (is_expired p now) p old left_open new
 
 -- what a call is told of: an item that its client got, or the time
 pub data CallEvent : Type 0 where

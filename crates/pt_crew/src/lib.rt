@@ -54,11 +54,12 @@
 //! - **A call ends once.** It ends by its answer, by the `DOWN` of its server or by its deadline, whichever it is shown
 //!   first, and never by two of them. (`calls_end_once`)
 //! - **Asking.** `Pending::ask` makes a monitor and sends a request under its number, or fails, and then nothing was
-//!   asked. (`Asks`)
+//!   asked. Its monitor is cancelled then, or the failure has it. (`Asks`)
 //! - **Deadlines.** `Pending::expire` returns whether an open call ends by its deadline now, which is exactly if the
 //!   deadline is not above the time. (`is_expired`)
 //! - **Hearing.** `Pending::hear` returns whether an item is the answer, the exit of the server, late, or none of
 //!   these.
+//! - **Monitors of calls.** As a call ends its monitor is cancelled, or `left_open` returns it. (`IsGivenUp`)
 //! - **Alarms.** `Alarms::ring` sends each message that is due, in the order of time and starting, and none twice or
 //!   early. One that is refused memory or a stamp stays to be sent. (`Rings`)
 #![tactic(auto)]
@@ -78,7 +79,7 @@ mod upholds;
 pub use alarms::{Alarm, Alarms};
 pub use behaviour::{Behaviour, Next};
 pub use births::{Births, Role, spawn_child};
-pub use call_fault::CallFault;
+pub use call_fault::{AskFault, CallFault};
 pub use calls::{demonitor, exit_signal, link, monitor, send, trap, unlink};
 pub use crew::Crew;
 pub use pending::{Heard, Pending, calls_end_once};

@@ -3,11 +3,12 @@
 ghost use Rattle.std.specs.Prelude.{◌≡◌, ◌<◌, ◌^◌, None, Some, false, pos};
 ghost use Rattle.pt_desk.specs.DeskState.{GoesOn};
 ghost use Rattle.pt_crew.specs.Visiting.{takes};
-ghost use Rattle.pt_crew.specs.Asking.{Asks, refusal};
+ghost use Rattle.pt_crew.specs.Asking.{Asks, refusal, unsent_fault};
 ghost use Rattle.pt_crew.specs.Ending.{Closes, EndsFirst, EndsOnce, Expires, IsGivenUp, after_item, after_moment};
-ghost use Rattle.pt_crew.specs.Ending.{heard_by_call, is_answer_to_call, is_due, is_expired, is_pending, says_to_call, waits_until};
+ghost use Rattle.pt_crew.specs.Ending.{heard_by_call, is_answer_to_call, is_due, is_expired, is_pending, monitor_left};
+ghost use Rattle.pt_crew.specs.Ending.{noting, says_to_call, waits_until};
 
-use crate::call_fault::CallFault;
+use crate::call_fault::{AskFault, CallFault};
 use crate::calls::{demonitor, monitor, send};
 use crate::request::speaks_of;
 use pt_workers::{Body, Desk, Fault, Item, Pid, Reason, Ref};
@@ -40,6 +41,8 @@ pub struct Pending {
     /// The moment at which it ends, if it is open then.
     deadline: Option<u64>,
     waits: bool,
+    /// Whether it has ended and cancelling its monitor failed.
+    left_open: bool,
 }
 
 impl Pending {
@@ -47,9 +50,9 @@ impl Pending {
     ///
     /// Fails as [`monitor`] does, and nothing is asked then: with `Unknown`, `Gone`, `Myself`, `NoProc`, `Worn` or
     /// `Memory`. Fails with `Worn` or `Memory` too if the request could not be sent. The monitor is cancelled then. If
-    /// that fails as well, its `DOWN` may arrive, and belongs to no call. If the server is seen to have exited only as
-    /// the request is sent, the call is made, and ends by the `DOWN`.
-    pub fn ask(desk: &mut Desk, me: Pid, server: Pid, asks: u32) -> Result<Pending, CallFault>
+    /// that fails as well, the failure is [`AskFault::LeftOpen`], which has the monitor. If the server is seen to have
+    /// exited only as the request is sent, the call is made, and ends by the `DOWN`.
+    pub fn ask(desk: &mut Desk, me: Pid, server: Pid, asks: u32) -> Result<Pending, AskFault>
         ensures does { Asks me server asks None desk.old result desk.new }
         ensures takes { takes desk.new.shard.journal ≡ takes desk.old.shard.journal }
         ensures goes_on { GoesOn desk.old desk.new }
@@ -68,7 +71,7 @@ impl Pending {
         server: Pid,
         asks: u32,
         deadline: u64,
-    ) -> Result<Pending, CallFault>
+    ) -> Result<Pending, AskFault>
         ensures does { Asks me server asks (Some deadline) desk.old result desk.new }
         ensures takes { takes desk.new.shard.journal ≡ takes desk.old.shard.journal }
         ensures goes_on { GoesOn desk.old desk.new }
@@ -83,7 +86,7 @@ impl Pending {
         server: Pid,
         asks: u32,
         deadline: Option<u64>,
-    ) -> Result<Pending, CallFault>
+    ) -> Result<Pending, AskFault>
         ensures does { Asks me server asks deadline desk.old result desk.new }
         ensures takes { takes desk.new.shard.journal ≡ takes desk.old.shard.journal }
         ensures goes_on { GoesOn desk.old desk.new }
@@ -96,8 +99,7 @@ impl Pending {
             who: Some(me),
         };
         if let Some(fault) = refusal(send(desk, me, server, body)) {
-            let _ = demonitor(desk, me, reference);
-            return Err(fault);
+            return Err(unsent(fault, reference, demonitor(desk, me, reference)));
         }
         Ok(Pending {
             client: me,
@@ -106,6 +108,7 @@ impl Pending {
             number,
             deadline,
             waits: true,
+            left_open: false,
         })
     }
 
@@ -131,8 +134,8 @@ impl Pending {
     /// show the call what waits in the mailbox first, as Erlang's `receive .. after` does.
     pub fn expire(&mut self, desk: &mut Desk, now: u64) -> bool
         ensures expired { result ≡ is_expired self.old now }
-        ensures after { self.new ≡ after_moment self.old now }
-        ensures closes { Expires self.old now desk.old desk.new }
+        ensures after { self.new ≡ noting self.new.left_open (after_moment self.old now) }
+        ensures closes { Expires self.old now desk.old self.new.left_open desk.new }
         ensures takes { takes desk.new.shard.journal ≡ takes desk.old.shard.journal }
         ensures goes_on { GoesOn desk.old desk.new }
     {
@@ -146,11 +149,12 @@ impl Pending {
     /// Reads an item that the client got, and returns whether it is the answer of this call, or its `DOWN`, or neither.
     ///
     /// Once it has ended it never ends again: what else arrives for it is `Late`. As it ends, its monitor is cancelled.
-    /// If that fails for want of memory or stamps, the failure is ignored, since a `DOWN` that arrives then is `Late`.
+    /// If that fails for want of memory or stamps, [`Pending::left_open`] returns the monitor. A `DOWN` that arrives then
+    /// is `Late`.
     pub fn hear(&mut self, desk: &mut Desk, item: Item) -> Heard
         ensures heard { result ≡ heard_by_call self.old item }
-        ensures after { self.new ≡ after_item self.old item }
-        ensures closes { Closes self.old item desk.old desk.new }
+        ensures after { self.new ≡ noting self.new.left_open (after_item self.old item) }
+        ensures closes { Closes self.old item desk.old self.new.left_open desk.new }
         ensures takes { takes desk.new.shard.journal ≡ takes desk.old.shard.journal }
         ensures goes_on { GoesOn desk.old desk.new }
     {
@@ -164,15 +168,23 @@ impl Pending {
         said
     }
 
-    /// Ends the call, and cancels its monitor. If that fails, the failure is ignored.
+    /// The monitor that is still open, if cancelling it failed as the call ended: [`demonitor`] cancels it. If it is
+    /// left, its `DOWN` may arrive, which is `Late`.
+    pub fn left_open(&self) -> Option<Ref>
+        ensures { result ≡ monitor_left self.now }
+    {
+        self.left_open.then_some(self.monitor)
+    }
+
+    /// Ends the call, and cancels its monitor, or notes that this failed.
     fn close(&mut self, desk: &mut Desk)
-        ensures after { self.new ≡ record self.old { waits = false } }
-        ensures closes { IsGivenUp self.old desk.old desk.new }
+        ensures after { self.new ≡ noting self.new.left_open (record self.old { waits = false }) }
+        ensures closes { IsGivenUp self.old desk.old self.new.left_open desk.new }
         ensures takes { takes desk.new.shard.journal ≡ takes desk.old.shard.journal }
         ensures goes_on { GoesOn desk.old desk.new }
     {
         self.waits = false;
-        let _ = demonitor(desk, self.client, self.monitor);
+        self.left_open = demonitor(desk, self.client, self.monitor).is_err();
     }
 
     /// Whether the deadline has come, if there is one.
@@ -214,6 +226,16 @@ fn number_of(monitor: Ref) -> i64
     ensures { result ≡ pos monitor.number }
 {
     monitor.number as i64
+}
+
+/// What the client learns of a request that was not sent for this fault, once its monitor was to be cancelled.
+fn unsent(fault: CallFault, reference: Ref, cancelled: Result<bool, Fault>) -> AskFault
+    ensures { result ≡ unsent_fault fault reference cancelled }
+{
+    match cancelled {
+        Ok(_) => AskFault::Unasked(fault),
+        Err(_) => AskFault::LeftOpen(fault, reference),
+    }
 }
 
 /// The fault for which a request was not sent. That the server is seen to have exited is none: its `DOWN` arrives.

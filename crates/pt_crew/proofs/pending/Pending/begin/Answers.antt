@@ -18,9 +18,11 @@ returns-in-Some-clause-does c = inr (record {
   told = c.send.result;
   tells = subst (λ (n : ℤ). SendsTo c.args.me c.args.server (record { kind = c.args.asks; num = n; who = Some c.args.me }) c.monitor.new.desk c.send.result c.send.new.desk)
       (carried c.number_of-number.result c.in_ok-reference.reference.number c.number_of-number.ensures (monitor_fits c.args.me c.args.server c.args.desk.now c.in_ok-reference.reference c.monitor.new.desk c.in_ok-reference.ensures.does)) c.send.ensures.does;
+  fault = c.in-Some.fault;
   refused = sym c.refusal.ensures ∙ c.in-Some.is;
   given_up = c.demonitor.result;
   gives_up = c.demonitor.ensures.does;
+  tells_client = c.unsent.ensures;
 })
 
 pub returns-in-Some-clause-goes_on : goal.returns-in-Some-clause-goes_on
@@ -35,7 +37,7 @@ pub returns-clause-does : goal.returns-clause-does
 returns-clause-does c =
     let m = c.in_ok-reference.reference in
     let number = carried c.number_of-number.result m.number c.number_of-number.ensures (monitor_fits c.args.me c.args.server c.args.desk.now m c.monitor.new.desk c.in_ok-reference.ensures.does) in
-    let call : ℤ → Pending = λ n. record { client = c.args.me; server = c.args.server; monitor = m; number = n; deadline = c.args.deadline; waits = true } in
+    let call : ℤ → Pending = λ n. record { client = c.args.me; server = c.args.server; monitor = m; number = n; deadline = c.args.deadline; waits = true; left_open = false } in
     record {
       watching = c.monitor.new.desk;
       watches = c.in_ok-reference.ensures.does;
