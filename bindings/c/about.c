@@ -76,7 +76,8 @@ static void asking(void) {
     pt_post post;
     SAMPLE(pt_asking_about, s, pt_about_asking);
     pid(s.call.client); pid(s.call.server); ref(s.call.monitor);
-    TRUE(s.call.has_deadline); TRUE(s.call.waits); NEXT(s.call.deadline);
+    TRUE(s.call.has_deadline); TRUE(s.call.waits); TRUE(s.call.left_open);
+    NEXT(s.call.deadline);
     next = 0;
     pid(s.request.from); NEXT(s.request.asks); NEXT(s.request.number);
     next = 0;

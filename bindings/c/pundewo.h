@@ -251,10 +251,11 @@ typedef struct { char letters[32]; } pt_name;
 /* The process that has a name, and the monitor that it was registered with. */
 typedef struct { pt_pid pid; pt_ref monitor; } pt_holder;
 
-/* A call that was made: the server that it waits for, until when (`deadline`, where `has_deadline`), and whether it still
- * does. It is yours: keep it while it waits, and show it each item that its client gets (pt_hear). */
+/* A call that was made: the server that it waits for, until when (`deadline`, if `has_deadline`), and whether it still does.
+ * It is yours: keep it while it waits, and show it each item that its client gets (pt_hear). With `left_open` it has ended,
+ * and its monitor could not be cancelled: pt_demonitor of `client` and `monitor` does so. Else its DOWN may arrive. */
 typedef struct {
-    pt_pid client; pt_pid server; pt_ref monitor; bool has_deadline; bool waits; uint64_t deadline;
+    pt_pid client; pt_pid server; pt_ref monitor; bool has_deadline; bool waits; bool left_open; uint64_t deadline;
 } pt_call;
 
 /* A request that arrived: who asks, what, as a number of your own, and the number that its answer carries. */
@@ -351,18 +352,20 @@ uint32_t pt_has_letters(pt_desk *desk, bool *out);
 
 /* Asks a server: monitors it, and sends it the request under the number of the monitor. `out` gets the call. pt_ask_until
  * makes a call that ends at the moment `deadline` if it is open then (pt_expire); the moment may have passed. As
- * pt_monitor, and then nothing is asked; PT_WORN and PT_MEMORY too where the request was not sent, and then the monitor is
- * cancelled. If the server is seen to have exited only as the request is sent, the call is made, and its DOWN ends it. */
+ * pt_monitor, and then nothing is asked; PT_WORN and PT_MEMORY too if the request was not sent, and then the monitor is
+ * cancelled. If that fails too, `out` gets the call, which has ended and is `left_open`: the one case in which a call writes
+ * an output though it fails. If the server is seen to have exited only as the request is sent, the call is made, and its
+ * DOWN ends it. */
 uint32_t pt_ask(pt_desk *desk, pt_pid me, pt_pid server, uint32_t asks, pt_call *out);
 uint32_t pt_ask_until(pt_desk *desk, pt_pid me, pt_pid server, uint32_t asks, uint64_t deadline, pt_call *out);
 
 /* Reads an item that the client got: `out` gets what it means to the call. If the call ends by it, its monitor is
- * cancelled, and `waits` is false; a call ends once. PT_BAD_CODE. */
+ * cancelled (or `left_open` is true), and `waits` is false; a call ends once. PT_BAD_CODE. */
 uint32_t pt_hear(pt_desk *desk, pt_call *call, pt_item item, pt_heard *out);
 
 /* Reports the time: `out` gets whether the call ends by its deadline now, since it is open and the deadline is not above
- * `now`. Its monitor is cancelled then, and an answer that arrives later is LATE. So show the call what waits in the mailbox
- * first. */
+ * `now`. Its monitor is cancelled then (or `left_open` is true), and an answer that arrives later is LATE. So show the call
+ * what waits in the mailbox first. */
 uint32_t pt_expire(pt_desk *desk, pt_call *call, uint64_t now, bool *out);
 
 /* The request that the item is: a message that names its own sender. PT_BAD_CODE; PT_NOTHING: it is none. */

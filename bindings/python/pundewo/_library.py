@@ -127,7 +127,7 @@ class CHolder(c.Structure):
 
 class CCall(c.Structure):
     _fields_ = [("client", CPid), ("server", CPid), ("monitor", CRef), ("has_deadline", c.c_bool), ("waits", c.c_bool),
-                ("deadline", c.c_uint64)]
+                ("left_open", c.c_bool), ("deadline", c.c_uint64)]
 
 
 class CRequest(c.Structure):

@@ -103,8 +103,14 @@ impl Call {
         (self.raw.waits && self.raw.has_deadline).then_some(self.raw.deadline)
     }
 
+    /// The monitor that could not be cancelled as the call ended, for want of memory or stamps: [`Desk::demonitor`] cancels
+    /// it. If it is left, its `DOWN` may arrive, which is [`Heard::Late`].
+    pub fn left_open(&self) -> Option<Ref> {
+        self.raw.left_open.then_some(self.raw.monitor.into())
+    }
+
     /// Reads an item that the client got, and returns what it means to this call. If the call ends by it, its monitor is
-    /// cancelled. The desk is that of the client.
+    /// cancelled, or [`left_open`](Call::left_open) returns it. The desk is that of the client.
     pub fn hear(&mut self, desk: &mut Desk, item: Item) -> Heard {
         let mut out = RawHeard::default();
         unsafe { raw::pt_hear(desk.handle.own(), &mut self.raw, item.into(), &mut out) };
@@ -112,12 +118,46 @@ impl Call {
     }
 
     /// Reports the time, and returns whether the call ends by its deadline now: it is open, and the deadline is not above
-    /// `now`. Its monitor is cancelled then. Show the call first what waits in the mailbox: an answer that arrives later is
-    /// [`Heard::Late`].
+    /// `now`. Its monitor is cancelled then, as in [`hear`](Call::hear). Show the call first what waits in the mailbox: an
+    /// answer that arrives later is [`Heard::Late`].
     pub fn expire(&mut self, desk: &mut Desk, now: u64) -> bool {
         let mut out = false;
         unsafe { raw::pt_expire(desk.handle.own(), &mut self.raw, now, &mut out) };
         out
+    }
+}
+
+/// Why a request was not sent.
+#[derive(Clone, Copy, Debug, PartialEq, Eq, Hash)]
+pub struct AskFault {
+    /// Why the request was not sent.
+    pub fault: Fault,
+    /// The monitor of the call, if cancelling it failed too: [`Desk::demonitor`] cancels it. If it is left, its `DOWN` may
+    /// arrive, and belongs to no call.
+    pub left_open: Option<Ref>,
+}
+
+impl fmt::Display for AskFault {
+    fn fmt(&self, f: &mut fmt::Formatter<'_>) -> fmt::Result {
+        self.fault.fmt(f)?;
+        if self.left_open.is_some() { f.write_str(", and its monitor is still open") } else { Ok(()) }
+    }
+}
+
+impl std::error::Error for AskFault {}
+
+impl From<AskFault> for Fault {
+    fn from(asked: AskFault) -> Fault {
+        asked.fault
+    }
+}
+
+/// The call that was asked, or why it was not.
+fn asked(code: u32, raw: RawCall) -> Result<Call, AskFault> {
+    let call = Call { raw };
+    match told(code) {
+        Ok(()) => Ok(call),
+        Err(fault) => Err(AskFault { fault, left_open: call.left_open() }),
     }
 }
 
@@ -127,11 +167,11 @@ impl Desk {
     /// # Errors
     ///
     /// As [`monitor`](Desk::monitor), and nothing is asked then; [`Fault::Worn`] and [`Fault::Memory`] too if the request
-    /// was not sent, and the monitor is cancelled then.
-    pub fn ask(&mut self, me: Pid, server: Pid, asks: u32) -> Result<Call, Fault> {
+    /// was not sent. The monitor is cancelled then, or [`AskFault::left_open`] has it.
+    pub fn ask(&mut self, me: Pid, server: Pid, asks: u32) -> Result<Call, AskFault> {
         let mut raw = RawCall::default();
-        told(unsafe { raw::pt_ask(self.handle.own(), me, server, asks, &mut raw) })?;
-        Ok(Call { raw })
+        let code = unsafe { raw::pt_ask(self.handle.own(), me, server, asks, &mut raw) };
+        asked(code, raw)
     }
 
     /// Asks a server, by a call that ends at a moment if it is open then. The moment is a time of the program's own clock,
@@ -140,10 +180,10 @@ impl Desk {
     /// # Errors
     ///
     /// As [`ask`](Desk::ask).
-    pub fn ask_until(&mut self, me: Pid, server: Pid, asks: u32, deadline: u64) -> Result<Call, Fault> {
+    pub fn ask_until(&mut self, me: Pid, server: Pid, asks: u32, deadline: u64) -> Result<Call, AskFault> {
         let mut raw = RawCall::default();
-        told(unsafe { raw::pt_ask_until(self.handle.own(), me, server, asks, deadline, &mut raw) })?;
-        Ok(Call { raw })
+        let code = unsafe { raw::pt_ask_until(self.handle.own(), me, server, asks, deadline, &mut raw) };
+        asked(code, raw)
     }
 
     /// Answers a request: Erlang's `gen_server:reply`, at once or later.

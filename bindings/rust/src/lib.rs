@@ -76,7 +76,7 @@ pub mod team;
 mod tools;
 mod values;
 
-pub use asking::{Call, Door, Heard, Post, Request, WayIn, way_in};
+pub use asking::{AskFault, Call, Door, Heard, Post, Request, WayIn, way_in};
 pub use crew::{Crew, Job, Next, Node, NodeBack, NotTaken, What, go_on};
 pub use iterators::{Events, Journal, LeftOvers, Links, Living, Monitors, Pids, Waiting, Watchers};
 pub use reading::NotRead;

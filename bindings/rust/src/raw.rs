@@ -191,6 +191,7 @@ pub struct RawCall {
     pub monitor: RawRef,
     pub has_deadline: bool,
     pub waits: bool,
+    pub left_open: bool,
     pub deadline: u64,
 }
 

@@ -59,7 +59,7 @@ fields!(RawAnswer: pid next);
 fields!(RawTimer: at number);
 fields!(RawFired: timer body);
 fields!(RawHolder: pid monitor);
-fields!(RawCall: client server monitor has_deadline waits deadline);
+fields!(RawCall: client server monitor has_deadline waits left_open deadline);
 fields!(RawRequest: from asks number);
 fields!(RawHeard: code answer reason);
 fields!(RawPost: to body);

@@ -16,9 +16,11 @@ returns-in-Some-clause-does c deadline =
       told = c.send.result;
       tells = subst (λ (n : ℤ). SendsTo c.args.me c.args.server (record { kind = c.args.asks; num = n; who = Some c.args.me }) c.monitor.new.desk c.send.result c.send.new.desk)
           (carried c.number_of.result m.number c.number_of.ensures (monitor_fits c.args.me c.args.server c.args.desk.now m c.monitor.new.desk c.in_ok-reference.ensures.does)) c.send.ensures.does;
+      fault = c.in-Some.fault;
       refused = sym c.refusal.ensures ∙ c.in-Some.is;
       given_up = c.demonitor.result;
       gives_up = c.demonitor.ensures.does;
+      tells_client = c.unsent.ensures;
     })
 
 pub returns-in-Some-clause-goes_on : goal.returns-in-Some-clause-goes_on
