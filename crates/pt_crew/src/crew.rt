@@ -744,6 +744,7 @@ fn tend<B: Behaviour + Drop>(
 
 /// Passes a process its first matching item, or `None` if there is no such item and its time is over.
 #[tactic(auto, using(pt_desk::proofs::Turning::goes_on_then, crate::proofs::Takes::idle_is))]
+#[inline(always)]
 fn receive<B: Behaviour + Drop>(
     member: &mut Member<B>,
     births: &mut Births<B>,

@@ -22,8 +22,8 @@
 //!   at the desk of the process that sends on.
 //! - **Work left.** A crew has work exactly while a process is queued or waits to enter; a porter also while it knows
 //!   of a message. (`busy`)
-//! - **The work within.** A `RestingWork` does what its work does. A `Clocked` work sets its work's time, and does what
-//!   that does then.
+//! - **The work within.** A `RestingWork` does what its work does. A `Clocked` work sets its work's time to one that its
+//!   source says, and does what that does then. (`says`)
 //! - **Next time.** A crew that attends its desk has no process outside its queue that waits until an earlier time than
 //!   the one it tells. (`next`)
 #![tactic(auto)]
