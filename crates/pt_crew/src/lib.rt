@@ -39,6 +39,8 @@
 //!   process that has something to do as the step begins is in the first round. (`first`)
 //! - **Item or time.** A process that waits until a time gets the first item that fits, or `None` once its time has come,
 //!   and never both. Each process whose time has come as a step begins is in the first round. (`steps`, `due`)
+//! - **One time.** Each behaviour that runs in a step answers at the time of the step, which `Births::now` returns.
+//!   (`SeesTo`, `Answers`)
 //! - **Timers.** A process has a timer exactly while it waits until a time and is not in the queue, so none is left over.
 //!   `next_time` returns the earliest of their times. (`Attends`)
 //! - **Leaving.** A process leaves a crew only by its exit, and is returned as it was. (`left`, `take_left`)

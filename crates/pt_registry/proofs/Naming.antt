@@ -38,6 +38,10 @@ pub unregistered_one : (n : Name) (old : NamesState) (o : Option Holder) (new : 
 unregistered_one n old (Some h) new s u = removed old new s n h.pid (ap (option_map (λ (x : Holder). x.pid)) u.0) (s.has_name n h u.0) u.1
 unregistered_one n old None new s u = subst IsOneToOne (sym u.1) s
 
+pub forgotten_one : (p : Pid) (old : NamesState) (o : Option Name) (new : NamesState) → IsOneToOne old → Forgets p old o new → IsOneToOne new
+forgotten_one p old (Some n) new s u = removed old new s n p (s.has_process p n u.0) u.0 u.1
+forgotten_one p old None new s u = subst IsOneToOne (sym u.1) s
+
 -- a name that is freed leaves each name one process's
 pub frees_one : (h : Holder) (old : NamesState) (o : Option Name) (new : NamesState) → IsOneToOne old → FreesName h old o new → IsOneToOne new
 frees_one h old (Some n) new s u = unregistered_one n old (Some h) new s u
