@@ -33,7 +33,7 @@ QUESTIONS = (
     ("The history is legal, and what it says of a process", ("pt_gathered", "pt_history", "pt_accounts")),
     ("A node resumes with empty journals", ("pt_node", "pt_epochs", "pt_pauses")),
     ("A handler gets each item, and no wake-up is lost", ("pt_crew", "pt_resting")),
-    ("A call is answered, or ends by a `DOWN` or a deadline", ("pt_crew", "pt_asking")),
+    ("A call is answered, or ends by a `DOWN` or a deadline", ("pt_pending", "pt_asking")),
     ("A supervisor starts its children again", ("pt_supervisor", "pt_teams", "pt_pauses")),
     ("A timer is never early; a name leads to its process", ("pt_timers", "pt_names", "pt_registry")),
     ("From C, Rust or Python: a desk and its calls", ("pt_c", "pt_calls", "pt_table")),

@@ -7,14 +7,15 @@ use Rattle.pt_signal.specs.declared.item.Item.{Item}
 use Rattle.pt_desk.specs.DeskState.{DeskState, GoesOn}
 use Rattle.pt_crew.specs.declared.call_fault.CallFault.{CallFault}
 use Rattle.pt_crew.specs.declared.call_fault.CallFault.TheVariants.{Unknown, Refused}
-use Rattle.pt_crew.specs.declared.call_fault.AskFault.{AskFault}
-use Rattle.pt_crew.specs.declared.call_fault.AskFault.TheVariants.{Unasked, LeftOpen}
-use Rattle.pt_crew.specs.declared.pending.Pending.{Pending}
-use Rattle.pt_crew.specs.declared.pending.Heard.{Heard}
-use Rattle.pt_crew.specs.declared.request.Request.{Request}
-use Rattle.pt_crew.specs.Asking.{Asks, SendsTo, answer, request_of}
-use Rattle.pt_crew.specs.Ending.{CallEvent, Closes, Expires, ends_reported, first_call_end, heard_by_call, is_due}
-use Rattle.pt_crew.specs.Ending.{is_expired, says_to_call}
+use Rattle.pt_pending.specs.declared.ask_fault.AskFault.{AskFault}
+use Rattle.pt_pending.specs.declared.ask_fault.AskFault.TheVariants.{Unasked, LeftOpen}
+use Rattle.pt_pending.specs.declared.pending.Pending.{Pending}
+use Rattle.pt_pending.specs.declared.pending.Heard.{Heard}
+use Rattle.pt_pending.specs.declared.request.Request.{Request}
+use Rattle.pt_pending.specs.Asking.{Asks, answer, request_of}
+use Rattle.pt_crew.specs.Telling.{SendsTo}
+use Rattle.pt_pending.specs.Ending.{CallEvent, Closes, Expires, ends_reported, first_call_end, heard_by_call, is_due}
+use Rattle.pt_pending.specs.Ending.{is_expired, says_to_call}
 use Rattle.pt_places.specs.Places.{ShowsCode}
 use Rattle.pt_structs.specs.declared.types.PtItem.{PtItem}
 use Rattle.pt_structs.specs.Codes.{bad_code, code_of, unknown}

@@ -2,11 +2,12 @@
 
 ghost use Rattle.std.specs.Prelude.{◌≡◌, ◌<◌, ◌^◌, pos, true, false, Option, ℕ};
 ghost use Rattle.pt_desk.specs.DeskState.{GoesOn};
-ghost use Rattle.pt_crew.specs.Asking.{Asks, refusal, unsent_fault};
+ghost use Rattle.pt_pending.specs.Asking.{Asks, refusal, unsent_fault};
 ghost use Rattle.pt_asking.specs.Calls.{AsksServer, asked_code, call_or, call_under, fault_code, pending_asked};
 
 use crate::types::PtCall;
-use pt_crew::{AskFault, CallFault, demonitor, monitor, send};
+use pt_crew::{CallFault, demonitor, monitor, send};
+use pt_pending::AskFault;
 use pt_structs::codes::{DONE, UNKNOWN, code_of};
 use pt_structs::crossing::{pid_out, ref_out};
 use pt_workers::{Body, Desk, Fault, Pid, Ref};

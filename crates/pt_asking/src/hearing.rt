@@ -3,13 +3,14 @@
 ghost use Rattle.std.specs.Prelude.{◌≡◌, pos, false};
 ghost use Rattle.std.specs.Ordering.{int_eq};
 ghost use Rattle.pt_desk.specs.DeskState.{GoesOn};
-ghost use Rattle.pt_crew.specs.Asking.{speaks_of};
-ghost use Rattle.pt_crew.specs.Ending.{Closes, IsGivenUp, heard_by_call, is_answer_to_call, is_due, says_to_call};
+ghost use Rattle.pt_pending.specs.Asking.{speaks_of};
+ghost use Rattle.pt_pending.specs.Ending.{Closes, IsGivenUp, heard_by_call, is_answer_to_call, is_due, says_to_call};
 ghost use Rattle.pt_asking.specs.Calls.{CallsEndOnce, ExpiresCode, HearsItem, call_after, call_noting, pending_of, heard_out};
 
 use crate::items::item_in;
 use crate::types::{PtCall, PtHeard};
-use pt_crew::{Heard, demonitor};
+use pt_crew::demonitor;
+use pt_pending::Heard;
 use pt_structs::codes::{BAD_CODE, DONE};
 use pt_structs::crossing::{no_reason, pid_in, reason_out, ref_in};
 use pt_structs::types::PtItem;

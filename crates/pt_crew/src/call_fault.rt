@@ -1,6 +1,6 @@
 //! Why a call of a behaviour fails.
 
-use pt_workers::{Fault, Ref};
+use pt_workers::Fault;
 use thiserror::Error;
 
 /// Why a call of a behaviour fails.
@@ -18,18 +18,6 @@ pub enum CallFault {
     Refused(Fault),
 }
 
-/// Why a request was not sent.
-#[derive(Clone, Copy, Debug, PartialEq, Eq, Error)]
-pub enum AskFault {
-    /// It could not be made or sent, for this reason, and no monitor is left of it.
-    #[error("{0}")]
-    Unasked(CallFault),
-    /// It could not be sent, for this reason, and cancelling its monitor failed too. The monitor is still open:
-    /// [`demonitor`](crate::demonitor) cancels it. If it is left, its `DOWN` may arrive, and belongs to no call.
-    #[error("{0}, and its monitor is still open")]
-    LeftOpen(CallFault, Ref),
-}
-
 impl From<Fault> for CallFault {
     ghost use Rattle.std.specs.Prelude.{◌≡◌};
     ghost use Rattle.pt_crew.specs.declared.call_fault.CallFault.TheVariants.{Refused};
@@ -38,16 +26,5 @@ impl From<Fault> for CallFault {
 
     fn from(fault: Fault) -> CallFault {
         CallFault::Refused(fault)
-    }
-}
-
-impl From<CallFault> for AskFault {
-    ghost use Rattle.std.specs.Prelude.{◌≡◌};
-    ghost use Rattle.pt_crew.specs.declared.call_fault.AskFault.TheVariants.{Unasked};
-
-    ghost from_gives = { λ fault f. f ≡ Unasked fault };
-
-    fn from(fault: CallFault) -> AskFault {
-        AskFault::Unasked(fault)
     }
 }

@@ -10,8 +10,8 @@ use Rattle.pt_names.specs.State.{NamesState, holder_of}
 use Rattle.pt_names.specs.Calls.{IsFree, Checks, Registers, Unregisters}
 use Rattle.pt_shard.specs.declared.fault.Fault.{Fault}
 use Rattle.pt_desk.specs.DeskState.{DeskState}
-use Rattle.pt_crew.specs.declared.request.Request.{Request}
-use Rattle.pt_crew.specs.Asking.{Watches, Unwatches}
+use Rattle.pt_pending.specs.declared.request.Request.{Request}
+use Rattle.pt_crew.specs.Telling.{Watches, Unwatches}
 use Rattle.pt_registry.specs.declared.registry.Registry.{Registry}
 use Rattle.pt_registry.specs.declared.registry.RegistryError.{RegistryError}
 use Rattle.pt_registry.specs.declared.registry.RegistryError.TheVariants.{Refused, Unwatched, LeftOpen, NoName}

@@ -4,8 +4,9 @@ ghost use Rattle.std.specs.Prelude.{◌≡◌};
 ghost use Rattle.pt_names.specs.State.{IsOneToOne};
 ghost use Rattle.pt_registry.specs.Registering.{unkept_as};
 
-use pt_crew::{CallFault, Request, demonitor, monitor};
+use pt_crew::{CallFault, demonitor, monitor};
 use pt_names::{Name, Names, RegisterError};
+use pt_pending::Request;
 use pt_workers::{Desk, Fault, Item, Pid, Ref};
 use std::alloc::Global;
 use thiserror::Error;

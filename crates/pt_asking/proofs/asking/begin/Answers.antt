@@ -1,8 +1,8 @@
 -- `begin`: its clauses `does` and `goes_on`.
 use Rattle.std.proofs.Common.{ℤ, Some, inr, refl, sym, ◌∙◌, subst}
 use Rattle.pt_desk.proofs.Turning.{goes_on_then}
-use Rattle.pt_crew.specs.Asking.{SendsTo}
-use Rattle.pt_crew.proofs.Fitting.{monitor_fits, carried}
+use Rattle.pt_crew.specs.Telling.{SendsTo}
+use Rattle.pt_pending.proofs.Fitting.{monitor_fits, carried}
 use Rattle.pt_asking.proofs.asking.begin.Goals as goal
 
 pub returns-in-Some-clause-does : goal.returns-in-Some-clause-does

@@ -1,9 +1,9 @@
 -- `Alarms::ring`: what holds in its loop.
 use Rattle.std.specs.Prelude.{◌≡◌, List, length}
 use Rattle.pt_desk.specs.DeskState.{GoesOn}
-use Rattle.pt_crew.specs.Alarming.{Rung, RingsAll}
+use Rattle.pt_pending.specs.Alarming.{Rung, RingsAll}
 use Rattle.pt_crew.specs.Visiting.{takes}
-use Rattle.pt_crew.proofs.alarms.Alarms.ring.Given as goal
+use Rattle.pt_pending.proofs.alarms.Alarms.ring.Given as goal
 
 abbrev pub invariant-loop : goal.invariant-loop
 invariant-loop l = record {

@@ -1,8 +1,8 @@
 -- `Alarms::ring_first`: its clause `does`.
 use Rattle.std.proofs.Common.{◌≡◌, rules, Err, refl, sym, subst}
-use Rattle.pt_crew.specs.Alarming.{RingsFirst}
-use Rattle.pt_crew.proofs.Ringing.{was_cancelled}
-use Rattle.pt_crew.proofs.alarms.Alarms.ring_first.Goals as goal
+use Rattle.pt_pending.specs.Alarming.{RingsFirst}
+use Rattle.pt_pending.proofs.Ringing.{was_cancelled}
+use Rattle.pt_pending.proofs.alarms.Alarms.ring_first.Goals as goal
 
 pub returns-in_err-tell-clause-does : goal.returns-in_err-tell-clause-does
 returns-in_err-tell-clause-does c =

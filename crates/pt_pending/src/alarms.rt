@@ -3,11 +3,10 @@
 ghost use Rattle.std.specs.Prelude.{◌≡◌, ◌+◌, IfOk, MatchOption, cond, length};
 ghost use Rattle.pt_timers.specs.Calls.{Cancels, IsFirstDue, IsNext, IsNone, NoneDue, Starts};
 ghost use Rattle.pt_desk.specs.DeskState.{GoesOn};
-ghost use Rattle.pt_crew.specs.Alarming.{Rings, RingsFirst, TellsAlarm};
+ghost use Rattle.pt_pending.specs.Alarming.{Rings, RingsFirst, TellsAlarm};
 ghost use Rattle.pt_crew.specs.Visiting.{takes};
 
-use crate::call_fault::CallFault;
-use crate::calls::send;
+use pt_crew::{CallFault, send};
 use pt_timers::{StartError, Timer, Timers};
 use pt_workers::{Body, Desk, Fault, Pid};
 use std::alloc::Global;

@@ -1,27 +1,21 @@
 -- How a call is made, and how it is answered.
-use Rattle.std.specs.Prelude.{◌≡◌, ◌⊎◌, ℕ, cond, pos, Bool, true, false, is_some, Option, Some, None, Result, Ok, Err}
+use Rattle.std.specs.Prelude.{◌≡◌, ◌⊎◌, ℕ, cond, pos, Bool, true, false, Option, Some, None, Result, Ok, Err}
 use Rattle.pt_signal.specs.declared.pid.Pid.{Pid}
 use Rattle.pt_signal.specs.declared.ids.Ref.{Ref}
 use Rattle.pt_signal.specs.declared.item.Body.{Body}
 use Rattle.pt_signal.specs.declared.item.Item.{Item}
 use Rattle.pt_signal.specs.declared.item.Item.TheVariants.{User}
-use Rattle.pt_signal.specs.declared.signal.Signal.{Signal}
-use Rattle.pt_signal.specs.Values.{same_pid, is_pid}
-use Rattle.pt_events.specs.declared.event.Event.TheVariants.{Said}
+use Rattle.pt_signal.specs.Values.{is_pid}
 use Rattle.pt_shard.specs.declared.fault.Fault.{Fault}
 use Rattle.pt_shard.specs.declared.fault.Fault.TheVariants.{NoProc}
-use Rattle.pt_shard.specs.Known.{knows}
-use Rattle.pt_shard.specs.ShardState.{lives}
-use Rattle.pt_shard.specs.Calls.{Calls, Monitors, demonitor_event}
 use Rattle.pt_desk.specs.DeskState.{DeskState}
-use Rattle.pt_desk.specs.Reaching.{Reaches, has_monitor_to_make}
 use Rattle.pt_crew.specs.declared.call_fault.CallFault.{CallFault}
 use Rattle.pt_crew.specs.declared.call_fault.CallFault.TheVariants.{Refused}
-use Rattle.pt_crew.specs.declared.call_fault.AskFault.{AskFault}
-use Rattle.pt_crew.specs.declared.call_fault.AskFault.TheVariants.{Unasked, LeftOpen}
-use Rattle.pt_crew.specs.Telling.{IfKnown}
-use Rattle.pt_crew.specs.declared.pending.Pending.{Pending}
-use Rattle.pt_crew.specs.declared.request.Request.{Request}
+use Rattle.pt_pending.specs.declared.ask_fault.AskFault.{AskFault}
+use Rattle.pt_pending.specs.declared.ask_fault.AskFault.TheVariants.{Unasked, LeftOpen}
+use Rattle.pt_crew.specs.Telling.{SendsTo, Watches, Unwatches}
+use Rattle.pt_pending.specs.declared.pending.Pending.{Pending}
+use Rattle.pt_pending.specs.declared.request.Request.{Request}
 
 -- the message speaks of the process
 abbrev pub speaks_of : Body → Pid → Bool
@@ -40,24 +34,6 @@ request_message client m asks = record { kind = asks; num = pos m.number; who = 
 -- the answer is a message that speaks of its receiver, under the same number
 abbrev pub answer : Request → ℕ → Body
 answer r n = record { kind = n; num = r.number; who = Some r.from }
-
--- the calls of a crew: a message, a monitor, and a monitor that is given up
-abbrev pub SendsTo : Pid → Pid → Body → DeskState → Result (Unit {0}) CallFault → DeskState → Type 0
-SendsTo me to body old result new =
-    IfKnown (knows old.shard to)
-    (λ r. Reaches (lives old.shard me) me to
-    (Calls me (Some (Said me to (Signal.Message body))) (tt {0}) old.shard r new.shard) old r new) old result new
-
-abbrev pub Watches : Pid → Pid → DeskState → Result Ref CallFault → DeskState → Type 0
-Watches me to old result new =
-    IfKnown (knows old.shard to)
-    (λ r. Reaches (has_monitor_to_make old.shard me to) me to (Monitors me to old.shard r new.shard) old r new) old
-    result new
-
-abbrev pub Unwatches : Pid → Ref → DeskState → Result Bool Fault → DeskState → Type 0
-Unwatches me m old result new =
-    Calls me (demonitor_event old.shard me m false) (is_some (demonitor_event old.shard me m false)) old.shard result
-    new.shard
 
 -- the fault for which a request was not sent; none where the server was seen to have ended, since its DOWN comes
 abbrev pub refusal : Result (Unit {0}) CallFault → Option CallFault

@@ -1,10 +1,10 @@
 -- `Pending::begin`: its clauses `does` and `goes_on`, and what its call of `number_of` asks.
 use Rattle.std.proofs.Common.{Some, true, inr, sym, ap, subst, ◌∙◌, ℤ}
 use Rattle.pt_desk.proofs.Turning.{goes_on_then}
-use Rattle.pt_crew.specs.declared.pending.Pending.{Pending}
-use Rattle.pt_crew.specs.Asking.{SendsTo}
-use Rattle.pt_crew.proofs.Fitting.{monitor_fits, carried}
-use Rattle.pt_crew.proofs.pending.Pending.begin.Goals as goal
+use Rattle.pt_pending.specs.declared.pending.Pending.{Pending}
+use Rattle.pt_crew.specs.Telling.{SendsTo}
+use Rattle.pt_pending.proofs.Fitting.{monitor_fits, carried}
+use Rattle.pt_pending.proofs.pending.Pending.begin.Goals as goal
 
 pub number_of-number-requires : goal.number_of-number-requires
 number_of-number-requires c = monitor_fits c.args.me c.args.server c.args.desk.now c.in_ok-reference.reference c.monitor.new.desk c.in_ok-reference.ensures.does

@@ -1,9 +1,9 @@
 -- `Alarms::ring`: its clause `goes_on` where a message is kept, and its loop.
 use Rattle.std.proofs.Common.{Ok, Bool, subst, ◌∙◌}
 use Rattle.pt_desk.proofs.Turning.{goes_on_then}
-use Rattle.pt_crew.specs.Alarming.{RingsFirst}
-use Rattle.pt_crew.proofs.Ringing.{rings_next}
-use Rattle.pt_crew.proofs.alarms.Alarms.ring.Goals as goal
+use Rattle.pt_pending.specs.Alarming.{RingsFirst}
+use Rattle.pt_pending.proofs.Ringing.{rings_next}
+use Rattle.pt_pending.proofs.alarms.Alarms.ring.Goals as goal
 
 pub returns-in_err-ring_first-clause-goes_on : goal.returns-in_err-ring_first-clause-goes_on
 returns-in_err-ring_first-clause-goes_on c =

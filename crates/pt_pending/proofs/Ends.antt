@@ -3,10 +3,10 @@ use Rattle.std.proofs.Common.{◌≡◌, ℕ, ◌+◌, Bool, true, false, cond, 
 use Rattle.std.specs.List.{list_any}
 use Rattle.pt_signal.specs.declared.item.Item.{Item}
 use Rattle.pt_signal.specs.declared.item.Item.TheVariants.{User, Exit, Down, Alive}
-use Rattle.pt_crew.specs.declared.pending.Pending.{Pending}
-use Rattle.pt_crew.specs.declared.pending.Heard.{Heard}
-use Rattle.pt_crew.specs.Ending.{says_to_call, heard_as, is_end, ends_among, is_its, is_due, EndsOnce}
-use Rattle.pt_crew.specs.Ending.{CallEvent, item, moment, CallEnd, answered, server_down, timed_out, end_heard, end_said, ends_reported, or_first, first_call_end, EndsFirst}
+use Rattle.pt_pending.specs.declared.pending.Pending.{Pending}
+use Rattle.pt_pending.specs.declared.pending.Heard.{Heard}
+use Rattle.pt_pending.specs.Ending.{says_to_call, heard_as, is_end, ends_among, is_its, is_due, EndsOnce}
+use Rattle.pt_pending.specs.Ending.{CallEvent, item, moment, CallEnd, answered, server_down, timed_out, end_heard, end_said, ends_reported, or_first, first_call_end, EndsFirst}
 
 -- what an item says to an open call is an end of it
 abbrev AreEnds : Option Heard → Type 0

@@ -9,8 +9,8 @@ use Rattle.pt_shard.specs.declared.fault.Fault.TheVariants.{NoProc}
 use Rattle.pt_desk.specs.DeskState.{DeskState}
 use Rattle.pt_crew.specs.declared.call_fault.CallFault.{CallFault}
 use Rattle.pt_crew.specs.declared.call_fault.CallFault.TheVariants.{Unknown, Refused}
-use Rattle.pt_crew.specs.declared.alarms.Alarm.{Alarm}
-use Rattle.pt_crew.specs.Asking.{SendsTo}
+use Rattle.pt_pending.specs.declared.alarms.Alarm.{Alarm}
+use Rattle.pt_crew.specs.Telling.{SendsTo}
 
 -- those that are still to be sent, each under its timer
 abbrev pub AlarmsState : Type 0

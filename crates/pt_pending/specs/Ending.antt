@@ -14,9 +14,10 @@ use Rattle.pt_signal.specs.declared.item.Item.TheVariants.{User, Down}
 use Rattle.pt_signal.specs.Values.{same_pid, same_ref}
 use Rattle.pt_shard.specs.declared.fault.Fault.{Fault}
 use Rattle.pt_desk.specs.DeskState.{DeskState}
-use Rattle.pt_crew.specs.declared.pending.Pending.{Pending}
-use Rattle.pt_crew.specs.declared.pending.Heard.{Heard}
-use Rattle.pt_crew.specs.Asking.{speaks_of, Unwatches}
+use Rattle.pt_pending.specs.declared.pending.Pending.{Pending}
+use Rattle.pt_pending.specs.declared.pending.Heard.{Heard}
+use Rattle.pt_pending.specs.Asking.{speaks_of}
+use Rattle.pt_crew.specs.Telling.{Unwatches}
 
 -- the call waits for its answer, or for the end of its server
 abbrev pub is_pending : Pending → Bool

@@ -5,8 +5,8 @@ use Rattle.pt_timers.specs.declared.Timer.{Timer}
 use Rattle.pt_timers.specs.State.{body_of}
 use Rattle.pt_timers.specs.Calls.{Cancels}
 use Rattle.pt_desk.specs.DeskState.{DeskState}
-use Rattle.pt_crew.specs.declared.alarms.Alarm.{Alarm}
-use Rattle.pt_crew.specs.Alarming.{AlarmsState, Rung, RingsAll, RingsFirst}
+use Rattle.pt_pending.specs.declared.alarms.Alarm.{Alarm}
+use Rattle.pt_pending.specs.Alarming.{AlarmsState, Rung, RingsAll, RingsFirst}
 
 -- one that is pending is cancelled
 pub was_cancelled : (t : Timer) (body : Alarm) (old new : AlarmsState) (b : Bool) → body_of old t ≡ Some body → Cancels t old b new → Cancels t old true new

@@ -3,14 +3,14 @@
 ghost use Rattle.std.specs.Prelude.{◌≡◌, ◌<◌, ◌^◌, None, Some, false, pos};
 ghost use Rattle.pt_desk.specs.DeskState.{GoesOn};
 ghost use Rattle.pt_crew.specs.Visiting.{takes};
-ghost use Rattle.pt_crew.specs.Asking.{Asks, refusal, unsent_fault};
-ghost use Rattle.pt_crew.specs.Ending.{Closes, EndsFirst, EndsOnce, Expires, IsGivenUp, after_item, after_moment};
-ghost use Rattle.pt_crew.specs.Ending.{heard_by_call, is_answer_to_call, is_due, is_expired, is_pending, monitor_left};
-ghost use Rattle.pt_crew.specs.Ending.{noting, says_to_call, waits_until};
+ghost use Rattle.pt_pending.specs.Asking.{Asks, refusal, unsent_fault};
+ghost use Rattle.pt_pending.specs.Ending.{Closes, EndsFirst, EndsOnce, Expires, IsGivenUp, after_item, after_moment};
+ghost use Rattle.pt_pending.specs.Ending.{heard_by_call, is_answer_to_call, is_due, is_expired, is_pending, monitor_left};
+ghost use Rattle.pt_pending.specs.Ending.{noting, says_to_call, waits_until};
 
-use crate::call_fault::{AskFault, CallFault};
-use crate::calls::{demonitor, monitor, send};
+use crate::ask_fault::AskFault;
 use crate::request::speaks_of;
+use pt_crew::{CallFault, demonitor, monitor, send};
 use pt_workers::{Body, Desk, Fault, Item, Pid, Reason, Ref};
 
 /// What an item means to a call.
