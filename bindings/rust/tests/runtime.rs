@@ -573,7 +573,7 @@ fn nothing_comes_in_once_a_run_is_over() -> Result<(), Error> {
     assert!(!listener.send(7) && heard.recv().is_err());
     assert_eq!(handle.spawn(acts::<(), _>(|_, _| Next::DONE)).err(), Some(SpawnFault::Over));
     assert_eq!(handle.call(&listener, LONG, |_: Reply<u8>| 7), Err(CallFault::Dropped));
-    handle.exit(&listener, Reason::Kill);
+    assert_eq!(handle.exit(&listener, Reason::Kill), Ok(()));
     assert!(handle.is_over());
     Ok(())
 }
