@@ -136,7 +136,11 @@ class Sending:
             began = monotonic()
             call.alarm = self.set_alarm(
                 limit, lambda: self.answer(call, None, Answer(call, None, CallTimeout(self.blame(began)))))
-        self.carry(REQUEST, seat.cx.me, to, Request(self, call, seat.pid, value))
+        try:
+            self.carry(REQUEST, seat.cx.me, to, Request(self, call, seat.pid, value))
+        except BaseException:  # nothing was asked, so nothing comes of it
+            self.close(call)
+            raise
         return call
 
     def answer(self, call: Call, sender: Optional[Address], answer: Answer) -> bool:

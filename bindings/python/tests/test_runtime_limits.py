@@ -10,6 +10,7 @@ import threading
 import time
 import unittest
 from typing import Any, Callable
+from unittest import mock
 
 import pundewo as p
 from pundewo import runtime as r
@@ -298,6 +299,25 @@ class OneThread(unittest.TestCase):
         with self.assertRaises(r.RunOver):
             run.call(asked, 2, 0)
         run.close()
+
+
+class Refused(unittest.TestCase):
+    def test_of_a_call_that_is_refused_nothing_is_kept(self) -> None:
+        """The desk has no memory for the request, behind the monitor of the call."""
+        def start(cx: r.Context) -> r.Next:
+            fault = p.Fault(p.Code.MEMORY, "send")
+            with mock.patch.object(cx._engine.desks[0], "_send", side_effect=fault), self.assertRaises(p.Fault):
+                cx.call(server, 1, 0.01)
+            return r.Next.wait(0.1)
+
+        run, told = r.Runtime(), list[Any]()
+        server = run.spawn(Echo())
+        client = run.spawn(Doing(lambda cx, event: told.append(event), start))
+        run_and_stop(run, lambda: told)
+        engine = run._engine
+        self.assertEqual((told, client.is_alive()), ([r.TIMEOUT, *told[1:]], False))
+        self.assertFalse(any(isinstance(it, r.Answer) for it in told))
+        self.assertEqual((len(engine.payloads), len(engine._alarms)), (0, 0))
 
 
 class Faults(unittest.TestCase):

@@ -239,6 +239,14 @@ impl Handle {
         self.0.meeting.is_over()
     }
 
+    /// Tells all processes to exit, as [`Runtime::stop`] does, and waits for nothing. [`Runtime::wait`] returns once they have
+    /// exited, and those that do not are killed by `Runtime::stop` alone.
+    pub fn stop(&self) {
+        if !self.is_over() {
+            self.0.give(STOP);
+        }
+    }
+
     /// Ends the epoch now, as soon as each handler that runs has returned, and goes on.
     pub fn go_on(&self) {
         self.0.meet();
