@@ -203,6 +203,7 @@ echo "rust: tests, pages and examples passed"
 chat=$CARGO_TARGET_DIR/debug/examples
 timeout 120 "$chat/chat_load" "$chat/chat" "$work/chat.history" 40 10 3 10
 "$here/../bin/pt_audit" "$work/chat.history"
+timeout 300 "$here/bad_clients.py" "$chat/chat" 0 "$work/bad.history"
 echo "rust: the chat server passed"
 
 # The telephone exchange: lines crash in calls and are started again, each partner hears of it, and its history is legal
@@ -219,7 +220,7 @@ echo "rust: the telephone exchange passed"
     PYTHONPATH=. python3 examples/team.py | diff "$here/c/team.out" -
     if command -v mypy >/dev/null; then
         for level in 3.9 "$(python3 -c 'import sys; print("%d.%d" % sys.version_info[:2])')"; do
-            mypy --strict --cache-dir=/dev/null --python-version "$level" pundewo build_wheel.py examples tests
+            mypy --strict --cache-dir=/dev/null --python-version "$level" pundewo build_wheel.py examples tests ../bad_clients.py
         done
     fi
 )
@@ -230,6 +231,7 @@ echo "python: tests passed"
 (cd "$here/python" && PYTHONPATH=. timeout 240 python3 examples/chat_load.py --connections 40 --crashing 10 --rate 10 \
     --seconds 3 --archive "$work/chat_python.history")
 "$here/../bin/pt_audit" "$work/chat_python.history"
+(cd "$here/python" && PYTHONPATH=. timeout 300 "$here/bad_clients.py" python3 examples/chat.py)
 echo "python: the chat server passed"
 python3 -m venv "$work/venv"
 "$work/venv/bin/pip" install -q --no-index --disable-pip-version-check "$here/python"

@@ -573,8 +573,43 @@ fn nothing_comes_in_once_a_run_is_over() -> Result<(), Error> {
     assert!(!listener.send(7) && heard.recv().is_err());
     assert_eq!(handle.spawn(acts::<(), _>(|_, _| Next::DONE)).err(), Some(SpawnFault::Over));
     assert_eq!(handle.call(&listener, LONG, |_: Reply<u8>| 7), Err(CallFault::Dropped));
-    handle.exit(&listener, Reason::Kill);
+    assert_eq!(handle.exit(&listener, Reason::Kill), Ok(()));
     assert!(handle.is_over());
+    Ok(())
+}
+
+/// A thread that has only a handle ends the run, for which another waits.
+#[test]
+fn a_handle_stops_a_run() -> Result<(), Error> {
+    let runtime = start(2);
+    let (give, told) = channel();
+    for desk in [0, 1] {
+        let give = give.clone();
+        let traps = acts::<(), _>(move |cx, event| match event {
+            None => {
+                cx.trap_exits(true).expect("a flag");
+                Next::Wait
+            }
+            Some(Event::Exit(exit)) => {
+                give.send(exit.reason).expect("a test");
+                Next::Stop(exit.reason)
+            }
+            Some(_) => Next::Wait,
+        });
+        runtime.spawn_on(desk, traps)?;
+    }
+    let handle = runtime.handle();
+    let stops = std::thread::spawn(move || {
+        handle.stop();
+        handle.stop();
+        handle
+    });
+    assert_eq!(runtime.wait()?.spawned, 2);
+    assert_eq!((got(&told), got(&told)), (Reason::Shutdown, Reason::Shutdown));
+    let handle = stops.join().expect("a handle");
+    // (a run that is over is told nothing)
+    handle.stop();
+    assert!(handle.is_over() && told.try_recv().is_err());
     Ok(())
 }
 

@@ -21,6 +21,8 @@ pub(crate) const KILL: u8 = 3;
 
 /// What all threads of a runtime share.
 pub(crate) struct Hub {
+    /// The number of the run among all of the program.
+    pub(crate) run: u64,
     begun: Instant,
     pub(crate) places: Vec<Place>,
     pub(crate) meeting: Meeting,
@@ -35,7 +37,9 @@ pub(crate) struct Hub {
 
 impl Hub {
     pub(crate) fn new(desks: usize, every: usize, meeting: Meeting) -> Hub {
+        static RUNS: AtomicU64 = AtomicU64::new(0);
         Hub {
+            run: RUNS.fetch_add(1, SeqCst),
             begun: Instant::now(),
             places: (0..desks).map(|_| Place::default()).collect(),
             meeting,
@@ -66,6 +70,11 @@ impl Hub {
 
     pub(crate) fn place(&self, pid: Pid) -> &Place {
         &self.places[usize::from(pid.shard)]
+    }
+
+    /// Whether this is the process of a desk in whose name things are sent from outside.
+    pub(crate) fn is_porter(&self, pid: Pid) -> bool {
+        self.places.get(usize::from(pid.shard)).and_then(|place| place.porter.get()) == Some(&pid)
     }
 
     /// Sends a message from outside.

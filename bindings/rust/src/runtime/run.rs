@@ -8,8 +8,9 @@ use super::hub::{END, Hub, KILL, STOP};
 use super::inbox::Task;
 use super::meeting::{Outcome, Stuck};
 use super::start::{Builder, Closing, Threads, is_inside};
+use super::target::Target;
 use super::worker::{Parent, Worker};
-use crate::{Fault, Pid, Reason};
+use crate::{Fault, Reason};
 use std::error::Error;
 use std::fmt;
 use std::ops::Deref;
@@ -195,14 +196,17 @@ impl Handle {
     ///
     /// # Errors
     ///
-    /// [`CallFault::Timeout`], if there is no answer in time; [`CallFault::Dropped`], if the server has exited or has
-    /// dropped the request.
+    /// [`CallFault::OtherRun`], if the server is of another run, and then nothing was asked; [`CallFault::Timeout`], if there
+    /// is no answer in time; [`CallFault::Dropped`], if the server has exited or has dropped the request.
     pub fn call<M: Send + 'static, R: Send + 'static>(
         &self,
         server: &Address<M>,
         limit: Duration,
         ask: impl FnOnce(Reply<R>) -> M,
     ) -> Result<R, CallFault> {
+        if !Arc::ptr_eq(&self.0, &server.hub) {
+            return Err(CallFault::OtherRun);
+        }
         let (give, get) = sync_channel(1);
         server.send(ask(Reply::to_thread(give)));
         get.recv_timeout(limit).map_err(|fault| match fault {
@@ -211,12 +215,16 @@ impl Handle {
         })
     }
 
-    /// Sends an exit signal from outside: Erlang's `exit/2`.
-    pub fn exit(&self, process: impl Into<Pid>, reason: Reason) {
-        let pid = process.into();
-        if let Some(place) = self.0.places.get(usize::from(pid.shard)) {
-            place.post(Task::Do(Box::new(move |worker| worker.signal(pid, reason))));
-        }
+    /// Sends an exit signal from outside: Erlang's `exit/2`. It is nothing to a process that has exited.
+    ///
+    /// # Errors
+    ///
+    /// [`Fault::OtherRun`], [`Fault::Outside`], or [`Fault::Unknown`] if there is no such desk. Then nothing is sent.
+    pub fn exit(&self, process: impl Into<Target>, reason: Reason) -> Result<(), Fault> {
+        let pid = process.into().mortal_in(&self.0)?;
+        let place = self.0.places.get(usize::from(pid.shard)).ok_or(Fault::Unknown)?;
+        place.post(Task::Do(Box::new(move |worker| worker.signal(pid, reason))));
+        Ok(())
     }
 
     /// How many epochs have ended.
@@ -229,6 +237,14 @@ impl Handle {
     #[must_use]
     pub fn is_over(&self) -> bool {
         self.0.meeting.is_over()
+    }
+
+    /// Tells all processes to exit, as [`Runtime::stop`] does, and waits for nothing. [`Runtime::wait`] returns once they have
+    /// exited, and those that do not are killed by `Runtime::stop` alone.
+    pub fn stop(&self) {
+        if !self.is_over() {
+            self.0.give(STOP);
+        }
     }
 
     /// Ends the epoch now, as soon as each handler that runs has returned, and goes on.
