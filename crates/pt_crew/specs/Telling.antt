@@ -1,5 +1,5 @@
 -- The calls of a behaviour.
-use Rattle.std.specs.Prelude.{◌≡◌, Bool, true, false, is_some, Unit, tt, Some, Result, Ok, Err}
+use Rattle.std.specs.Prelude.{◌≡◌, Bool, true, false, is_some, Some, Result, Ok, Err}
 use Rattle.pt_signal.specs.declared.pid.Pid.{Pid}
 use Rattle.pt_signal.specs.declared.ids.Ref.{Ref}
 use Rattle.pt_signal.specs.declared.item.Body.{Body}
