@@ -40,6 +40,10 @@ posts_where_letters_wait budget old new turned e turns within none =
     ap (λ (o : OutEnds). posted_to (record new { outs = o }) e) later ∙ to.posted
     ∙ ap (λ (ls : List Letter). posted_to old e ++ ls) (ap (take to.count) none ∙ take-nil to.count) ∙ append-nil (posted_to old e)
 
+pub where_not : (b : Bool) (P Q : Type 0) → b ≡ false → Q → MatchBool b P Q
+where_not false P Q none q = q
+where_not true P Q none q = absurd (cc)
+
 pub where_neither : (a b : Bool) (P Q : Type 0) → a ≡ false → b ≡ false → Q → MatchBool (a || b) P Q
 where_neither false false P Q none nothing q = q
 where_neither false true P Q none nothing q = absurd (cc)
