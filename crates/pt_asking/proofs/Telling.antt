@@ -1,6 +1,6 @@
 -- Which messages are of calls.
 use Rattle.std.proofs.Common.{◌≡◌, ℕ, Bool, true, false, refl}
-use Rattle.std.specs.Prelude.{◌&&◌, ◌||◌, Some, None}
+use Rattle.std.specs.Prelude.{◌&&◌, ◌||◌, None}
 use Rattle.std.specs.Ordering.{int_eq}
 use Rattle.pt_signal.specs.declared.pid.Pid.{Pid}
 use Rattle.pt_signal.specs.declared.ids.Ref.{Ref}
