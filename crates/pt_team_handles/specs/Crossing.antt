@@ -19,8 +19,7 @@ use Rattle.pt_teams.specs.declared.member.Notice.{Notice}
 use Rattle.pt_teams.specs.declared.plan.ChildSpec.{ChildSpec}
 use Rattle.pt_teams.specs.declared.plan.Origin.{Origin}
 use Rattle.pt_teams.specs.declared.plan.SupervisorSpec.{SupervisorSpec}
-use Rattle.pt_structs.specs.declared.types.PtPid.{PtPid}
-use Rattle.pt_structs.specs.Crossing.{no_pid, pid_crossed, pid_or_none, pid_out}
+use Rattle.pt_structs.specs.Crossing.{pid_crossed, pid_or_none}
 use Rattle.pt_structs.specs.Jobs.{job_out}
 use Rattle.pt_team_handles.specs.declared.types.PtChild.{PtChild}
 use Rattle.pt_team_handles.specs.declared.types.PtChildSpec.{PtChildSpec}
