@@ -24,8 +24,8 @@ from ._library import (
 from .values import I64, U32, U64, Body, Code, Item, Pid, Reason, Ref, number, of_type
 
 __all__ = [
-    "AskFault", "Call", "Door", "HEARD", "Heard", "Post", "Request", "WayIn", "ask", "has_letters", "letters_out", "reply",
-    "request_of", "way_in",
+    "AskFault", "Call", "Door", "HEARD", "Heard", "Post", "Request", "WayIn", "ask", "has_letters", "is_call", "letters_out",
+    "reply", "request_of", "way_in",
 ]
 
 # What an item means to a call.
@@ -146,6 +146,20 @@ def request_of(item: Item) -> Optional[Request]:
     return Request(pid_of(out.sender), out.asks, out.number) if code == Code.OK else None
 
 
+def is_call(me: Pid, item: Item) -> bool:
+    """Whether an item that `me` got is a message of a call: a request, which names its own sender, or an answer, which names
+    `me`. The kind of such a message is what is asked, or the answer itself.
+
+    So ask this before you read a kind as one of your own. A message of your own is told too if its body names its sender or its
+    receiver, so send none that does. A DOWN is an item as any: `Call.hear` reads that of a call.
+    """
+    out = c.c_bool()
+    code = lib.pt_is_call(c_pid("me", me), c_item("item", item), c.byref(out))
+    if code:
+        raise _fault(lib.pt_is_call, (), code)
+    return out.value
+
+
 def reply(desk: Desk, me: Pid, request: Request, answer: int) -> None:
     """Answers a request: Erlang's `gen_server:reply`, at once or later. Fault: as `Desk.send`."""
     sender, asks, place = of_type("request", request, Request)
@@ -175,7 +189,7 @@ class Post(NamedTuple):
 
 class Door(_Held):
     """The end of a way in that a thread without a desk holds. What is taken out at the other end is what was handed in here,
-    in order, each message once. No call waits, and none wakes another thread."""
+    in order, each message once. No call waits, and none wakes another thread. Once the other end is closed, `post` fails."""
 
     _give_up = "pt_door_give_up"
 
@@ -184,7 +198,10 @@ class Door(_Held):
         self._handle.at = of_type("handle", handle, CHandle).at
 
     def post(self, post: Post) -> bool:
-        """Hands in a message, and returns whether the door knew of a free place. If not, nothing has changed. Fault: EMPTY."""
+        """Hands in a message, and returns whether the door knew of a free place. If not, nothing has changed.
+
+        Fault: GONE if the other end was closed, and nothing has changed; EMPTY.
+        """
         to, body = of_type("post", post, Post)
         code = self._call(lib.pt_door_post, CPost(c_pid("post.to", to), c_body("post.body", body)))
         if code not in (Code.OK, Code.FULL):
@@ -216,7 +233,7 @@ class WayIn(_Held):
 
 
 def way_in(places: int) -> tuple[Door, WayIn]:
-    """Makes a way in with so many places. Fault: MEMORY."""
+    """Makes a way in with so many places, at least one. Fault: BAD_PLACES if `places` is 0; MEMORY."""
     door, entry = CHandle(), CHandle()
     code = lib.pt_door_open(c.byref(door), c.byref(entry), number("places", places, 0, U32))
     if code:

@@ -4,6 +4,9 @@ use crate::raw::{self, Handle, RawCall, RawHeard, RawItem, RawPost, RawRequest};
 use crate::{Body, Desk, Fault, Held, Item, NONE, NOTHING, OK, Pid, Reason, Ref, fault_of, found, told};
 use std::fmt;
 
+/// What a door answers once its way in was given up.
+const GONE: u32 = Fault::Gone as u32;
+
 /// A request that arrived: who asks, what, and the number that its answer carries.
 #[derive(Clone, Copy, Debug, PartialEq, Eq, Hash)]
 pub struct Request {
@@ -22,6 +25,30 @@ impl Request {
         // SAFETY: the item is of plain numbers, and the reference is to a value of this call.
         let code = unsafe { raw::pt_request_of(item.into(), &mut out) };
         found(code, Request { from: out.from, asks: out.asks, number: out.number })
+    }
+}
+
+impl Item {
+    /// Whether this item, which `me` got, is a message of a call: a request, which names its own sender, or an answer, which
+    /// names `me`. The kind of such a message is what is asked, or the answer itself.
+    ///
+    /// So ask this before you read a kind as one of your own. A message of your own is told too if its body names its sender
+    /// or its receiver, so send none that does. A `DOWN` is an item as any: [`Call::hear`] reads that of a call.
+    ///
+    /// ```
+    /// use pundewo::{Body, Item, Pid};
+    ///
+    /// let [me, other] = [1, 2].map(|slot| Pid { shard: 0, slot, version: 1 });
+    /// let message = |who| Item::User(other, Body { kind: 3, num: 7, who });
+    /// assert!(message(Some(other)).is_call(me)); // a request
+    /// assert!(message(Some(me)).is_call(me)); // an answer, and 3 is what was answered
+    /// assert!(!message(None).is_call(me)); // a message of the kind 3
+    /// ```
+    pub fn is_call(self, me: Pid) -> bool {
+        let mut out = false;
+        // SAFETY: the item is of plain numbers, and the reference is to a value of this call.
+        unsafe { raw::pt_is_call(me, self.into(), &mut out) };
+        out
     }
 }
 
@@ -227,7 +254,7 @@ pub struct Post {
 /// The end of a way in that a thread without a desk holds, as a socket's reader.
 ///
 /// What is taken out at the [`WayIn`] is what was handed in here, in order, each message once. No call waits, and none wakes
-/// another thread.
+/// another thread. Once the [`WayIn`] is dropped, [`post`](Door::post) fails with [`PostError::Gone`].
 ///
 /// ```
 /// use pundewo::{Body, Post, Pid, way_in};
@@ -241,6 +268,35 @@ pub struct Post {
 pub struct Door {
     handle: Held,
 }
+
+/// Why a message was not handed in, with the message.
+#[derive(Clone, Copy, Debug, PartialEq, Eq, Hash)]
+pub enum PostError {
+    /// The door knows of no free place. The call may be made again.
+    Full(Post),
+    /// The [`WayIn`] was dropped: nobody takes anything out any more.
+    Gone(Post),
+}
+
+impl PostError {
+    /// The message that was not handed in.
+    pub fn into_post(self) -> Post {
+        match self {
+            PostError::Full(post) | PostError::Gone(post) => post,
+        }
+    }
+}
+
+impl fmt::Display for PostError {
+    fn fmt(&self, f: &mut fmt::Formatter<'_>) -> fmt::Result {
+        f.write_str(match self {
+            PostError::Full(_) => "the door knows of no free place",
+            PostError::Gone(_) => "the way in was given up",
+        })
+    }
+}
+
+impl std::error::Error for PostError {}
 
 /// The end of a way in that the thread of a desk holds.
 pub struct WayIn {
@@ -273,11 +329,11 @@ impl Drop for WayIn {
     }
 }
 
-/// Makes a way in with so many places.
+/// Makes a way in with so many places, at least one.
 ///
 /// # Errors
 ///
-/// [`Fault::Memory`], if there is none.
+/// [`Fault::BadPlaces`], if `places` is 0; [`Fault::Memory`], if there is none.
 pub fn way_in(places: u32) -> Result<(Door, WayIn), Fault> {
     let (mut door, mut way_in): (Handle, Handle) = (NONE, NONE);
     // SAFETY: both handles are empty.
@@ -287,16 +343,18 @@ pub fn way_in(places: u32) -> Result<(Door, WayIn), Fault> {
 
 // SAFETY of the calls below: the handle is the only one of what it has, and this call alone has it.
 impl Door {
-    /// Hands in a message.
+    /// Hands in a message. It waits in the way in then, and is dropped with it if nobody takes it out before.
     ///
     /// # Errors
     ///
-    /// The message, if the door knows of no free place. Nothing has changed then.
-    pub fn post(&mut self, post: Post) -> Result<(), Post> {
+    /// The message comes back, and nothing has changed: with [`PostError::Gone`] if the [`WayIn`] was dropped, and otherwise
+    /// with [`PostError::Full`] if the door knows of no free place.
+    pub fn post(&mut self, post: Post) -> Result<(), PostError> {
         let raw = RawPost { to: post.to, body: post.body.into() };
         match unsafe { raw::pt_door_post(self.handle.own(), raw) } {
             OK => Ok(()),
-            _ => Err(post),
+            GONE => Err(PostError::Gone(post)),
+            _ => Err(PostError::Full(post)),
         }
     }
 }

@@ -348,6 +348,7 @@ unsafe extern "C" {
     pub fn pt_hear(h: &mut Handle, call: &mut RawCall, item: RawItem, out: &mut RawHeard) -> u32;
     pub fn pt_expire(h: &mut Handle, call: &mut RawCall, now: u64, out: &mut bool) -> u32;
     pub fn pt_request_of(item: RawItem, out: &mut RawRequest) -> u32;
+    pub fn pt_is_call(me: Pid, item: RawItem, out: &mut bool) -> u32;
     pub fn pt_reply(h: &mut Handle, me: Pid, request: RawRequest, answer: u32) -> u32;
     pub fn pt_letters_out(h: &mut Handle, out: &mut u64) -> u32;
     pub fn pt_has_letters(h: &mut Handle, out: &mut bool) -> u32;

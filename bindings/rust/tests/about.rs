@@ -141,7 +141,7 @@ fn each_code_is_the_librarys() {
     unsafe { pt_about_sizes(sizes.as_mut_ptr()) };
     // the answers, and then the codes of reasons, items, picks, signals and events, as `values.rs` reads them, and of what
     // a process of a crew does next and is told
-    let table = (0..22).chain(0..6).chain(0..4).chain(0..6).chain(0..10).chain(0..7);
+    let table = (0..23).chain(0..6).chain(0..4).chain(0..6).chain(0..10).chain(0..7);
     let wanted: Vec<u32> = table.chain(0..5).chain(0..5).collect();
     assert_eq!(sizes[21], wanted.len() * size_of::<u32>());
     let mut told = vec![0; wanted.len()];

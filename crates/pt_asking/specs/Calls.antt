@@ -1,9 +1,11 @@
 -- Calls that are answered, as C keeps them: what is asked, heard and replied.
-use Rattle.std.specs.Prelude.{◌≡◌, ℕ, pos, cond, ◌&&◌, not, Bool, true, false, is_some, List, [], MatchOption}
+use Rattle.std.specs.Prelude.{◌≡◌, ℕ, pos, cond, ◌&&◌, ◌||◌, not, Bool, true, false, is_some, List, [], MatchOption}
 use Rattle.std.specs.Prelude.{Option, Some, None, Result, Ok, Err}
 use Rattle.pt_signal.specs.declared.pid.Pid.{Pid}
 use Rattle.pt_signal.specs.declared.ids.Ref.{Ref}
+use Rattle.pt_signal.specs.declared.item.Body.{Body}
 use Rattle.pt_signal.specs.declared.item.Item.{Item}
+use Rattle.pt_signal.specs.declared.item.Item.TheVariants.{User}
 use Rattle.pt_desk.specs.DeskState.{DeskState, GoesOn}
 use Rattle.pt_crew.specs.declared.call_fault.CallFault.{CallFault}
 use Rattle.pt_crew.specs.declared.call_fault.CallFault.TheVariants.{Unknown, Refused}
@@ -12,7 +14,7 @@ use Rattle.pt_pending.specs.declared.ask_fault.AskFault.TheVariants.{Unasked, Le
 use Rattle.pt_pending.specs.declared.pending.Pending.{Pending}
 use Rattle.pt_pending.specs.declared.pending.Heard.{Heard}
 use Rattle.pt_pending.specs.declared.request.Request.{Request}
-use Rattle.pt_pending.specs.Asking.{Asks, answer, request_of}
+use Rattle.pt_pending.specs.Asking.{Asks, answer, request_message, request_of, speaks_of}
 use Rattle.pt_crew.specs.Telling.{SendsTo}
 use Rattle.pt_pending.specs.Ending.{CallEvent, Closes, Expires, ends_reported, first_call_end, heard_by_call, is_due}
 use Rattle.pt_pending.specs.Ending.{is_expired, says_to_call}
@@ -159,3 +161,24 @@ unfoldable pub RepliesCode : Pid → PtRequest → ℕ → ℕ → DeskState →
 RepliesCode me request n code old new =
     (r : Result (Unit {0}) CallFault) × (code ≡ told_code r)
     × SendsTo me (pid_crossed request.from) (answer (request_in request) n) old r new × GoesOn old new
+
+-- telling ----------------------------------------------------------------------------
+
+-- the message is of a call: a request, which names its sender, or an answer, which names the process that got it
+abbrev pub is_of_call : Pid → Item → Bool
+is_of_call me (User from body) = speaks_of body from || speaks_of body me
+is_of_call me _ = false
+
+-- whether the item that the process got is of a call; if its code means nothing, the code says so
+unfoldable pub TellsCall : Pid → PtItem → ℕ → Bool → Bool → Type 0
+TellsCall me item code before after =
+    MatchOption (item_in item) ((code ≡ bad_code) × (after ≡ before)) (λ i. (code ≡ 0) × (after ≡ is_of_call me i))
+
+-- requests and answers are told; and what is told to be neither is no request, and no answer to a call of its receiver
+pub record CallsAreTold : Type 0 where
+  pub requests : (me client : Pid) (m : Ref) (asks : ℕ)
+      → is_of_call me (User client (request_message client m asks)) ≡ true
+  pub answers : (server : Pid) (r : Request) (n : ℕ) → is_of_call r.from (User server (answer r n)) ≡ true
+  pub no_request : (me : Pid) (i : Item) → is_of_call me i ≡ false → request_of i ≡ None
+  pub no_answer : (c : PtCall) (from : Pid) (body : Body) → is_of_call (pid_crossed c.client) (User from body) ≡ false
+      → says_to_call (pending_of c) (User from body) ≡ None

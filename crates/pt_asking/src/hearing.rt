@@ -126,7 +126,7 @@ fn is_answer(call: PtCall, from: Pid, body: Body) -> bool
 }
 
 /// Whether the message names this process.
-fn speaks_of(body: Body, pid: Pid) -> bool
+pub(crate) fn speaks_of(body: Body, pid: Pid) -> bool
     ensures { result ≡ speaks_of body pid }
 {
     match body.who {
