@@ -255,7 +255,8 @@ fn accept(mut stream: TcpStream, open: &Arc<AtomicUsize>, rooms: &Arc<Vec<Addres
 fn main() -> Result<(), Box<dyn std::error::Error>> {
     let words: Vec<String> = std::env::args().collect();
     let [_, port, history] = &words[..] else { return Err("chat PORT HISTORY".into()) };
-    let runtime = Runtime::builder().desks(4).lane(1_024).going_on_every(2_000).archive(HistoryFile::create(history)?).start()?;
+    let runtime =
+        Runtime::builder().desks(4).lane(1_024).going_on_every(2_000).archive(HistoryFile::create(history)?).start()?;
     let rooms = Arc::new((0..20).map(|_| runtime.spawn(Room::default())).collect::<Result<Vec<_>, _>>()?);
     let listener = TcpListener::bind(("127.0.0.1", port.parse()?))?;
     println!("{}", listener.local_addr()?);

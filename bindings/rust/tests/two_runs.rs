@@ -105,7 +105,8 @@ fn scenes() -> Result<(Scene, Scene), Error> {
 /// A history in which processes are born, have said what they were told to, and left as the run ended.
 fn is_quiet(history: &str) -> bool {
     let unwanted = [" monitor ", " demonitor ", " link ", " unlink ", " down ", "kill"];
-    !unwanted.iter().any(|word| history.contains(word)) && history.matches(" exit ").count() == history.matches(" shutdown").count()
+    !unwanted.iter().any(|word| history.contains(word))
+        && history.matches(" exit ").count() == history.matches(" shutdown").count()
 }
 
 #[test]
