@@ -170,8 +170,8 @@ is_of_call me (User from body) = speaks_of body from || speaks_of body me
 is_of_call me _ = false
 
 -- whether the item that the process got is of a call; if its code means nothing, the code says so
-unfoldable pub TellsCall : Pid → PtItem → ℕ → Bool → Bool → Type 0
-TellsCall me item code before after =
+unfoldable pub TellsIfCall : Pid → PtItem → ℕ → Bool → Bool → Type 0
+TellsIfCall me item code before after =
     MatchOption (item_in item) ((code ≡ bad_code) × (after ≡ before)) (λ i. (code ≡ 0) × (after ≡ is_of_call me i))
 
 -- requests and answers are told; and what is told to be neither is no request, and no answer to a call of its receiver

@@ -15,7 +15,7 @@
 //! - **Replying.** A request is what `request_of` returns for the item, and a reply is that of `reply`. (`ReadsRequest`,
 //!   `RepliesCode`)
 //! - **Messages of calls.** Each request and each answer is told from the program's own messages, and no other message
-//!   means anything to a server or to a call. (`TellsCall`, `CallsAreTold`)
+//!   means anything to a server or to a call. (`TellsIfCall`, `CallsAreTold`)
 //! - **Items.** What `item_out` makes of an item is read as that item, and no other code is. (`ItemsCross`)
 //! - **Refusals.** An item with a code that means nothing is refused, and nothing has changed.
 #![tactic(auto)]

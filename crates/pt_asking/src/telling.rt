@@ -2,7 +2,7 @@
 
 ghost use Rattle.std.specs.Prelude.{◌≡◌};
 ghost use Rattle.pt_structs.specs.Crossing.{pid_crossed};
-ghost use Rattle.pt_asking.specs.Calls.{CallsAreTold, TellsCall, is_of_call};
+ghost use Rattle.pt_asking.specs.Calls.{CallsAreTold, TellsIfCall, is_of_call};
 
 use crate::hearing::speaks_of;
 use crate::items::item_in;
@@ -13,9 +13,9 @@ use pt_workers::{Item, Pid};
 
 /// Writes whether an item that `me` got is a message of a call: a request, or an answer. What a message of the program's
 /// own is by its kind, such a message is not.
-#[tactic(auto, unfolding(crate::specs::Calls::TellsCall))]
+#[tactic(auto, unfolding(crate::specs::Calls::TellsIfCall))]
 pub fn is_call(me: PtPid, item: PtItem, out: &mut bool) -> u32
-    ensures { TellsCall (pid_crossed me) item result out.old out.new }
+    ensures { TellsIfCall (pid_crossed me) item result out.old out.new }
 {
     let Some(item) = item_in(item) else {
         return BAD_CODE;

@@ -6,7 +6,7 @@
 ghost use Rattle.std.specs.Prelude.{◌≡◌, true, false};
 ghost use Rattle.pt_table.specs.Answers.{CallsThrough};
 ghost use Rattle.pt_structs.specs.Crossing.{pid_crossed};
-ghost use Rattle.pt_asking.specs.Calls.{AsksServer, ExpiresCode, HearsItem, ReadsRequest, RepliesCode, TellsCall};
+ghost use Rattle.pt_asking.specs.Calls.{AsksServer, ExpiresCode, HearsItem, ReadsRequest, RepliesCode, TellsIfCall};
 ghost use Rattle.pt_asking.specs.About.{asking_about};
 
 use pt_asking::about::{PtAskingAbout, about};
@@ -94,7 +94,7 @@ pub extern "C" fn pt_request_of(item: PtItem, out: &mut PtRequest) -> u32
 /// Writes to `out` whether an item that `me` got is a message of a call: a request, or an answer.
 #[unsafe(no_mangle)]
 pub extern "C" fn pt_is_call(me: PtPid, item: PtItem, out: &mut bool) -> u32
-    ensures { TellsCall (pid_crossed me) item result out.old out.new }
+    ensures { TellsIfCall (pid_crossed me) item result out.old out.new }
 {
     is_call(me, item, out)
 }

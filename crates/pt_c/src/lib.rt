@@ -28,7 +28,7 @@
 //! - **Timers and names.** Each call is that of `Timers` and of `Names`, with bytes for a name. (`StartsTimer`,
 //!   `RegistersName`)
 //! - **Calls.** Asking, hearing and replying are those of `pt_crew`, and a call ends once. The messages of calls are told
-//!   from others. (`AsksServer`, `HearsItem`, `TellsCall`)
+//!   from others. (`AsksServer`, `HearsItem`, `TellsIfCall`)
 //! - **Letters and doors.** The next turn posts to no other desks than those told. What is taken out of a way in is what was
 //!   handed in, in order, each message once. (`PostsWhereLettersWait`, `TakesCode`, `meet` of `pt_doors`)
 //! - **Nodes.** Opening, gathering, settling and resuming leave in the handles what `open`, `gather`, `settle` and

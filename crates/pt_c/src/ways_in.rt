@@ -5,7 +5,7 @@
 
 ghost use Rattle.std.specs.Prelude.{◌≡◌};
 ghost use Rattle.pt_table.specs.Answers.{CallsThrough};
-ghost use Rattle.pt_handles.specs.Handles.{GivesUp};
+ghost use Rattle.pt_places.specs.Filling.{GivesUp};
 ghost use Rattle.pt_doors.specs.Crossing.{LooksInCode, OpensWayIn, PostsCode, TakesCode, post_in, sample_post};
 
 use pt_calls::doors;
