@@ -139,13 +139,19 @@ impl Hub {
         self.order() >= END && self.alive.load(SeqCst) == 0
     }
 
+    /// The process of a desk whose handler runs, and the name of its behaviour.
+    pub(crate) fn running(&self, desk: usize) -> Option<(Pid, &'static str)> {
+        let shard = u8::try_from(desk).ok()?;
+        let slot = self.slot(self.places.get(desk)?.running(shard)?)?;
+        Some((slot.pid(), slot.name()))
+    }
+
     /// A live process, and the name of its behaviour: one whose handler runs, if there is one, and else no supervisor,
     /// since that may wait for a child.
     pub(crate) fn somebody(&self) -> Option<(Pid, &'static str)> {
-        let mut running = (0..).zip(&self.places).filter_map(|(shard, place)| self.slot(place.running(shard)?));
         let living = || self.places.iter().flat_map(Place::slots);
         let waits = |slot: &Arc<dyn Slot>| slot.name() == type_name::<Supervisor>();
-        let found = running.next().or_else(|| living().min_by_key(waits));
-        found.map(|slot| (slot.pid(), slot.name()))
+        let found = (0..self.places.len()).find_map(|desk| self.running(desk));
+        found.or_else(|| living().min_by_key(waits).map(|slot| (slot.pid(), slot.name())))
     }
 }
