@@ -125,7 +125,7 @@ fn the_messages_of_calls_are_told() -> Result<(), Fault> {
     let mut desks = open(1, Config::default())?;
     let desk = &mut desks[0];
     let (client, server) = (desk.spawn()?, desk.spawn()?);
-    drop(desk.ask(client, server, 3)?);
+    let _ = desk.ask(client, server, 3)?;
     let request = receive(desk, server)?;
     assert!(request.is_call(server) && request.is_call(client));
     desk.reply(server, Request::of(request).expect("a request"), 3)?;
