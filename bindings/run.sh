@@ -178,6 +178,9 @@ echo "c: examples passed"
 # Rust: tests, examples of the documentation, the pages themselves, and lints
 (
     cd "$here/rust"
+    if cargo fmt --version >/dev/null 2>&1; then
+        cargo fmt --check
+    fi
     cargo test -q --offline
     RUSTDOCFLAGS="-D warnings" cargo doc -q --offline --no-deps
     cargo run -q --offline --example supervisor | diff "$here/c/supervisor.out" -

@@ -387,9 +387,7 @@ impl From<Item> for RawItem {
             Item::Down(monitor, pid, reason) => {
                 RawItem { code: 2, pid, reference: monitor.into(), reason: reason.into(), ..blank }
             }
-            Item::Alive(question, pid, alive) => {
-                RawItem { code: 3, alive, pid, reference: question.into(), ..blank }
-            }
+            Item::Alive(question, pid, alive) => RawItem { code: 3, alive, pid, reference: question.into(), ..blank },
         }
     }
 }

@@ -82,7 +82,8 @@ pub use iterators::{Events, Journal, LeftOvers, Links, Living, Monitors, Pids, W
 pub use reading::NotRead;
 pub use tools::{Fired, Holder, NameFault, Names, Timer, Timers};
 pub use values::{
-    Account, Body, Config, Event, Fault, Happened, Ids, Item, LeftOver, LinkId, Loss, Pick, Pid, Reason, Ref, Signal, Turned,
+    Account, Body, Config, Event, Fault, Happened, Ids, Item, LeftOver, LinkId, Loss, Pick, Pid, Reason, Ref, Signal,
+    Turned,
 };
 
 use raw::{Handle, RawAccount, RawIds, RawItem, RawLoss, RawRef, RawTurned};
@@ -453,11 +454,7 @@ impl Desk {
             items.push(item.into());
         }
         unsafe { raw::pt_next_loss(self.handle.own()) };
-        Some(Loss {
-            pid: out.pid,
-            reason: out.has_exited.then(|| out.reason.into()),
-            items,
-        })
+        Some(Loss { pid: out.pid, reason: out.has_exited.then(|| out.reason.into()), items })
     }
 
     /// Takes the first item that matches out of the mailbox of p, and `None` if none does: Erlang's `receive .. after 0`.

@@ -126,11 +126,28 @@ fn each_size_is_the_librarys() {
     let mut told = [0; 22];
     unsafe { pt_about_sizes(told.as_mut_ptr()) };
     let mine = [
-        size_of::<Pid>(), size_of::<RawRef>(), size_of::<RawIds>(), size_of::<RawReason>(), size_of::<RawBody>(),
-        size_of::<RawItem>(), size_of::<RawPick>(), size_of::<RawSignal>(), size_of::<RawEvent>(),
-        size_of::<RawLeftOver>(), size_of::<RawTurned>(), size_of::<RawAccount>(), size_of::<Config>(),
-        size_of::<RawNext>(), size_of::<RawJob>(), size_of::<RawAnswer>(), size_of::<RawLoss>(),
-        size_of::<RawTimer>(), size_of::<RawFired>(), size_of::<RawName>(), size_of::<RawHolder>(), told[21],
+        size_of::<Pid>(),
+        size_of::<RawRef>(),
+        size_of::<RawIds>(),
+        size_of::<RawReason>(),
+        size_of::<RawBody>(),
+        size_of::<RawItem>(),
+        size_of::<RawPick>(),
+        size_of::<RawSignal>(),
+        size_of::<RawEvent>(),
+        size_of::<RawLeftOver>(),
+        size_of::<RawTurned>(),
+        size_of::<RawAccount>(),
+        size_of::<Config>(),
+        size_of::<RawNext>(),
+        size_of::<RawJob>(),
+        size_of::<RawAnswer>(),
+        size_of::<RawLoss>(),
+        size_of::<RawTimer>(),
+        size_of::<RawFired>(),
+        size_of::<RawName>(),
+        size_of::<RawHolder>(),
+        told[21],
     ];
     assert_eq!(told, mine);
 }

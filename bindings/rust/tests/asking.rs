@@ -1,7 +1,8 @@
 //! Calls that are answered, where letters are, and the way in.
 
 use pundewo::{
-    Body, Call, Config, Desk, Door, Fault, Heard, Item, Pick, Pid, Post, PostError, Reason, Request, WayIn, open, way_in,
+    Body, Call, Config, Desk, Door, Fault, Heard, Item, Pick, Pid, Post, PostError, Reason, Request, WayIn, open,
+    way_in,
 };
 
 fn receive(desk: &mut Desk, p: Pid) -> Result<Item, Fault> {
@@ -61,7 +62,10 @@ fn what_is_handed_in_is_taken_out_in_order() -> Result<(), Fault> {
     assert_eq!((way_in.take(), way_in.waiting()), (None, 0));
     let full = Err(PostError::Full(post(3)));
     assert_eq!((door.post(post(1)), door.post(post(2)), door.post(post(3))), (Ok(()), Ok(()), full));
-    assert_eq!((way_in.waiting(), way_in.take(), way_in.take(), way_in.take()), (2, Some(post(1)), Some(post(2)), None));
+    assert_eq!(
+        (way_in.waiting(), way_in.take(), way_in.take(), way_in.take()),
+        (2, Some(post(1)), Some(post(2)), None)
+    );
     let outside = std::thread::spawn(move || {
         for num in 0..1000 {
             while door.post(post(num)).is_err() {
