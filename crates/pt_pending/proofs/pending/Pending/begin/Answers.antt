@@ -1,5 +1,5 @@
 -- `Pending::begin`: its clauses `does` and `goes_on`, and what its call of `number_of` asks.
-use Rattle.std.proofs.Common.{Some, true, inr, sym, ap, subst, ◌∙◌, ℤ}
+use Rattle.std.proofs.Common.{Some, true, inr, sym, ap, subst, ◌∙◌, ℤ, false}
 use Rattle.pt_desk.proofs.Turning.{goes_on_then}
 use Rattle.pt_pending.specs.declared.pending.Pending.{Pending}
 use Rattle.pt_crew.specs.Telling.{SendsTo}
