@@ -23,6 +23,7 @@
 //! - **Permanent children.** A supervisor always wants its permanent children alive. (`permanent_children_live`)
 #![tactic(auto)]
 
+mod asked;
 mod children;
 mod gathering;
 mod laws;
@@ -31,6 +32,7 @@ mod restart;
 mod supervised;
 mod supervisor;
 
+pub use asked::{Asked, Stage};
 pub use children::{Child, Shutdown};
 pub use gathering::gathered_children_live;
 pub use laws::permanent_children_live;

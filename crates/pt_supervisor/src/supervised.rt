@@ -62,6 +62,10 @@ pub fn quiet_children_live<B: Supervised + Drop>()
 {
     laws::journals_tell_their_pids();
     laws::journals_have_one_merge();
+    laws::merge_is_legal();
+    links::merge_known();
+    laws::one_down();
+    laws::stamps_make_new_ids();
 }
 
 /// If a supervisor stopped by itself, no child that it ever started is alive, unless that child sent it an exit signal.

@@ -2,7 +2,7 @@
 
 ghost use Rattle.pt_teams.specs.Quieting.{TeamsChildrenLive};
 
-use pt_laws::laws;
+use pt_laws::{laws, links};
 
 /// Once no team of a node has anything to do, and the node is gathered and settled, each child that a live supervisor wants
 /// alive is alive, on each desk, or unlinked itself. The function does nothing: its contract is the promise.
@@ -14,4 +14,8 @@ pub fn node_children_live()
 {
     laws::journals_tell_their_pids();
     laws::journals_have_one_merge();
+    laws::merge_is_legal();
+    links::merge_known();
+    laws::one_down();
+    laws::stamps_make_new_ids();
 }

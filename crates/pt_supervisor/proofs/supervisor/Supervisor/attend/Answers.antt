@@ -1,7 +1,7 @@
 -- `Supervisor::attend`: its clause `permanent`.
 use Rattle.std.proofs.Common.{sym, subst}
 use Rattle.pt_supervisor.specs.Children.{PermanentAreWanted}
-use Rattle.pt_supervisor.specs.Hearing.{Standing, standing}
+use Rattle.pt_supervisor.specs.Hearing.{Standing, closed, standing}
 use Rattle.pt_supervisor.proofs.Wanting.{heard_keeps}
 use Rattle.pt_supervisor.proofs.supervisor.Supervisor.attend.Goals as goal
 
