@@ -1,5 +1,5 @@
 -- What a process has open it made, before the start or since.
-use Rattle.std.proofs.Common.{◌≡◌, ℕ, ◌+◌, ◌≤◌, Bool, true, false, cond, ◌&&◌, List, [], ◌∷◌, Option, Some, None, refl, sym, ap, subst, ◌∙◌, arith}
+use Rattle.std.proofs.Common.{◌≡◌, ℕ, ◌+◌, ◌≤◌, Bool, true, false, cond, ◌&&◌, ◌||◌, List, [], ◌∷◌, Option, Some, None, refl, sym, ap, subst, ◌∙◌, arith}
 use Rattle.std.specs.List.{list_any}
 use Rattle.pt_signal.specs.declared.pid.Pid.{Pid}
 use Rattle.pt_signal.specs.declared.ids.Ref.{Ref}
@@ -24,7 +24,7 @@ pub some_counted : {X : Type 0} (test : X → Bool) (xs : List X) → list_any t
 some_counted test [] h = absurd (cc)
 some_counted test (x ∷ xs) h = by_cases (test x)
     (λ t. let one : one_if (test x) ≡ 1 = ap one_if t in omega (arith, one))
-    (λ f. let more : list_any test xs ≡ true = sym (λ i. cond (f i) true (list_any test xs)) ∙ h in let k = some_counted test xs more in omega (arith, k))
+    (λ f. let more : list_any test xs ≡ true = sym (ap (λ (b : Bool). b || list_any test xs) f) ∙ h in let k = some_counted test xs more in omega (arith, k))
 
 -- of one target at most as many as of all
 pub open_among : (m : Ref) (t : Pid) (es : List (Ref × Pid)) → count (is_open m t) es ≤ count (λ (e : Ref × Pid). same_ref m e.0) es

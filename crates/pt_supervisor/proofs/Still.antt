@@ -1,5 +1,5 @@
 -- Supervisors in a node that is still.
-use Rattle.std.proofs.Common.{◌≡◌, ◌⊎◌, inl, inr, ℕ, zero, suc, ◌<◌, ◌≤◌, Bool, true, false, cond, List, [], ◌∷◌, length, get_or, slice_get, Option, Some, None, is_some, refl, sym, ap, subst, ◌∙◌, arith}
+use Rattle.std.proofs.Common.{◌≡◌, ◌⊎◌, inl, inr, ℕ, zero, suc, ◌<◌, ◌≤◌, Bool, true, false, cond, ◌||◌, List, [], ◌∷◌, length, get_or, slice_get, Option, Some, None, is_some, refl, sym, ap, subst, ◌∙◌, arith}
 use Rattle.std.specs.Prelude.{nat_le}
 use Rattle.std.specs.List.{list_any, find}
 use Rattle.std.specs.Option.{option_map}
@@ -29,7 +29,7 @@ use Rattle.pt_laws.specs.Watch.{is_down_item, is_open, open_in}
 use Rattle.pt_laws.proofs.monitoring.Monitors.{said_to_one}
 use Rattle.pt_shard.specs.Begun.{Every}
 use Rattle.pt_shard.specs.ShardState.{ShardState, phase_of, state_in, lives}
-use Rattle.pt_gathered.specs.Beginning.{IsBeginning}
+use Rattle.pt_beginning.specs.Beginning.{IsBeginning}
 use Rattle.pt_gathered.specs.Gathered.{GatheredState, IsGathered, begins, journals}
 use Rattle.pt_gathered.specs.Pasts.{GoesOnFrom}
 use Rattle.pt_gathered.specs.Settling.{NothingLeft}
@@ -115,7 +115,7 @@ down_waits m (x ∷ items) any = by_cases (fits (Pick.DownOf m) x)
     (λ t. ap (λ (b : Bool). is_some (cond b (Some x) (find (fits (Pick.DownOf m)) items))) t)
     (λ f.
     ap (λ (b : Bool). is_some (cond b (Some x) (find (fits (Pick.DownOf m)) items))) f
-    ∙ down_waits m items (sym (ap (λ (b : Bool). cond b true (list_any (is_down_item m) items)) (as_item x ∙ f)) ∙ any))
+    ∙ down_waits m items (sym (ap (λ (b : Bool). b || list_any (is_down_item m) items) (as_item x ∙ f)) ∙ any))
   where
     as_item : (y : Item) → is_down_item m y ≡ fits (Pick.DownOf m) y
     as_item (Item.Down n from r) = refl
@@ -188,9 +188,13 @@ module _ {B : Type 0} (part : PartOf B) (laws : StillLaws) (past : Past) (c : Cr
     go (inl (inr waits)) other = absurd (idle_empty (phase_of d p) (is_end_of q.0) here (idle p (b, Wait Pick.Any) is) waits)
 
     child_lives : ChildLives past child p d g merged
-    child_lives = (q.0, q.1, by_cases (same_pid p q.0)
-        (λ same. inl (subst (λ (x : Pid). alive (begins g) (events merged) x ≡ true) (same_pid_is p q.0 same) lives_there))
-        (λ other. go (holds.family.held holds.waits.2 place q.0 (ap pid_of_child at_place ∙ q.1)) other))
+    child_lives = (
+      q.0,
+      q.1,
+      by_cases (same_pid p q.0)
+          (λ same. inl (subst (λ (x : Pid). alive (begins g) (events merged) x ≡ true) (same_pid_is p q.0 same) lives_there))
+          (λ other. go (holds.family.held holds.waits.2 place q.0 (ap pid_of_child at_place ∙ q.1)) other),
+    )
 
   -- one that ends a child ------------------------------------------------------------------------------
 
@@ -205,7 +209,7 @@ module _ {B : Type 0} (part : PartOf B) (laws : StillLaws) (past : Past) (c : Cr
     opened = go (asked.watched ref by)
       where
         go : IsWatched (state_in d p) ref q → list_any (is_open ref q) (state_in d p).watching ≡ true
-        go (inl open) = open
+        go (inl made) = made
         go (inr waits) = none_down (phase_of d p) ref here idle_is waits
 
     open_there : 1 ≤ open_in p q ref (life (begins g) (events merged) p)

@@ -423,7 +423,7 @@ found_with : (past : Past) (me : Pid) (now : ℕ) (s : Standing) (e : ShardState
 found_with past me now s e None is k = k
 found_with past me now s e (Some p) is k = (
   kept_less past me (Exit p Reason.Noproc) s (heard now p Reason.Noproc (record s { asked = None })) e
-  (less_as (Exit p Reason.Noproc) s (heard now p Reason.Noproc (record s { asked = None })) (less_heard now p Reason.Noproc (record s { asked = None }) k.0.family.apart)) tells k.0,
+      (less_as (Exit p Reason.Noproc) s (heard now p Reason.Noproc (record s { asked = None })) (less_heard now p Reason.Noproc (record s { asked = None }) k.0.family.apart)) tells k.0,
   λ a some placed. absurd (let bad : None ≡ Some a = sym (heard_asked now p Reason.Noproc (record s { asked = None })) ∙ some in cc),
 )
   where

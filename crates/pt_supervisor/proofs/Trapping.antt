@@ -84,9 +84,14 @@ module _ (start : Start) (me q : Pid) (same_desk : q.shard ≡ me.shard) (r : Re
   by_phase (ended w st) a s lived lives = absurd (cc)
 
   lived_on : (past : Past) (a b : Pid) (s : Reason) → (same_pid me a && same_pid q b && is_bid r s) ≡ true → is_living (life start past q) ≡ true → alive start (Came a b (Signal.Exit s) ∷ past) q ≡ true → Survived (Came a b (Signal.Exit s) ∷ past)
-  lived_on past a b s told lived lives = ([], past, one, subst (λ (x : Pid). (handle q (state_of (life start past q)) x (Signal.Exit r)).ending ≡ None) (sym from)
-      (subst (λ (x : Reason). (handle q (state_of (life start past q)) a (Signal.Exit x)).ending ≡ None) (sym so)
-      (by_phase (life start past q) a s lived (sym (ap (λ (c : Bool). is_living (cond c (gets q a (Signal.Exit s) (life start past q)) (life start past q))) two.1) ∙ lives))))
+  lived_on past a b s told lived lives = (
+    [],
+    past,
+    one,
+    subst (λ (x : Pid). (handle q (state_of (life start past q)) x (Signal.Exit r)).ending ≡ None) (sym from)
+        (subst (λ (x : Reason). (handle q (state_of (life start past q)) a (Signal.Exit x)).ending ≡ None) (sym so)
+        (by_phase (life start past q) a s lived (sym (ap (λ (c : Bool). is_living (cond c (gets q a (Signal.Exit s) (life start past q)) (life start past q))) two.1) ∙ lives))),
+  )
     where
       whole : ((same_pid me a && same_pid q b) ≡ true) × (is_bid r s ≡ true)
       whole = and_parts (same_pid me a && same_pid q b) (is_bid r s) told
@@ -135,7 +140,7 @@ module _ (start : Start) (me q : Pid) (same_desk : q.shard ≡ me.shard) (r : Re
 
       was_born : (b : Bool) → bids_to me q r e ≡ b → is_unborn (life start past q) ≡ false
       was_born true here = born_before e past known here
-      was_born false no = told_born past (known_rest start e past known) (sym (ap (λ (b : Bool). b || has_bid_to me q r past) no) ∙ told)
+      was_born false off = told_born past (known_rest start e past known) (sym (ap (λ (b : Bool). b || has_bid_to me q r past) off) ∙ told)
 
   pub quiet_came : (past : Past) → IsLegal start past → IsKnownSaid start past → flying start past ≡ [] → alive start past q ≡ true → has_bid_to me q r past ≡ true → Survived past
   quiet_came past legal known quiet lives told = go (told_came past legal known lives told)

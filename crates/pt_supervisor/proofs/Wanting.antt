@@ -92,7 +92,7 @@ revived_get xs first zero j x at = (x, at, kin_same x)
 revived_get xs first (suc n) j x at = by_cases (nat_le first n)
     (λ is.
     let m = one_get (revived xs first n) n j x (slice_get (revived xs first n) n) refl
-        (subst (λ (b : Bool). slice_get (cond b (revive_in (slice_get (revived xs first n) n) n (revived xs first n)) (revived xs first n)) j ≡ Some x) is at) in
+    (subst (λ (b : Bool). slice_get (cond b (revive_in (slice_get (revived xs first n) n) n (revived xs first n)) (revived xs first n)) j ≡ Some x) is at) in
     let k = revived_get xs first n j m.0 m.1 in
     (k.0, k.1, kin_then k.0 m.0 x k.2 m.2))
     (λ no. revived_get xs first n j x (subst (λ (b : Bool). slice_get (cond b (revive_in (slice_get (revived xs first n) n) n (revived xs first n)) (revived xs first n)) j ≡ Some x) no at))

@@ -1,7 +1,7 @@
 //! How far a supervisor has come in ending a child.
 
 ghost use Rattle.std.specs.Prelude.{◌≡◌};
-ghost use Rattle.pt_supervisor.specs.Ending.{is_ref, monitor_of, stage_of, waits_in};
+ghost use Rattle.pt_supervisor.specs.Ending.{gone_in, is_ref, monitor_of, stage_of, unless_by, waits_in};
 
 use pt_crew::Next;
 use pt_node::{Pick, Pid, Ref};
@@ -59,7 +59,7 @@ pub struct Asked {
 
 impl Asked {
     /// Whether the child is monitored by this monitor.
-    pub(crate) fn is_by(&self, monitor: Ref) -> bool
+    fn is_by(&self, monitor: Ref) -> bool
         ensures { result ≡ is_ref (monitor_of self.now.stage) monitor }
     {
         match self.stage.monitor() {
@@ -75,6 +75,31 @@ pub(crate) fn stage_of(asked: Option<Asked>, pid: Pid) -> Option<Stage>
 {
     match asked {
         Some(asked) if asked.pid == pid => Some(asked.stage),
+        _ => None,
+    }
+}
+
+/// The child that is ended, unless it is monitored by this monitor.
+pub(crate) fn unless_by(asked: Option<Asked>, monitor: Ref) -> Option<Asked>
+    ensures { result ≡ unless_by monitor asked }
+{
+    match asked {
+        Some(asked) if asked.is_by(monitor) => None,
+        _ => asked,
+    }
+}
+
+/// The child that was found to have exited, if the one that is ended was.
+pub(crate) fn gone_in(asked: Option<Asked>) -> Option<Pid>
+    ensures { result ≡ gone_in asked }
+{
+    match asked {
+        Some(
+            Asked {
+                pid,
+                stage: Stage::Gone,
+            },
+        ) => Some(pid),
         _ => None,
     }
 }

@@ -12,7 +12,8 @@ use pt_laws::{laws, links};
 use pt_node::Gate;
 
 /// On each desk of a gathered node, each child that its supervisor wants alive is alive, or unlinked itself from the
-/// supervisor. The function does nothing: its contract is the promise.
+/// supervisor; unless the supervisor is ending a child that traps exits and lives on. The function does nothing: its
+/// contract is the promise.
 ///
 /// It needs something of the crews, each over the desk at its place, after what happened on their node before (`past`):
 /// [] if nothing is known of it. A run of them at this gate keeps it, on threads

@@ -6,7 +6,7 @@ ghost use Rattle.pt_signal.specs.declared.pid.Pid.{Pid};
 ghost use Rattle.pt_shard.specs.declared.fault.Fault.{Fault};
 ghost use Rattle.pt_crew.specs.declared.behaviour.Next.{Next};
 
-use crate::asked::{Asked, Stage, stage_of};
+use crate::asked::{Asked, Stage, gone_in, stage_of, unless_by};
 use crate::children::{Child, Shutdown, is_process, last_alive, place_of, revive};
 use crate::limit::Limit;
 use crate::restart::{Restart, Strategy};
@@ -55,7 +55,8 @@ impl<S> Supervisor<S> {
     ghost use Rattle.pt_crew.specs.Visiting.{takes};
     ghost use Rattle.pt_supervisor.specs.Children.{AreStarted, PermanentAreWanted};
     ghost use Rattle.pt_supervisor.specs.Ending.{end_heard, stage_of};
-    ghost use Rattle.pt_supervisor.specs.Hearing.{at_stage, begun, closed, found, heard, lost, program_of, standing};
+    ghost use Rattle.pt_supervisor.specs.Hearing.{begun, closed, found, heard, lost, program_of, standing};
+    ghost use Rattle.pt_supervisor.specs.Limits.{moment};
     ghost use Rattle.pt_supervisor.specs.Hearing.{started_again, stopped};
     ghost use Rattle.pt_supervisor.specs.Supervising.{Advances, EndsChild, SupervisorAttends, SupervisorHandles, Tells};
     ghost use Rattle.pt_supervisor.specs.Supervising.{CountsBirths, SetsAt, StartsAll, StartsOne, Supervises, Watches};
@@ -137,13 +138,7 @@ impl<S> Supervisor<S> {
             Some(Item::Exit(from, _)) => Some(from),
             Some(Item::Down(_, from, _)) => Some(from),
             Some(_) => None,
-            None => match self.asked {
-                Some(Asked {
-                    pid,
-                    stage: Stage::Gone,
-                }) => Some(pid),
-                _ => None,
-            },
+            None => gone_in(self.asked),
         }
     }
 
@@ -221,14 +216,11 @@ impl<S> Supervisor<S> {
     {
         match item {
             Some(Item::Exit(from, reason)) => {
-                let moment = self.limit.moment(desk.clock(), now);
-                self.hear(moment, from, reason);
+                self.hear(desk, now, from, reason);
                 true
             }
             Some(Item::Down(monitor, from, reason)) => {
-                let moment = self.limit.moment(desk.clock(), now);
-                self.close(monitor);
-                self.hear(moment, from, reason);
+                self.hear_down(desk, now, monitor, from, reason);
                 true
             }
             Some(_) => true,
@@ -249,41 +241,44 @@ impl<S> Supervisor<S> {
         if trap(desk, me, true).is_err() {
             return false;
         }
-        let moment = self.limit.moment(desk.clock(), now);
-        self.find(moment);
+        self.find(desk, now);
         true
     }
 
-    /// Notes that a monitor is closed.
-    fn close(&mut self, monitor: Ref)
-        ensures standing { standing self.new ≡ closed monitor (standing self.old) }
+    /// Notes that the child which it found to have exited has exited, if there is one.
+    fn find(&mut self, desk: &Desk, now: u64)
+        ensures standing { standing self.new
+            ≡ found (moment (standing self.old).timed desk.now.shard.clock now) (standing self.old) }
         ensures start { program_of self.new ≡ program_of self.old }
     {
-        if let Some(asked) = self.asked {
-            if asked.is_by(monitor) {
-                self.asked = None;
-            }
+        if let Some(pid) = gone_in(self.asked) {
+            self.set_asked(None);
+            self.hear(desk, now, pid, Reason::Noproc);
         }
     }
 
-    /// Notes that the child which it found to have exited has exited, if there is one.
-    fn find(&mut self, now: u64)
-        ensures standing { standing self.new ≡ found now (standing self.old) }
+    /// Notes that a process which it monitored has exited. It does not monitor it any more.
+    fn hear_down(&mut self, desk: &Desk, now: u64, monitor: Ref, from: Pid, reason: Reason)
+        ensures standing { standing self.new ≡ heard (moment (standing self.old).timed desk.now.shard.clock now) from reason
+            (closed monitor (standing self.old)) }
         ensures start { program_of self.new ≡ program_of self.old }
     {
-        if let Some(Asked {
-            pid,
-            stage: Stage::Gone,
-        }) = self.asked
-        {
-            self.asked = None;
-            self.hear(now, pid, Reason::Noproc);
-        }
+        self.set_asked(unless_by(self.asked, monitor));
+        self.hear(desk, now, from, reason);
+    }
+
+    /// Notes which child it ends, and how far it has come.
+    fn set_asked(&mut self, asked: Option<Asked>)
+        ensures standing { standing self.new ≡ record (standing self.old) { asked = asked } }
+        ensures start { program_of self.new ≡ program_of self.old }
+    {
+        self.asked = asked;
     }
 
     /// Notes that a process has exited, and what is to be done about it.
-    fn hear(&mut self, now: u64, from: Pid, reason: Reason)
-        ensures standing { standing self.new ≡ heard now from reason (standing self.old) }
+    fn hear(&mut self, desk: &Desk, now: u64, from: Pid, reason: Reason)
+        ensures standing { standing self.new
+            ≡ heard (moment (standing self.old).timed desk.now.shard.clock now) from reason (standing self.old) }
         ensures start { program_of self.new ≡ program_of self.old }
     {
         if is_process(self.parent, from) {
@@ -291,7 +286,8 @@ impl<S> Supervisor<S> {
             return;
         }
         if let Some(place) = place_of(self.children.as_slice(), from) {
-            self.lose(now, place, reason);
+            let moment = self.limit.moment(desk.clock(), now);
+            self.lose(moment, place, reason);
         }
     }
 
@@ -409,23 +405,21 @@ impl<S> Supervisor<S> {
     {
         match monitor(desk, me, pid) {
             Ok(made) => {
-                self.set_stage(pid, Stage::Watched(made));
+                self.set_asked(Some(Asked {
+                    pid,
+                    stage: Stage::Watched(made),
+                }));
                 self.tell(desk, me, pid, shutdown.bids(), shutdown.told(made, now))
             }
             Err(CallFault::Refused(Fault::NoProc)) => {
-                self.set_stage(pid, Stage::Gone);
+                self.set_asked(Some(Asked {
+                    pid,
+                    stage: Stage::Gone,
+                }));
                 Next::Proceed
             }
             Err(_) => Next::Proceed,
         }
-    }
-
-    /// Notes how far it has come in ending a child.
-    fn set_stage(&mut self, pid: Pid, stage: Stage)
-        ensures standing { standing self.new ≡ at_stage pid stage (standing self.old) }
-        ensures start { program_of self.new ≡ program_of self.old }
-    {
-        self.asked = Some(Asked { pid, stage });
     }
 
     /// Sends a child that it monitors an exit signal. It has come to that stage then, and waits for the `DOWN`. Proceeds
@@ -441,7 +435,7 @@ impl<S> Supervisor<S> {
         if exit_signal(desk, me, pid, reason).is_err() {
             return Next::Proceed;
         }
-        self.set_stage(pid, stage);
+        self.set_asked(Some(Asked { pid, stage }));
         stage.waits()
     }
 

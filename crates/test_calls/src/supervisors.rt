@@ -49,7 +49,10 @@ fn restarts_are_limited_by_time(rt: HostRuntime) {
 /// It has started no child.
 fn look(rt: &impl Abort, supervisor: &Supervisor<Nobody>) {
     same(rt, supervisor.started(), 0);
-    holds(rt, supervisor.asked().is_none() && supervisor.hears(None).is_none());
+    holds(
+        rt,
+        supervisor.asked().is_none() && supervisor.hears(None).is_none(),
+    );
     same(rt, supervisor.children().len(), 1);
 }
 
