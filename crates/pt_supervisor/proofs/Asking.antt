@@ -38,7 +38,7 @@ use Rattle.pt_supervisor.specs.declared.children.Shutdown.{Shutdown}
 use Rattle.pt_supervisor.specs.declared.children.Shutdown.TheVariants.{Infinity, After, BrutalKill}
 use Rattle.pt_supervisor.specs.Ending.{bids, gone_at, is_ref, monitor_of, stage_of, told_by, told_in, unless_by}
 use Rattle.pt_supervisor.specs.Hearing.{Standing, at_stage}
-use Rattle.pt_supervisor.specs.Supervising.{EndsChild, Tells, after_watching}
+use Rattle.pt_supervisor.specs.Supervising.{EndsChild, TellsToEnd, after_watching}
 use Rattle.pt_supervisor.specs.Keeping.{AreAsked, IsAsked, IsPlaced, IsWatched, all_events, bids_to, has_bid_to, has_told, is_bid}
 use Rattle.pt_supervisor.proofs.Ending.{stage_at}
 use Rattle.pt_supervisor.proofs.Families.{ToldAs, WatchedAs, any_later, own_phase, told_as, told_later, watched_as}
@@ -176,7 +176,7 @@ module _ (past : Past) (me p : Pid) where
         })
 
     tells_asks : (old : Standing) (before : DeskState) (next : Next) (new : Standing) (after : DeskState) → before.shard ≡ d → after.shard ≡ e → old.children ≡ children → AreAsked past children old.asked me d → (IsPlaced children p → IsWatched (state_in d me) m p)
-        → Tells me p reason stage old before next new after → AreAsked past children new.asked me e
+        → TellsToEnd me p reason stage old before next new after → AreAsked past children new.asked me e
     tells_asks old before next new after d_is e_is c_is asks watch h =
         subst (λ (o : Option Asked). AreAsked past children o me e) (sym (ap (λ (t : Standing). t.asked) h.new_is ∙ pushed (is_ok h.result)))
         (told_asks h.result (subst (λ (x : ShardState). ToldAs me p reason x e h.result) d_is (subst (λ (x : ShardState). ToldAs me p reason before.shard x h.result) e_is (told_as me p reason (knows before.shard p) before after h.result h.signal))) old.asked asks watch)
@@ -234,15 +234,15 @@ module _ (past : Past) (me p : Pid) where
     was_watched : (stage : Stage) (m : Ref) → s.asked ≡ Some (record { pid = p; stage = stage }) → monitor_of stage ≡ Some m → IsPlaced s.children p → IsWatched (state_in d.shard me) m p
     was_watched stage m asked by placed = (asks (record { pid = p; stage = stage }) asked placed).watched m by
 
-    bid_asks : (stage : Stage) (m : Ref) → s.asked ≡ Some (record { pid = p; stage = stage }) → monitor_of stage ≡ Some m → Tells me p (bids shutdown) (told_by shutdown m now) s d next t e → Asks
+    bid_asks : (stage : Stage) (m : Ref) → s.asked ≡ Some (record { pid = p; stage = stage }) → monitor_of stage ≡ Some m → TellsToEnd me p (bids shutdown) (told_by shutdown m now) s d next t e → Asks
     bid_asks stage m asked by h =
         tells_asks (bids shutdown) (told_by shutdown m now) m (reached_by shutdown m now) d.shard e.shard s.children state is s d next t e refl refl refl asks (was_watched stage m asked by) h
 
-    kill_asks : (stage : Stage) (m : Ref) → s.asked ≡ Some (record { pid = p; stage = stage }) → monitor_of stage ≡ Some m → Tells me p Reason.Kill (Killed m) s d next t e → Asks
+    kill_asks : (stage : Stage) (m : Ref) → s.asked ≡ Some (record { pid = p; stage = stage }) → monitor_of stage ≡ Some m → TellsToEnd me p Reason.Kill (Killed m) s d next t e → Asks
     kill_asks stage m asked by h = tells_asks Reason.Kill (Killed m) m (reached_kill m) d.shard e.shard s.children state is s d next t e refl refl refl asks (was_watched stage m asked by) h
 
     over_asks : (early : Bool) (m : Ref) (at : ℕ) → s.asked ≡ Some (record { pid = p; stage = Until m at })
-        → MatchBool early ((next ≡ WaitUntil (Pick.DownOf m) at) × (t ≡ s) × (e ≡ d)) (Tells me p Reason.Kill (Killed m) s d next t e) → Asks
+        → MatchBool early ((next ≡ WaitUntil (Pick.DownOf m) at) × (t ≡ s) × (e ≡ d)) (TellsToEnd me p Reason.Kill (Killed m) s d next t e) → Asks
     over_asks true m at asked h = same_asks s.asked asks d.shard refl (ap (λ (y : DeskState). y.shard) h.2) (ap (λ (y : Standing). y.asked) h.1)
     over_asks false m at asked h = kill_asks (Until m at) m asked refl h
 

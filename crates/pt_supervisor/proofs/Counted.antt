@@ -31,7 +31,7 @@ use Rattle.pt_supervisor.specs.Children.{is_child, is_missing, last_alive}
 use Rattle.pt_supervisor.specs.Ending.{bids, gone_in, stage_of, told_by}
 use Rattle.pt_supervisor.specs.Hearing.{Standing, at_stage, closed, found, heard, heard_at, heard_gone, lost, gone, lives_again, stopped}
 use Rattle.pt_supervisor.specs.Limits.{moment}
-use Rattle.pt_supervisor.specs.Supervising.{CountsBirths, counted_with, EndsChild, Tells, Watches, after_watching, StartsOf, Nursery, BearsAs, StartsAt, StartsOne, StartsFirst, StartsAll, SupervisorScene, nursery, SupervisorSettles, AdvancesAs, SupervisorAttends, SupervisorHandles, with_one, after_attending}
+use Rattle.pt_supervisor.specs.Supervising.{CountsBirths, counted_with, EndsChild, TellsToEnd, WatchesChild, after_watching, StartsOf, Nursery, BearsAs, StartsAt, StartsOne, StartsFirst, StartsAll, SupervisorScene, nursery, SupervisorSettles, AdvancesAs, SupervisorAttends, SupervisorHandles, with_one, after_attending}
 use Rattle.pt_supervisor.proofs.Families.{ToldAs, WatchedAs, heard_count, told_as, watched_as}
 use Rattle.pt_supervisor.proofs.Tending.{ends_rest, not_born}
 
@@ -113,7 +113,7 @@ module _ (me : Pid) where
     watched_bare d e (Err (CallFault.Refused Myself)) h = ap (λ (f : ShardState). children_by me f.journal) h
     watched_bare d e (Err Unknown) h = ap (λ (f : ShardState). children_by me f.journal) h
 
-    tells_bare : (reason : Reason) (stage : Stage) (s : Standing) (d : DeskState) (next : Next) (t : Standing) (e : DeskState) → Tells me p reason stage s d next t e → children_by me e.shard.journal ≡ children_by me d.shard.journal
+    tells_bare : (reason : Reason) (stage : Stage) (s : Standing) (d : DeskState) (next : Next) (t : Standing) (e : DeskState) → TellsToEnd me p reason stage s d next t e → children_by me e.shard.journal ≡ children_by me d.shard.journal
     tells_bare reason stage s d next t e h = told_bare reason d.shard e.shard h.result (told_as me p reason (knows d.shard p) d e h.result h.signal)
 
     same_bare : (d e : DeskState) → e ≡ d → children_by me e.shard.journal ≡ children_by me d.shard.journal
@@ -133,10 +133,10 @@ module _ (me : Pid) where
       abbrev Bare : Type 0
       Bare = children_by me e.shard.journal ≡ children_by me d.shard.journal
 
-      watches_bare : Watches me now p shutdown s d next t e → Bare
+      watches_bare : WatchesChild me now p shutdown s d next t e → Bare
       watches_bare h = after_bare now shutdown h.result s h.mid next t e h.goes ∙ watched_bare d.shard h.mid.shard h.result (watched_as me p (knows d.shard p) d h.mid h.result h.monitor)
 
-      over_bare : (early : Bool) (m : Ref) (at : ℕ) → MatchBool early ((next ≡ WaitUntil (Pick.DownOf m) at) × (t ≡ s) × (e ≡ d)) (Tells me p Reason.Kill (Killed m) s d next t e) → Bare
+      over_bare : (early : Bool) (m : Ref) (at : ℕ) → MatchBool early ((next ≡ WaitUntil (Pick.DownOf m) at) × (t ≡ s) × (e ≡ d)) (TellsToEnd me p Reason.Kill (Killed m) s d next t e) → Bare
       over_bare true m at h = same_bare d e h.2
       over_bare false m at h = tells_bare Reason.Kill (Killed m) s d next t e h
 

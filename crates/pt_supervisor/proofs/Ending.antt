@@ -5,6 +5,7 @@ use Rattle.pt_signal.specs.declared.pid.Pid.{Pid}
 use Rattle.pt_signal.specs.declared.ids.Ref.{Ref}
 use Rattle.pt_signal.specs.declared.item.Pick.{Pick}
 use Rattle.pt_signal.specs.declared.reason.Reason.{Reason}
+use Rattle.pt_signal.specs.Values.{same_pid}
 use Rattle.pt_signal.proofs.Same.{same_pid_is}
 use Rattle.pt_shard.specs.declared.fault.Fault.TheVariants.{Full, Memory, Worn, Gone as Over, Myself, NoProc}
 use Rattle.pt_desk.specs.DeskState.{DeskState}
@@ -21,7 +22,7 @@ use Rattle.pt_supervisor.specs.declared.children.Shutdown.TheVariants.{Infinity,
 use Rattle.pt_supervisor.specs.Children.{last_alive}
 use Rattle.pt_supervisor.specs.Ending.{bids, stage_of, told_by, waits_in}
 use Rattle.pt_supervisor.specs.Hearing.{Standing, at_stage}
-use Rattle.pt_supervisor.specs.Supervising.{EndsChild, Supervises, Tells, after_watching}
+use Rattle.pt_supervisor.specs.Supervising.{EndsChild, Supervises, TellsToEnd, after_watching}
 
 -- the one that it ends, as far as it has come
 pub stage_at : (asked : Option Asked) (p : Pid) (stage : Stage) → stage_of asked p ≡ Some stage → asked ≡ Some (record { pid = p; stage = stage })
@@ -42,7 +43,7 @@ module _ (me p : Pid) where
   told_waits stage s next waits true t next_is t_is = subst (λ (n : Next). Supervises n t) (sym next_is) (subst (Supervises (waits_in stage)) (sym t_is) waits)
   told_waits stage s next waits false t next_is t_is = subst (λ (n : Next). Supervises n t) (sym next_is) tt
 
-  tells_supervise : (reason : Reason) (stage : Stage) (s : Standing) (d : DeskState) (next : Next) (t : Standing) (e : DeskState) → Supervises (waits_in stage) (at_stage p stage s) → Tells me p reason stage s d next t e → Supervises next t
+  tells_supervise : (reason : Reason) (stage : Stage) (s : Standing) (d : DeskState) (next : Next) (t : Standing) (e : DeskState) → Supervises (waits_in stage) (at_stage p stage s) → TellsToEnd me p reason stage s d next t e → Supervises next t
   tells_supervise reason stage s d next t e waits h = told_waits stage s next waits (is_ok h.result) t h.next_is h.new_is
 
   by_shutdown : (shutdown : Shutdown) (m : Ref) (now : ℕ) (s : Standing) → IsLast p shutdown s → Supervises (waits_in (told_by shutdown m now)) (at_stage p (told_by shutdown m now) s)
@@ -51,11 +52,11 @@ module _ (me p : Pid) where
   by_shutdown BrutalKill m now s last = (p, BrutalKill, inr (last, refl))
 
   module _ (shutdown : Shutdown) (s : Standing) (d : DeskState) (next : Next) (t : Standing) (e : DeskState) (last : IsLast p shutdown s) where
-    kill_supervises : (m : Ref) → Tells me p Reason.Kill (Killed m) s d next t e → Supervises next t
+    kill_supervises : (m : Ref) → TellsToEnd me p Reason.Kill (Killed m) s d next t e → Supervises next t
     kill_supervises m h = tells_supervise Reason.Kill (Killed m) s d next t e (p, shutdown, inr (last, refl)) h
 
     over_supervises : (early : Bool) (m : Ref) (at : ℕ) → s.asked ≡ Some (record { pid = p; stage = Until m at })
-        → MatchBool early ((next ≡ WaitUntil (Pick.DownOf m) at) × (t ≡ s) × (e ≡ d)) (Tells me p Reason.Kill (Killed m) s d next t e) → Supervises next t
+        → MatchBool early ((next ≡ WaitUntil (Pick.DownOf m) at) × (t ≡ s) × (e ≡ d)) (TellsToEnd me p Reason.Kill (Killed m) s d next t e) → Supervises next t
     over_supervises true m at is h = subst (λ (n : Next). Supervises n t) (sym h.0) (subst (Supervises (WaitUntil (Pick.DownOf m) at)) (sym h.1) (p, shutdown, (last, is)))
     over_supervises false m at is h = kill_supervises m h
 

@@ -45,7 +45,7 @@ use Rattle.pt_supervisor.specs.Children.{NoneLives, is_missing, last_alive}
 use Rattle.pt_supervisor.specs.Ending.{bids, gone_at, gone_in, is_ref, monitor_of, stage_of, told_by}
 use Rattle.pt_supervisor.specs.Limits.{moment}
 use Rattle.pt_supervisor.specs.Hearing.{Standing, at_stage, closed, found, heard, heard_gone}
-use Rattle.pt_supervisor.specs.Supervising.{EndsChild, Tells, Watches, after_watching, StartsOf, Nursery, BearsAs, StartsAt, StartsOne, StartsFirst, StartsAll, SupervisorScene, nursery, SupervisorSettles, AdvancesAs, SupervisorAttends, SupervisorHandles, Supervises, with_pid, with_one, after_attending}
+use Rattle.pt_supervisor.specs.Supervising.{EndsChild, TellsToEnd, WatchesChild, after_watching, StartsOf, Nursery, BearsAs, StartsAt, StartsOne, StartsFirst, StartsAll, SupervisorScene, nursery, SupervisorSettles, AdvancesAs, SupervisorAttends, SupervisorHandles, Supervises, with_pid, with_one, after_attending}
 use Rattle.pt_supervisor.specs.Keeping.{is_end_of, is_cut, has_cut, all_events, IsTied, IsHeld, Family, all_children, was_started, has_told, IsPlaced, Remembers, AreAsked, IsWatched, Holds, Tends, PartOf, HoldsAs, Keeps, SupervisorBegins, AllBegin, ActsAs, SuperviseAs}
 use Rattle.pt_supervisor.proofs.Tying.{or_left, stays_in, tied_by, is_unlink, handled_tied, handled_traps}
 use Rattle.pt_supervisor.proofs.Telling.{found_any, waits_told}
@@ -159,15 +159,15 @@ module _ {S B : Type 0} (starts : StartsOf S B) (me : Pid) where
       (all_kept starts me past (length old.standing.children) (nursery old) (nursery new) h.0 h.1
       (subst (λ (o : Option Reason). Kept past old.standing.children old.standing.started o me old.desk.shard) is k))
 
-  tells_goes : (p : Pid) (reason : Reason) (stage : Stage) (s : Standing) (d : DeskState) (next : Next) (t : Standing) (e : DeskState) → Tells me p reason stage s d next t e → Goes me d.shard e.shard
+  tells_goes : (p : Pid) (reason : Reason) (stage : Stage) (s : Standing) (d : DeskState) (next : Next) (t : Standing) (e : DeskState) → TellsToEnd me p reason stage s d next t e → Goes me d.shard e.shard
   tells_goes p reason stage s d next t e h = told_goes me p reason d.shard e.shard h.result (told_as me p reason (knows d.shard p) d e h.result h.signal)
 
-  tells_kept : (past : Past) (children : List Child) (started : ℕ) (stopping : Option Reason) (p : Pid) (reason : Reason) (stage : Stage) (s : Standing) (d : DeskState) (next : Next) (t : Standing) (e : DeskState) → Tells me p reason stage s d next t e
+  tells_kept : (past : Past) (children : List Child) (started : ℕ) (stopping : Option Reason) (p : Pid) (reason : Reason) (stage : Stage) (s : Standing) (d : DeskState) (next : Next) (t : Standing) (e : DeskState) → TellsToEnd me p reason stage s d next t e
       → Kept past children started stopping me d.shard → Kept past children started stopping me e.shard
   tells_kept past children started stopping p reason stage s d next t e h k =
       told_kept me p reason past children started stopping d.shard e.shard h.result (told_as me p reason (knows d.shard p) d e h.result h.signal) k
 
-  tells_rest : (p : Pid) (reason : Reason) (stage : Stage) (s : Standing) (d : DeskState) (next : Next) (t : Standing) (e : DeskState) → Tells me p reason stage s d next t e → t ≡ record s { asked = t.asked }
+  tells_rest : (p : Pid) (reason : Reason) (stage : Stage) (s : Standing) (d : DeskState) (next : Next) (t : Standing) (e : DeskState) → TellsToEnd me p reason stage s d next t e → t ≡ record s { asked = t.asked }
   tells_rest p reason stage s d next t e h = subst (λ (x : Standing). x ≡ record s { asked = x.asked }) (sym h.new_is) (go (is_ok h.result))
     where
       go : (ok : Bool) → cond ok (at_stage p stage s) s ≡ record s { asked = (cond ok (at_stage p stage s) s).asked }
@@ -212,12 +212,12 @@ module _ {S B : Type 0} (starts : StartsOf S B) (me : Pid) where
   after_rest now p shutdown (Err Unknown) s mid next t e h = as_it_was s t h.1
 
   module _ (now : ℕ) (p : Pid) (shutdown : Shutdown) (s : Standing) (d : DeskState) (next : Next) (t : Standing) (e : DeskState) where
-    watches_goes : Watches me now p shutdown s d next t e → Goes me d.shard e.shard
+    watches_goes : WatchesChild me now p shutdown s d next t e → Goes me d.shard e.shard
     watches_goes h =
         goes_then me d.shard h.mid.shard e.shard (watched_goes me p d.shard h.mid.shard h.result (watched_as me p (knows d.shard p) d h.mid h.result h.monitor))
         (after_goes now p shutdown h.result s h.mid next t e h.goes)
 
-    over_goes : (early : Bool) (m : Ref) (at : ℕ) → MatchBool early ((next ≡ WaitUntil (Pick.DownOf m) at) × (t ≡ s) × (e ≡ d)) (Tells me p Reason.Kill (Killed m) s d next t e) → Goes me d.shard e.shard
+    over_goes : (early : Bool) (m : Ref) (at : ℕ) → MatchBool early ((next ≡ WaitUntil (Pick.DownOf m) at) × (t ≡ s) × (e ≡ d)) (TellsToEnd me p Reason.Kill (Killed m) s d next t e) → Goes me d.shard e.shard
     over_goes true m at h = same_desk d e h.2
     over_goes false m at h = tells_goes p Reason.Kill (Killed m) s d next t e h
 
@@ -229,7 +229,7 @@ module _ {S B : Type 0} (starts : StartsOf S B) (me : Pid) where
     ends_goes (Some (Until m at)) h = over_goes (nat_lt now at) m at h
     ends_goes (Some (Killed m)) h = tells_goes p Reason.Kill (Killed m) s d next t e h
 
-    over_rest : (early : Bool) (m : Ref) (at : ℕ) → MatchBool early ((next ≡ WaitUntil (Pick.DownOf m) at) × (t ≡ s) × (e ≡ d)) (Tells me p Reason.Kill (Killed m) s d next t e) → t ≡ record s { asked = t.asked }
+    over_rest : (early : Bool) (m : Ref) (at : ℕ) → MatchBool early ((next ≡ WaitUntil (Pick.DownOf m) at) × (t ≡ s) × (e ≡ d)) (TellsToEnd me p Reason.Kill (Killed m) s d next t e) → t ≡ record s { asked = t.asked }
     over_rest true m at h = as_it_was s t h.1
     over_rest false m at h = tells_rest p Reason.Kill (Killed m) s d next t e h
 
@@ -243,12 +243,12 @@ module _ {S B : Type 0} (starts : StartsOf S B) (me : Pid) where
     ends_rest (Some (Killed m)) h = tells_rest p Reason.Kill (Killed m) s d next t e h
 
     module _ (past : Past) (children : List Child) (started : ℕ) (stopping : Option Reason) where
-      watches_kept : Watches me now p shutdown s d next t e → Kept past children started stopping me d.shard → Kept past children started stopping me e.shard
+      watches_kept : WatchesChild me now p shutdown s d next t e → Kept past children started stopping me d.shard → Kept past children started stopping me e.shard
       watches_kept h k =
           after_kept past children started stopping now p shutdown h.result s h.mid next t e h.goes
           (watched_kept me p past children started stopping d.shard h.mid.shard h.result (watched_as me p (knows d.shard p) d h.mid h.result h.monitor) k)
 
-      over_kept : (early : Bool) (m : Ref) (at : ℕ) → MatchBool early ((next ≡ WaitUntil (Pick.DownOf m) at) × (t ≡ s) × (e ≡ d)) (Tells me p Reason.Kill (Killed m) s d next t e)
+      over_kept : (early : Bool) (m : Ref) (at : ℕ) → MatchBool early ((next ≡ WaitUntil (Pick.DownOf m) at) × (t ≡ s) × (e ≡ d)) (TellsToEnd me p Reason.Kill (Killed m) s d next t e)
           → Kept past children started stopping me d.shard → Kept past children started stopping me e.shard
       over_kept true m at h k = kept_is past children started stopping me d.shard e.shard (ap (λ (x : DeskState). x.shard) h.2) k
       over_kept false m at h k = tells_kept past children started stopping p Reason.Kill (Killed m) s d next t e h k
@@ -274,7 +274,7 @@ module _ {S B : Type 0} (starts : StartsOf S B) (me : Pid) where
   settles_asks : (past : Past) (stopping : Option Reason) (old : SupervisorScene S B) (next : Next) (new : SupervisorScene S B) → SupervisorSettles starts me stopping old next new
       → AreAsked past old.standing.children old.standing.asked me old.desk.shard → AreAsked past new.standing.children new.standing.asked me new.desk.shard
   settles_asks past (Some r) old next new h asks = subst (λ (x : SupervisorScene S B). AreAsked past x.standing.children x.standing.asked me x.desk.shard) (sym h.1) asks
-  settles_asks past None old next new h asks a is placed = absurd (let bad : None ≡ Some a = sym (ap (λ (s : Standing). s.asked) h.3) ∙ is in cc)
+  settles_asks past None old next new h asks = λ a is placed. absurd (let bad : None ≡ Some a = sym (ap (λ (s : Standing). s.asked) h.3) ∙ is in cc)
 
   advances_asks : (past : Past) (now : ℕ) (last : Option (Pid × Shutdown)) (old : SupervisorScene S B) (next : Next) (new : SupervisorScene S B) → AdvancesAs starts me now last old next new → KeptAt past me old
       → AreAsked past old.standing.children old.standing.asked me old.desk.shard → AreAsked past new.standing.children new.standing.asked me new.desk.shard
@@ -386,8 +386,8 @@ refused_holds past s m me before was d e same is as_is h =
     }))
 
 refused_attends : (past : Past) (s m : Standing) (me : Pid) (now : ℕ) (before : Next) (was d e : ShardState) (answer : Bool) → answer ≡ false → m ≡ cond answer (found now s) s → d ≡ was → e ≡ d → Holds past s before me was → Attended past answer m me e
-refused_attends past s m me now before was d e answer no same is as_is h =
-    subst (λ (a : Bool). Attended past a m me e) (sym no) (refused_holds past s m me before was d e (same ∙ ap (λ (b : Bool). cond b (found now s) s) no) is as_is h)
+refused_attends past s m me now before was d e answer off same is as_is h =
+    subst (λ (a : Bool). Attended past a m me e) (sym off) (refused_holds past s m me before was d e (same ∙ ap (λ (b : Bool). cond b (found now s) s) off) is as_is h)
 
 -- it hears of the end of the one that it found to have ended
 kept_less : (past : Past) (me : Pid) (item : Item) (s m : Standing) (e : ShardState) → Less item s m → ((q : Pid) → IsPlaced s.children q → is_end_of q item ≡ true → has_told me q (all_events past e) ≡ true)
@@ -681,7 +681,7 @@ taken_lives me before (Some item) was d h = h.2
 taken_born : (me : Pid) (before : Next) (item : Option Item) (was d : ShardState) → ItemIsTaken me before item was d → is_unborn (phase_of was me) ≡ false → is_unborn (phase_of d me) ≡ false
 taken_born me before None was d h born = subst (λ (f : ShardState). is_unborn (phase_of f me) ≡ false) (sym h.2) born
 taken_born me before (Some item) was d h born = subst (λ (f : ShardState). is_unborn (phase_of f me) ≡ false) (sym h.4)
-    (born_then was (shard_after (Took me h.0 item) was) (later_after (Took me h.0 item) was) me born)
+    (born_then was (shard_after (TookIt me h.0 item) was) (later_after (TookIt me h.0 item) was) me born)
 
 module _ {B : Type 0} (past : Past) (part : PartOf B) where
   all_begin : (births : List (Role B)) → AllBegin part births → AllFirst (Keeps past part) births

@@ -42,7 +42,7 @@ stays_in {X} test fits (y ∷ xs) x found out any = by_cases (fits y)
     (by_cases (test y) (λ t. or_left (test y) (list_any test (without_first fits xs)) t)
     (λ f. or_right (test y) (list_any test (without_first fits xs)) (stays_in test fits xs x later out (sym (ap (λ (b : Bool). b || list_any test xs) f) ∙ any)))))
 
-more_waits : (test : Item → Bool) (items more : List Item) → list_any test items ≡ true → list_any test (items ++ more) ≡ true
+pub more_waits : (test : Item → Bool) (items more : List Item) → list_any test items ≡ true → list_any test (items ++ more) ≡ true
 more_waits test items more h = list_any-append test items more ∙ or_left (list_any test items) (list_any test more) h
 
 -- by fields

@@ -13,16 +13,15 @@ use Rattle.pt_shard.specs.declared.fault.Fault.{Fault}
 use Rattle.pt_shard.specs.declared.fault.Fault.TheVariants.{NoProc}
 use Rattle.pt_shard.specs.ShardState.{ShardState, state_in}
 use Rattle.pt_shard.specs.Known.{knows}
-use Rattle.pt_shard.specs.Calls.{Calls, Monitors}
+use Rattle.pt_shard.specs.Calls.{Calls}
 use Rattle.pt_desk.specs.DeskState.{DeskState}
-use Rattle.pt_desk.specs.Reaching.{Reaches, has_monitor_to_make}
 use Rattle.pt_crew.specs.declared.behaviour.Next.{Next}
 use Rattle.pt_crew.specs.declared.behaviour.Next.TheVariants.{Wait, WaitUntil, Proceed, Running, Stop}
 use Rattle.pt_crew.specs.declared.births.Role.{Role}
 use Rattle.pt_crew.specs.declared.births.Births.{Births}
 use Rattle.pt_crew.specs.Births.{Bore, born}
 use Rattle.pt_crew.specs.declared.call_fault.CallFault.{CallFault}
-use Rattle.pt_crew.specs.Telling.{IfKnown}
+use Rattle.pt_crew.specs.Telling.{IfKnown, Watches}
 use Rattle.pt_crew.specs.Upholding.{children_by}
 use Rattle.pt_supervisor.specs.declared.asked.Stage.{Stage}
 use Rattle.pt_supervisor.specs.declared.asked.Stage.TheVariants.{Gone, Watched, Waiting, Until, Killed}
@@ -124,7 +123,7 @@ nursery s = record {
 
 -- It tells one to end, by an exit signal. Where that was not refused, it has come to this stage with that one, and waits.
 -- Else it tries again.
-pub record Tells (me p : Pid) (reason : Reason) (stage : Stage) (old : Standing) (d : DeskState) (next : Next)
+pub record TellsToEnd (me p : Pid) (reason : Reason) (stage : Stage) (old : Standing) (d : DeskState) (next : Next)
     (new : Standing) (e : DeskState) : Type 0 where
   pub result : Result (Unit {0}) CallFault
   pub signal : IfKnown (knows d.shard p)
@@ -137,33 +136,32 @@ pub record Tells (me p : Pid) (reason : Reason) (stage : Stage) (old : Standing)
 abbrev pub after_watching : Pid → ℕ → Pid → Shutdown → Result Ref CallFault → Standing → DeskState → Next → Standing → DeskState
     → Type 0
 after_watching me now p shutdown (Ok m) old mid next new e =
-    Tells me p (bids shutdown) (told_by shutdown m now) (at_stage p (Watched m) old) mid next new e
+    TellsToEnd me p (bids shutdown) (told_by shutdown m now) (at_stage p (Watched m) old) mid next new e
 after_watching me now p shutdown (Err (CallFault.Refused NoProc)) old mid next new e =
     (next ≡ Proceed) × (new ≡ at_stage p Gone old) × (e ≡ mid)
 after_watching me now p shutdown (Err f) old mid next new e = (next ≡ Proceed) × (new ≡ old) × (e ≡ mid)
 
 -- it monitors one that it is to end, and then tells it to
-pub record Watches (me : Pid) (now : ℕ) (p : Pid) (shutdown : Shutdown) (old : Standing) (d : DeskState) (next : Next)
+pub record WatchesChild (me : Pid) (now : ℕ) (p : Pid) (shutdown : Shutdown) (old : Standing) (d : DeskState) (next : Next)
     (new : Standing) (e : DeskState) : Type 0 where
   pub result : Result Ref CallFault
   pub mid : DeskState
-  pub monitor : IfKnown (knows d.shard p)
-      (λ r. Reaches (has_monitor_to_make d.shard me p) me p (Monitors me p d.shard r mid.shard) d r mid) d result mid
+  pub monitor : Watches me p d result mid
   pub goes : after_watching me now p shutdown result old mid next new e
 
 -- One that it does not monitor yet is monitored first. One that was told to end within a time is killed once its time has
 -- come, and then has no further time. Before that it is told nothing, and has the time that it had.
 abbrev pub EndsChild : Pid → ℕ → Pid → Shutdown → Option Stage → Standing → DeskState → Next → Standing → DeskState → Type 0
-EndsChild me now p shutdown None old d next new e = Watches me now p shutdown old d next new e
-EndsChild me now p shutdown (Some Gone) old d next new e = Watches me now p shutdown old d next new e
+EndsChild me now p shutdown None old d next new e = WatchesChild me now p shutdown old d next new e
+EndsChild me now p shutdown (Some Gone) old d next new e = WatchesChild me now p shutdown old d next new e
 EndsChild me now p shutdown (Some (Watched m)) old d next new e =
-    Tells me p (bids shutdown) (told_by shutdown m now) old d next new e
+    TellsToEnd me p (bids shutdown) (told_by shutdown m now) old d next new e
 EndsChild me now p shutdown (Some (Waiting m)) old d next new e =
-    Tells me p (bids shutdown) (told_by shutdown m now) old d next new e
+    TellsToEnd me p (bids shutdown) (told_by shutdown m now) old d next new e
 EndsChild me now p shutdown (Some (Until m at)) old d next new e =
     MatchBool (nat_lt now at) ((next ≡ WaitUntil (Pick.DownOf m) at) × (new ≡ old) × (e ≡ d))
-    (Tells me p Reason.Kill (Killed m) old d next new e)
-EndsChild me now p shutdown (Some (Killed m)) old d next new e = Tells me p Reason.Kill (Killed m) old d next new e
+    (TellsToEnd me p Reason.Kill (Killed m) old d next new e)
+EndsChild me now p shutdown (Some (Killed m)) old d next new e = TellsToEnd me p Reason.Kill (Killed m) old d next new e
 
 -- nobody is to end any more: it ends, if it is to, or starts who is missing, and tries again where that was refused
 abbrev pub SupervisorSettles : {S B : Type 0} → StartsOf S B → Pid → Option Reason → SupervisorScene S B → Next → SupervisorScene S B → Type 0

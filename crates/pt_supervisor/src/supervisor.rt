@@ -58,8 +58,8 @@ impl<S> Supervisor<S> {
     ghost use Rattle.pt_supervisor.specs.Hearing.{begun, closed, found, heard, lost, program_of, standing};
     ghost use Rattle.pt_supervisor.specs.Limits.{moment};
     ghost use Rattle.pt_supervisor.specs.Hearing.{started_again, stopped};
-    ghost use Rattle.pt_supervisor.specs.Supervising.{Advances, EndsChild, SupervisorAttends, SupervisorHandles, Tells};
-    ghost use Rattle.pt_supervisor.specs.Supervising.{CountsBirths, SetsAt, StartsAll, StartsOne, Supervises, Watches};
+    ghost use Rattle.pt_supervisor.specs.Supervising.{Advances, EndsChild, SupervisorAttends, SupervisorHandles, TellsToEnd};
+    ghost use Rattle.pt_supervisor.specs.Supervising.{CountsBirths, SetsAt, StartsAll, StartsOne, Supervises, WatchesChild};
     ghost use Rattle.pt_supervisor.specs.Supervising.{nursery, supervisor_scene};
     ghost use Rattle.pt_supervisor.specs.Keeping.{BearsFrom, Tends};
 
@@ -397,7 +397,7 @@ impl<S> Supervisor<S> {
     /// also proceeds if a call fails.
     #[tactic(auto, using(pt_workers::proofs::GoingOn::stays, pt_desk::proofs::Turning::goes_on_then))]
     fn watch(&mut self, desk: &mut Desk, now: u64, me: Pid, pid: Pid, shutdown: Shutdown) -> Next
-        ensures does { Watches me now pid shutdown (standing self.old) desk.old result (standing self.new) desk.new }
+        ensures does { WatchesChild me now pid shutdown (standing self.old) desk.old result (standing self.new) desk.new }
         ensures rest { standing self.new ≡ record (standing self.old) { asked = (standing self.new).asked } }
         ensures start { program_of self.new ≡ program_of self.old }
         ensures takes { takes desk.new.shard.journal ≡ takes desk.old.shard.journal }
@@ -426,7 +426,7 @@ impl<S> Supervisor<S> {
     /// if the call fails.
     #[tactic(auto, using(pt_workers::proofs::GoingOn::stays))]
     fn tell(&mut self, desk: &mut Desk, me: Pid, pid: Pid, reason: Reason, stage: Stage) -> Next
-        ensures does { Tells me pid reason stage (standing self.old) desk.old result (standing self.new) desk.new }
+        ensures does { TellsToEnd me pid reason stage (standing self.old) desk.old result (standing self.new) desk.new }
         ensures rest { standing self.new ≡ record (standing self.old) { asked = (standing self.new).asked } }
         ensures start { program_of self.new ≡ program_of self.old }
         ensures takes { takes desk.new.shard.journal ≡ takes desk.old.shard.journal }
