@@ -146,7 +146,10 @@ in_place (Some c) children n before q shutdown at go is = by_pid c.pid refl is
   where
     by_pid : (pid : Option Pid) → c.pid ≡ pid → or_before (option_map {U = Pid × Shutdown} (λ p. (p, c.shutdown)) pid) before ≡ Some (q, shutdown) → IsPlaced children q
     by_pid None none is = go is
-    by_pid (Some p) some is = let same : p ≡ q = cc in (n, ap pid_of_child at ∙ (some ∙ ap (λ (x : Pid). Some x) same))
+    by_pid (Some p) some is =
+        let pair : (p, c.shutdown) ≡ (q, shutdown) = cc in
+        let same : p ≡ q = ap (λ (x : Pid × Shutdown). x.0) pair in
+        (n, ap pid_of_child at ∙ (some ∙ ap (λ (x : Pid). Some x) same))
 
 last_placed : (children : List Child) (first n : ℕ) (q : Pid) (shutdown : Shutdown) → last_alive children first n ≡ Some (q, shutdown) → IsPlaced children q
 last_placed children first zero q shutdown is = absurd (cc)
