@@ -1,7 +1,7 @@
 -- How far a supervisor has come with the one that it ends, whatever happens on its desk.
-use Rattle.std.proofs.Common.{◌≡◌, ◌⊎◌, inl, inr, ℕ, Bool, true, false, cond, ◌||◌, ◌&&◌, List, [], ◌∷◌, ◌++◌, Option, Some, None, Result, Ok, Err, refl, sym, ap, subst, ◌∙◌}
+use Rattle.std.proofs.Common.{◌≡◌, inl, inr, ℕ, Bool, true, false, cond, ◌||◌, ◌&&◌, List, [], ◌∷◌, ◌++◌, Option, Some, None, Result, Ok, Err, refl, sym, ap, subst, ◌∙◌}
 use Rattle.std.specs.Prelude.{MatchBool, is_ok, nat_lt}
-use Rattle.std.specs.List.{find, list_any}
+use Rattle.std.specs.List.{list_any}
 use Rattle.std.specs.Map.{lookup, remove_entry}
 use Rattle.std.proofs.lemmas.List.Folds.{list_any-append}
 use Rattle.pt_signal.specs.declared.pid.Pid.{Pid}
@@ -12,10 +12,9 @@ use Rattle.pt_signal.specs.declared.item.Pick.{Pick}
 use Rattle.pt_signal.specs.declared.reason.Reason.{Reason}
 use Rattle.pt_signal.specs.declared.signal.Signal.{Signal}
 use Rattle.pt_signal.specs.declared.signal.Signal.TheVariants.{Message, Link, Unlink, LinkExit, Monitor, Demonitor, AliveAsk, AliveSay}
-use Rattle.pt_signal.specs.Values.{same_pid, same_ref, fits, without_first}
+use Rattle.pt_signal.specs.Values.{same_pid, same_ref}
 use Rattle.pt_signal.specs.Process.{ProcessState, Verdict, drops, queues, ends, verdict, held, handle, obey, link_exit, down, holds_any, say}
 use Rattle.pt_signal.proofs.Same.{same_pid_refl, same_ref_is, same_ref_refl}
-use Rattle.pt_events.specs.declared.event.Event.{Event}
 use Rattle.pt_events.specs.declared.event.Event.TheVariants.{Said, Refused}
 use Rattle.pt_events.specs.History.{Past, Phase, living, state_of}
 use Rattle.pt_laws.specs.Watch.{is_down_item, is_open}
@@ -42,7 +41,7 @@ use Rattle.pt_supervisor.specs.Supervising.{EndsChild, TellsToEnd, after_watchin
 use Rattle.pt_supervisor.specs.Keeping.{AreAsked, IsAsked, IsPlaced, IsWatched, all_events, bids_to, has_bid_to, has_told, is_bid}
 use Rattle.pt_supervisor.proofs.Ending.{stage_at}
 use Rattle.pt_supervisor.proofs.Families.{ToldAs, WatchedAs, any_later, own_phase, told_as, told_later, watched_as}
-use Rattle.pt_supervisor.proofs.Tying.{more_waits, or_left, or_right, stays_in}
+use Rattle.pt_supervisor.proofs.Tying.{more_waits, or_left, or_right}
 
 -- a monitor stays open, or its DOWN waits -----------------------------------------------------------
 

@@ -1,6 +1,6 @@
 -- A supervisor counts each child that it bears.
 use Rattle.std.proofs.Common.{◌≡◌, ℕ, zero, suc, ◌+◌, ◌-◌, ◌^◌, min, Bool, true, false, cond, List, [], ◌∷◌, ◌++◌, length, slice_get, Option, Some, None, Result, Ok, Err, append_assoc, refl, sym, ap, subst, ◌∙◌}
-use Rattle.std.specs.Prelude.{MatchBool, is_ok, nat_lt}
+use Rattle.std.specs.Prelude.{MatchBool, nat_lt}
 use Rattle.pt_signal.specs.declared.pid.Pid.{Pid}
 use Rattle.pt_signal.specs.declared.ids.Ref.{Ref}
 use Rattle.pt_signal.specs.declared.item.Item.{Item}
@@ -27,9 +27,9 @@ use Rattle.pt_supervisor.specs.declared.asked.Stage.TheVariants.{Watched, Waitin
 use Rattle.pt_supervisor.specs.declared.asked.Stage.TheVariants as far
 use Rattle.pt_supervisor.specs.declared.children.Child.{Child}
 use Rattle.pt_supervisor.specs.declared.children.Shutdown.{Shutdown}
-use Rattle.pt_supervisor.specs.Children.{is_child, is_missing, last_alive}
+use Rattle.pt_supervisor.specs.Children.{is_missing, last_alive}
 use Rattle.pt_supervisor.specs.Ending.{bids, gone_in, stage_of, told_by}
-use Rattle.pt_supervisor.specs.Hearing.{Standing, at_stage, closed, found, heard, heard_at, heard_gone, lost, gone, lives_again, stopped}
+use Rattle.pt_supervisor.specs.Hearing.{Standing, at_stage, closed, found, heard, heard_gone}
 use Rattle.pt_supervisor.specs.Limits.{moment}
 use Rattle.pt_supervisor.specs.Supervising.{CountsBirths, counted_with, EndsChild, TellsToEnd, WatchesChild, after_watching, StartsOf, Nursery, BearsAs, StartsAt, StartsOne, StartsFirst, StartsAll, SupervisorScene, nursery, SupervisorSettles, AdvancesAs, SupervisorAttends, SupervisorHandles, with_one, after_attending}
 use Rattle.pt_supervisor.proofs.Families.{ToldAs, WatchedAs, heard_count, told_as, watched_as}

@@ -15,7 +15,7 @@ use Rattle.pt_events.specs.History.{Past, Start, Phase, unborn, living, ended, a
 use Rattle.pt_events.specs.Counting.{count, one_if}
 use Rattle.pt_events.proofs.Fields.{linked_keeps}
 use Rattle.pt_events.proofs.Phases.{each_branch}
-use Rattle.pt_laws.specs.Watch.{is_monitor, is_demonitor, is_open, kept_in, opens_to, open_in, said_to, says_to}
+use Rattle.pt_laws.specs.Watch.{is_monitor, is_open, kept_in, opens_to, open_in, said_to, says_to}
 use Rattle.pt_laws.proofs.monitoring.Keeping.{open_step, say_step}
 use Rattle.pt_crew.proofs.Waking.{by_cases}
 

@@ -14,7 +14,7 @@ use Rattle.pt_signal.specs.Values.{same_pid, same_ref, fits}
 use Rattle.pt_signal.specs.Process.{held}
 use Rattle.pt_signal.proofs.Same.{same_pid_is}
 use Rattle.pt_events.specs.declared.event.Stamped.{Stamped}
-use Rattle.pt_events.specs.History.{Past, Start, Phase, unborn, living, ended, at_start, is_unborn, is_ended, is_living, state_of, life, alive, IsLegal}
+use Rattle.pt_events.specs.History.{Past, Phase, unborn, living, ended, at_start, is_unborn, is_ended, is_living, state_of, life, alive, IsLegal}
 use Rattle.pt_events.specs.Counting.{count}
 use Rattle.pt_events.specs.Journal.{IsLocal, IsMerge, events}
 use Rattle.pt_events.specs.Locality.{JournalsSay}

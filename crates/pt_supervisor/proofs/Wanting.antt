@@ -8,10 +8,9 @@ use Rattle.pt_signal.specs.declared.pid.Pid.{Pid}
 use Rattle.pt_signal.specs.declared.reason.Reason.{Reason}
 use Rattle.pt_supervisor.specs.declared.children.Child.{Child}
 use Rattle.pt_supervisor.specs.declared.restart.Restart.{Restart}
-use Rattle.pt_supervisor.specs.declared.restart.Strategy.{Strategy}
 use Rattle.pt_supervisor.specs.Restarts.{ends_from}
 use Rattle.pt_supervisor.specs.Children.{PermanentAreWanted, is_child, is_missing, is_temporary, revived, revived_child, revive_in}
-use Rattle.pt_supervisor.specs.Ending.{gone_in, unless_by}
+use Rattle.pt_supervisor.specs.Ending.{gone_in}
 use Rattle.pt_supervisor.specs.Limits.{allows}
 use Rattle.pt_supervisor.specs.Hearing.{Standing, found, gone, heard, heard_at, heard_gone, lives_again, lost, restarted_child, started_again, stopped}
 use Rattle.pt_crew.proofs.Waking.{by_cases}

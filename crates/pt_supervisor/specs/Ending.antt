@@ -7,8 +7,10 @@ use Rattle.pt_signal.specs.declared.item.Item.TheVariants.{Exit, Down}
 use Rattle.pt_signal.specs.declared.item.Pick.{Pick}
 use Rattle.pt_signal.specs.declared.reason.Reason.{Reason}
 use Rattle.pt_signal.specs.Values.{same_pid, same_ref}
+use Rattle.pt_shard.specs.declared.fault.Fault.TheVariants.{NoProc}
 use Rattle.pt_crew.specs.declared.behaviour.Next.{Next}
 use Rattle.pt_crew.specs.declared.behaviour.Next.TheVariants.{Wait, WaitUntil, Proceed}
+use Rattle.pt_crew.specs.declared.call_fault.CallFault.{CallFault}
 use Rattle.pt_supervisor.specs.declared.asked.Asked.{Asked}
 use Rattle.pt_supervisor.specs.declared.asked.Stage.{Stage}
 use Rattle.pt_supervisor.specs.declared.asked.Stage.TheVariants.{Gone, Watched, Waiting, Until, Killed}
@@ -81,3 +83,8 @@ end_heard (Some (Exit from r)) asked = Some from
 end_heard (Some (Down m from r)) asked = Some from
 end_heard (Some _) asked = None
 end_heard None asked = gone_in asked
+
+-- a call was refused since the one that it was to reach has ended
+abbrev pub is_over : CallFault → Bool
+is_over (CallFault.Refused NoProc) = true
+is_over _ = false

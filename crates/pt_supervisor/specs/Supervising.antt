@@ -10,7 +10,6 @@ use Rattle.pt_signal.specs.declared.reason.Reason.{Reason}
 use Rattle.pt_signal.specs.declared.signal.Signal.{Signal}
 use Rattle.pt_events.specs.declared.event.Event.TheVariants.{Said, Flag}
 use Rattle.pt_shard.specs.declared.fault.Fault.{Fault}
-use Rattle.pt_shard.specs.declared.fault.Fault.TheVariants.{NoProc}
 use Rattle.pt_shard.specs.ShardState.{ShardState, state_in}
 use Rattle.pt_shard.specs.Known.{knows}
 use Rattle.pt_shard.specs.Calls.{Calls}
@@ -30,7 +29,7 @@ use Rattle.pt_supervisor.specs.declared.children.Shutdown.{Shutdown}
 use Rattle.pt_supervisor.specs.declared.restart.Restart.{Restart}
 use Rattle.pt_supervisor.specs.Children.{AreStarted, NoneLives, PermanentAreWanted}
 use Rattle.pt_supervisor.specs.Children.{is_missing, last_alive}
-use Rattle.pt_supervisor.specs.Ending.{bids, stage_of, told_by, waits_in}
+use Rattle.pt_supervisor.specs.Ending.{bids, is_over, stage_of, told_by, waits_in}
 use Rattle.pt_supervisor.specs.declared.supervisor.Supervisor.{Supervisor}
 use Rattle.pt_supervisor.specs.Limits.{moment}
 use Rattle.pt_supervisor.specs.Hearing.{Standing, at_stage, closed, found, heard, program_of, standing}
@@ -137,9 +136,8 @@ abbrev pub after_watching : Pid → ℕ → Pid → Shutdown → Result Ref Call
     → Type 0
 after_watching me now p shutdown (Ok m) old mid next new e =
     TellsToEnd me p (bids shutdown) (told_by shutdown m now) (at_stage p (Watched m) old) mid next new e
-after_watching me now p shutdown (Err (CallFault.Refused NoProc)) old mid next new e =
-    (next ≡ Proceed) × (new ≡ at_stage p Gone old) × (e ≡ mid)
-after_watching me now p shutdown (Err f) old mid next new e = (next ≡ Proceed) × (new ≡ old) × (e ≡ mid)
+after_watching me now p shutdown (Err f) old mid next new e =
+    (next ≡ Proceed) × (new ≡ cond (is_over f) (at_stage p Gone old) old) × (e ≡ mid)
 
 -- it monitors one that it is to end, and then tells it to
 pub record WatchesChild (me : Pid) (now : ℕ) (p : Pid) (shutdown : Shutdown) (old : Standing) (d : DeskState) (next : Next)

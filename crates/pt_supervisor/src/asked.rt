@@ -1,10 +1,10 @@
 //! How far a supervisor has come in ending a child.
 
 ghost use Rattle.std.specs.Prelude.{◌≡◌};
-ghost use Rattle.pt_supervisor.specs.Ending.{gone_in, is_ref, monitor_of, stage_of, unless_by, waits_in};
+ghost use Rattle.pt_supervisor.specs.Ending.{gone_in, is_over, is_ref, monitor_of, stage_of, unless_by, waits_in};
 
-use pt_crew::Next;
-use pt_node::{Pick, Pid, Ref};
+use pt_crew::{CallFault, Next};
+use pt_node::{Fault, Pick, Pid, Ref};
 
 /// What a supervisor has done to end a child.
 #[derive(Clone, Copy, Debug, PartialEq, Eq)]
@@ -101,5 +101,15 @@ pub(crate) fn gone_in(asked: Option<Asked>) -> Option<Pid>
             },
         ) => Some(pid),
         _ => None,
+    }
+}
+
+/// Whether a call was refused since the process that it was to reach has exited.
+pub(crate) fn is_over(fault: CallFault) -> bool
+    ensures { result ≡ is_over fault }
+{
+    match fault {
+        CallFault::Refused(Fault::NoProc) => true,
+        _ => false,
     }
 }

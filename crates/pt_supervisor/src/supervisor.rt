@@ -6,7 +6,7 @@ ghost use Rattle.pt_signal.specs.declared.pid.Pid.{Pid};
 ghost use Rattle.pt_shard.specs.declared.fault.Fault.{Fault};
 ghost use Rattle.pt_crew.specs.declared.behaviour.Next.{Next};
 
-use crate::asked::{Asked, Stage, gone_in, stage_of, unless_by};
+use crate::asked::{Asked, Stage, gone_in, is_over, stage_of, unless_by};
 use crate::children::{Child, Shutdown, is_process, last_alive, place_of, revive};
 use crate::limit::Limit;
 use crate::restart::{Restart, Strategy};
@@ -49,13 +49,14 @@ pub struct Supervisor<S> {
 }
 
 impl<S> Supervisor<S> {
-    ghost use Rattle.std.specs.Prelude.{◌<◌, true, length, slice_get};
+    ghost use Rattle.std.specs.Prelude.{◌<◌, true, cond, length, slice_get};
     ghost use Rattle.pt_desk.specs.DeskState.{GoesOn};
     ghost use Rattle.pt_crew.specs.Births.{born, kept_roles, time_told};
     ghost use Rattle.pt_crew.specs.Visiting.{takes};
     ghost use Rattle.pt_supervisor.specs.Children.{AreStarted, PermanentAreWanted};
-    ghost use Rattle.pt_supervisor.specs.Ending.{end_heard, stage_of};
-    ghost use Rattle.pt_supervisor.specs.Hearing.{begun, closed, found, heard, lost, program_of, standing};
+    ghost use Rattle.pt_supervisor.specs.declared.asked.Stage.TheVariants.{Gone};
+    ghost use Rattle.pt_supervisor.specs.Ending.{end_heard, is_over, stage_of};
+    ghost use Rattle.pt_supervisor.specs.Hearing.{at_stage, begun, closed, found, heard, lost, program_of, standing};
     ghost use Rattle.pt_supervisor.specs.Limits.{moment};
     ghost use Rattle.pt_supervisor.specs.Hearing.{started_again, stopped};
     ghost use Rattle.pt_supervisor.specs.Supervising.{Advances, EndsChild, SupervisorAttends, SupervisorHandles, TellsToEnd};
@@ -411,14 +412,24 @@ impl<S> Supervisor<S> {
                 }));
                 self.tell(desk, me, pid, shutdown.bids(), shutdown.told(made, now))
             }
-            Err(CallFault::Refused(Fault::NoProc)) => {
-                self.set_asked(Some(Asked {
-                    pid,
-                    stage: Stage::Gone,
-                }));
+            Err(fault) => {
+                self.find_gone(pid, fault);
                 Next::Proceed
             }
-            Err(_) => Next::Proceed,
+        }
+    }
+
+    /// Notes that a child has exited before, if a call was refused for that.
+    fn find_gone(&mut self, pid: Pid, fault: CallFault)
+        ensures standing { standing self.new ≡ cond (is_over fault) (at_stage pid Gone (standing self.old))
+            (standing self.old) }
+        ensures start { program_of self.new ≡ program_of self.old }
+    {
+        if is_over(fault) {
+            self.set_asked(Some(Asked {
+                pid,
+                stage: Stage::Gone,
+            }));
         }
     }
 

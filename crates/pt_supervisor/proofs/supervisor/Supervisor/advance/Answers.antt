@@ -1,6 +1,6 @@
--- `Supervisor::advance`: its clause `supervises`.
-use Rattle.std.proofs.Common.{◌≡◌, length, None, Some, refl, sym, ap, ◌∙◌, arith}
-use Rattle.pt_supervisor.specs.Children.{last_alive}
+-- `Supervisor::advance`: its clauses `supervises` and `permanent`.
+use Rattle.std.proofs.Common.{◌≡◌, length, None, Some, refl, sym, ap, subst, ◌∙◌, arith}
+use Rattle.pt_supervisor.specs.Children.{PermanentAreWanted, last_alive}
 use Rattle.pt_supervisor.specs.Ending.{stage_of}
 use Rattle.pt_supervisor.specs.Hearing.{Standing, standing}
 use Rattle.pt_supervisor.proofs.Ending.{ends_supervise}
@@ -13,6 +13,9 @@ returns-in-Some-clause-supervises g c =
     let last : last_alive s.children s.ending (length s.children) ≡ Some (c.in-Some.pid, c.in-Some.shutdown) = cc in
     ends_supervise c.args.me c.in-Some.pid c.in-Some.shutdown s c.args.desk.now c.end.result (standing c.end.new.self) c.end.new.desk last c.args.now
     (stage_of s.asked c.in-Some.pid) refl c.end.ensures.does
+
+pub returns-in-Some-clause-permanent : goal.returns-in-Some-clause-permanent
+returns-in-Some-clause-permanent g c = λ k. subst (λ (s : Standing). PermanentAreWanted s.children) (sym c.end.ensures.rest) k
 
 pub returns-in-Some-stopping-clause-supervises : goal.returns-in-Some-stopping-clause-supervises
 returns-in-Some-stopping-clause-supervises g c =
