@@ -2,10 +2,12 @@
 
 ghost use Rattle.std.specs.Prelude.{◌≡◌, ◌<◌, IfSome, None, true, position, length};
 ghost use Rattle.std.specs.Option.{option_map};
-ghost use Rattle.pt_supervisor.specs.Children.{bids, is_missing, is_child, last_alive, leaving, until};
+ghost use Rattle.pt_supervisor.specs.Children.{is_missing, is_child, last_alive, leaving, revived, revived_child};
+ghost use Rattle.pt_supervisor.specs.Ending.{bids, told_by};
 
+use crate::asked::Stage;
 use crate::restart::Restart;
-use pt_node::{Pid, Reason};
+use pt_node::{Pid, Reason, Ref};
 
 /// How a supervisor ends a child: `shutdown` of a child's specification.
 #[derive(Clone, Copy, Debug, PartialEq, Eq)]
@@ -33,14 +35,15 @@ impl Shutdown {
         }
     }
 
-    /// The time at which a child is killed that is told now to exit, if it has not exited before; at most `u64::MAX`.
-    /// `None` if no time ends the wait.
-    pub fn until(&self, now: u64) -> Option<u64>
-        ensures { result ≡ until now self.now }
+    /// How far a supervisor has come with a child that it monitors and tells so now to exit. A time to be killed at is
+    /// at most `u64::MAX`.
+    pub fn told(&self, monitor: Ref, now: u64) -> Stage
+        ensures { result ≡ told_by self.now monitor now }
     {
         match *self {
-            Shutdown::After(time) => Some(now.saturating_add(time)),
-            _ => None,
+            Shutdown::Infinity => Stage::Waiting(monitor),
+            Shutdown::After(time) => Stage::Until(monitor, now.saturating_add(time)),
+            Shutdown::BrutalKill => Stage::Killed(monitor),
         }
     }
 }
@@ -90,6 +93,16 @@ impl Child {
         is_process(self.pid, pid)
     }
 
+    /// The same child, which is to live again unless it is temporary.
+    fn revived(self) -> Child
+        ensures { result ≡ revived_child self }
+    {
+        Child {
+            wanted: self.wanted || self.restart != Restart::Temporary,
+            ..self
+        }
+    }
+
     /// Its pid, if it has one, and how it is ended.
     pub fn leaving(&self) -> Option<(Pid, Shutdown)>
         ensures { result ≡ leaving self.now }
@@ -130,4 +143,15 @@ pub fn last_alive(children: &[Child], first: usize) -> Option<(Pid, Shutdown)>
         }
     }
     last
+}
+
+/// Each child from the place `first` on is to live again, unless it is temporary.
+pub(crate) fn revive(children: &mut [Child], first: usize)
+    ensures { children.new ≡ revived children.old first (length children.old) }
+{
+    for place in 0..children.len() {
+        if place >= first {
+            children[place] = children[place].revived();
+        }
+    }
 }

@@ -6,6 +6,7 @@ ghost use Rattle.pt_crew.specs.declared.behaviour.Next.TheVariants.{Running};
 ghost use Rattle.pt_hands.specs.Pulling.{noted_reason, reason_told};
 ghost use Rattle.pt_supervisor.specs.Hearing.{program_of, standing};
 ghost use Rattle.pt_supervisor.specs.Children.{is_child};
+ghost use Rattle.pt_supervisor.specs.Ending.{end_heard};
 ghost use Rattle.pt_teams.specs.Planning.{again_at, new_child, posts_heard, posts_of};
 ghost use Rattle.pt_teams.specs.Members.{boss_part, member_answers, news_of, notice_of_exit};
 
@@ -260,26 +261,15 @@ fn heed_exit(boss: &mut Supervisor<Plan>, from: Pid)
     }
 }
 
-/// Notes which child of a supervisor has exited, if this item says so of one.
-fn heed_item(boss: &mut Supervisor<Plan>, item: Item)
-    ensures standing { standing boss.new ≡ standing boss.old }
-    ensures posts { posts_of (program_of boss.new)
-        ≡ posts_heard (Some item) (standing boss.old).children (posts_of (program_of boss.old)) }
-{
-    match item {
-        Item::Exit(from, _) => heed_exit(boss, from),
-        _ => {}
-    }
-}
-
-/// Notes which child of a supervisor has exited, if there is an item that says so of one.
+/// Notes which child of a supervisor has exited, if it hears so of one by this item, or without an item.
 fn heed(boss: &mut Supervisor<Plan>, item: Option<Item>)
     ensures standing { standing boss.new ≡ standing boss.old }
     ensures posts { posts_of (program_of boss.new)
-        ≡ posts_heard item (standing boss.old).children (posts_of (program_of boss.old)) }
+        ≡ posts_heard (end_heard item (standing boss.old).asked) (standing boss.old).children
+        (posts_of (program_of boss.old)) }
 {
-    match item {
-        Some(found) => heed_item(boss, found),
+    match boss.hears(item) {
+        Some(from) => heed_exit(boss, from),
         None => {}
     }
 }
