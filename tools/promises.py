@@ -23,8 +23,8 @@ WITHOUT = {"example_hello"}
 
 # What a reader asks, and the crates that answer it, those to read first in front.
 QUESTIONS = (
-    ("My message arrives once, and in order", ("pt_node", "pt_laws", "pt_carrier")),
-    ("A message that is lost is reported", ("pt_shard", "pt_gathered")),
+    ("My message arrives once, and in order", ("pt_node", "pt_custody", "pt_laws", "pt_carrier")),
+    ("A message that is lost is reported", ("pt_shard", "pt_gathered", "pt_custody")),
     ("A monitor delivers one `DOWN`, a link one exit signal", ("pt_laws", "pt_node", "pt_shard")),
     ("A pid never reaches another process", ("pt_slots", "pt_shard")),
     ("`NoProc` comes only after the exit", ("pt_directory", "pt_desk", "pt_node")),
