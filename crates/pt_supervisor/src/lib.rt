@@ -17,9 +17,9 @@
 //!   has a time to exit is killed only if its supervisor runs at that time or later and has not got that. (`EndsChild`)
 //! - **Handling.** The contract of `handle` says all that it does on the desk, also if a call fails.
 //!   (`SupervisorHandles`)
-//! - **Children are restarted.** Once the node is quiet and the crew idle, each child that a live supervisor wants
-//!   alive is alive, or unlinked itself. One case is left: the supervisor ends a child that traps exits, lives on, and
-//!   has no time to be killed by, or its time has not come. (`quiet_children_live`, `gathered_children_live`)
+//! - **Children are restarted.** Once the node is quiet and the crew idle, each child that a live supervisor wants is
+//!   alive, or unlinked itself. One case is left: the supervisor is ending a child that traps exits and lives on, and
+//!   has time left to. (`quiet_children_live`, `gathered_children_live`)
 //! - **Children are counted.** A supervisor counts each child that it spawns. (`CountsBirths`)
 //! - **No orphans.** No child of a supervisor that stopped by itself is alive, unless that child sent it an exit
 //!   signal. (`stopped_children_ended`)
