@@ -204,13 +204,13 @@ echo "rust: tests, pages and examples passed"
 # The chat server under its load: nothing lost or out of order, each crash one DOWN, idle it rests, and its history is legal
 "$here/../.ci/build" pt_audit >"$work/printed"
 chat=$CARGO_TARGET_DIR/debug/examples
-timeout 120 "$chat/chat_load" "$chat/chat" "$work/chat.history" 40 10 3 10
+"$here/../.ci/bounded" 120 "$chat/chat_load" "$chat/chat" "$work/chat.history" 40 10 3 10
 "$here/../bin/pt_audit" "$work/chat.history"
 timeout 300 "$here/bad_clients.py" "$chat/chat" 0 "$work/bad.history"
 echo "rust: the chat server passed"
 
 # The telephone exchange: lines crash in calls and are started again, each partner hears of it, and its history is legal
-timeout 120 "$chat/exchange" "$work/exchange.history" 200 2>"$work/panics" || { tail -n 20 "$work/panics"; exit 1; }
+"$here/../.ci/bounded" 120 "$chat/exchange" "$work/exchange.history" 200 2>"$work/panics" || { tail -n 20 "$work/panics"; exit 1; }
 "$here/../bin/pt_audit" "$work/exchange.history"
 echo "rust: the telephone exchange passed"
 
@@ -231,7 +231,7 @@ echo "python: tests passed"
 
 # The chat server in asyncio under its load, as the one in Rust
 "$here/../.ci/build" pt_audit >"$work/printed"
-(cd "$here/python" && PYTHONPATH=. timeout 240 python3 examples/chat_load.py --connections 40 --crashing 10 --rate 10 \
+(cd "$here/python" && PYTHONPATH=. "$here/../.ci/bounded" 240 python3 examples/chat_load.py --connections 40 --crashing 10 --rate 10 \
     --seconds 3 --archive "$work/chat_python.history")
 "$here/../bin/pt_audit" "$work/chat_python.history"
 (cd "$here/python" && PYTHONPATH=. timeout 300 "$here/bad_clients.py" python3 examples/chat.py)
