@@ -35,7 +35,7 @@ use Rattle.pt_supervisor.specs.declared.asked.Stage.TheVariants.{Gone, Watched, 
 use Rattle.pt_supervisor.specs.declared.children.Child.{Child}
 use Rattle.pt_supervisor.specs.declared.children.Shutdown.{Shutdown}
 use Rattle.pt_supervisor.specs.declared.children.Shutdown.TheVariants.{Infinity, After, BrutalKill}
-use Rattle.pt_supervisor.specs.Ending.{bids, gone_at, is_ref, monitor_of, stage_of, told_by, told_in, unless_by}
+use Rattle.pt_supervisor.specs.Ending.{bids, gone_at, is_ref, monitor_of, stage_of, stage_told, told_in, unless_by}
 use Rattle.pt_supervisor.specs.Hearing.{Standing, at_stage}
 use Rattle.pt_supervisor.specs.Supervising.{EndsChild, TellsToEnd, after_watching}
 use Rattle.pt_supervisor.specs.Keeping.{AreAsked, IsAsked, IsPlaced, IsWatched, all_events, bids_to, has_bid_to, has_told, is_bid}
@@ -146,7 +146,7 @@ none_some x is = absurd (cc)
 told_so : (reason r : Reason) → is_bid reason reason ≡ true → Some reason ≡ Some r → is_bid r reason ≡ true
 told_so reason r same is = subst (λ (x : Reason). is_bid x reason ≡ true) (same_some reason r is) same
 
-reached_by : (shutdown : Shutdown) (m : Ref) (now : ℕ) → Reached (told_by shutdown m now) (bids shutdown) m
+reached_by : (shutdown : Shutdown) (m : Ref) (now : ℕ) → Reached (stage_told shutdown m now) (bids shutdown) m
 reached_by Infinity m now = record { by = λ n is. same_some m n is; tells = λ r is. told_so Reason.Shutdown r refl is; stays = λ q is. none_some q is }
 reached_by (After time) m now = record { by = λ n is. same_some m n is; tells = λ r is. told_so Reason.Shutdown r refl is; stays = λ q is. none_some q is }
 reached_by BrutalKill m now = record { by = λ n is. same_some m n is; tells = λ r is. told_so Reason.Kill r refl is; stays = λ q is. none_some q is }
@@ -217,7 +217,7 @@ module _ (past : Past) (me p : Pid) where
 
     after_asks : (result : Result Ref CallFault) (mid : DeskState) → WatchedAs me p d.shard mid.shard result → after_watching me now p shutdown result s mid next t e → Asks
     after_asks (Ok m) mid w h =
-        tells_asks (bids shutdown) (told_by shutdown m now) m (reached_by shutdown m now) mid.shard e.shard s.children (say state p (Monitor m)) (made_phase d.shard mid.shard s.children state is m w)
+        tells_asks (bids shutdown) (stage_told shutdown m now) m (reached_by shutdown m now) mid.shard e.shard s.children (say state p (Monitor m)) (made_phase d.shard mid.shard s.children state is m w)
         (at_stage p (Watched m) s) mid next t e refl refl refl (made_asks d.shard mid.shard s.children state is m w) (λ placed. made_watched d.shard mid.shard s.children state is m w) h
     after_asks (Err (CallFault.Refused NoProc)) mid w h =
         subst (λ (x : Option Asked). AreAsked past s.children x me e.shard) (sym (ap (λ (y : Standing). y.asked) h.1))
@@ -233,9 +233,9 @@ module _ (past : Past) (me p : Pid) where
     was_watched : (stage : Stage) (m : Ref) → s.asked ≡ Some (record { pid = p; stage = stage }) → monitor_of stage ≡ Some m → IsPlaced s.children p → IsWatched (state_in d.shard me) m p
     was_watched stage m asked by placed = (asks (record { pid = p; stage = stage }) asked placed).watched m by
 
-    bid_asks : (stage : Stage) (m : Ref) → s.asked ≡ Some (record { pid = p; stage = stage }) → monitor_of stage ≡ Some m → TellsToEnd me p (bids shutdown) (told_by shutdown m now) s d next t e → Asks
+    bid_asks : (stage : Stage) (m : Ref) → s.asked ≡ Some (record { pid = p; stage = stage }) → monitor_of stage ≡ Some m → TellsToEnd me p (bids shutdown) (stage_told shutdown m now) s d next t e → Asks
     bid_asks stage m asked by h =
-        tells_asks (bids shutdown) (told_by shutdown m now) m (reached_by shutdown m now) d.shard e.shard s.children state is s d next t e refl refl refl asks (was_watched stage m asked by) h
+        tells_asks (bids shutdown) (stage_told shutdown m now) m (reached_by shutdown m now) d.shard e.shard s.children state is s d next t e refl refl refl asks (was_watched stage m asked by) h
 
     kill_asks : (stage : Stage) (m : Ref) → s.asked ≡ Some (record { pid = p; stage = stage }) → monitor_of stage ≡ Some m → TellsToEnd me p Reason.Kill (Killed m) s d next t e → Asks
     kill_asks stage m asked by h = tells_asks Reason.Kill (Killed m) m (reached_kill m) d.shard e.shard s.children state is s d next t e refl refl refl asks (was_watched stage m asked by) h

@@ -28,8 +28,8 @@ use Rattle.pt_supervisor.specs.declared.asked.Stage.TheVariants as far
 use Rattle.pt_supervisor.specs.declared.children.Child.{Child}
 use Rattle.pt_supervisor.specs.declared.children.Shutdown.{Shutdown}
 use Rattle.pt_supervisor.specs.Children.{is_missing, last_alive}
-use Rattle.pt_supervisor.specs.Ending.{bids, gone_in, stage_of, told_by}
-use Rattle.pt_supervisor.specs.Hearing.{Standing, at_stage, closed, found, heard, heard_gone}
+use Rattle.pt_supervisor.specs.Ending.{bids, gone_in, stage_of, stage_told}
+use Rattle.pt_supervisor.specs.Hearing.{Standing, at_stage, monitor_closed, gone_heard, heard, heard_gone}
 use Rattle.pt_supervisor.specs.Limits.{moment}
 use Rattle.pt_supervisor.specs.Supervising.{CountsBirths, counted_with, EndsChild, TellsToEnd, WatchesChild, after_watching, StartsOf, Nursery, BearsAs, StartsAt, StartsOne, StartsFirst, StartsAll, SupervisorScene, nursery, SupervisorSettles, AdvancesAs, SupervisorAttends, SupervisorHandles, with_one, after_attending}
 use Rattle.pt_supervisor.proofs.Families.{ToldAs, WatchedAs, heard_count, told_as, watched_as}
@@ -120,7 +120,7 @@ module _ (me : Pid) where
     same_bare d e is = ap (λ (x : DeskState). children_by me x.shard.journal) is
 
     after_bare : (now : ℕ) (shutdown : Shutdown) (result : Result Ref CallFault) (s : Standing) (mid : DeskState) (next : Next) (t : Standing) (e : DeskState) → after_watching me now p shutdown result s mid next t e → children_by me e.shard.journal ≡ children_by me mid.shard.journal
-    after_bare now shutdown (Ok m) s mid next t e h = tells_bare (bids shutdown) (told_by shutdown m now) (at_stage p (Watched m) s) mid next t e h
+    after_bare now shutdown (Ok m) s mid next t e h = tells_bare (bids shutdown) (stage_told shutdown m now) (at_stage p (Watched m) s) mid next t e h
     after_bare now shutdown (Err (CallFault.Refused NoProc)) s mid next t e h = same_bare mid e h.2
     after_bare now shutdown (Err (CallFault.Refused Gone)) s mid next t e h = same_bare mid e h.2
     after_bare now shutdown (Err (CallFault.Refused Worn)) s mid next t e h = same_bare mid e h.2
@@ -143,8 +143,8 @@ module _ (me : Pid) where
       ends_bare : (stage : Option Stage) → EndsChild me now p shutdown stage s d next t e → Bare
       ends_bare None h = watches_bare h
       ends_bare (Some far.Gone) h = watches_bare h
-      ends_bare (Some (Watched m)) h = tells_bare (bids shutdown) (told_by shutdown m now) s d next t e h
-      ends_bare (Some (Waiting m)) h = tells_bare (bids shutdown) (told_by shutdown m now) s d next t e h
+      ends_bare (Some (Watched m)) h = tells_bare (bids shutdown) (stage_told shutdown m now) s d next t e h
+      ends_bare (Some (Waiting m)) h = tells_bare (bids shutdown) (stage_told shutdown m now) s d next t e h
       ends_bare (Some (Until m at)) h = over_bare (nat_lt now at) m at h
       ends_bare (Some (Killed m)) h = tells_bare Reason.Kill (Killed m) s d next t e h
 
@@ -163,7 +163,7 @@ module _ (me : Pid) where
   found_count now s None = refl
   found_count now s (Some p) = heard_count now p Reason.Noproc (record s { asked = None })
 
-  if_found : (answer : Bool) (now : ℕ) (s : Standing) → (cond answer (found now s) s).started ≡ s.started
+  if_found : (answer : Bool) (now : ℕ) (s : Standing) → (cond answer (gone_heard now s) s).started ≡ s.started
   if_found true now s = found_count now s (gone_in s.asked)
   if_found false now s = refl
 
@@ -174,7 +174,7 @@ module _ (me : Pid) where
   attends_counts time (Some (Exit from r)) s m d e answer a =
       heard_counts s m (heard (moment s.timed d.shard.clock time) from r s) d e a.1 (heard_count (moment s.timed d.shard.clock time) from r s) a.2
   attends_counts time (Some (Down x from r)) s m d e answer a =
-      heard_counts s m (heard (moment s.timed d.shard.clock time) from r (closed x s)) d e a.1 (heard_count (moment s.timed d.shard.clock time) from r (closed x s)) a.2
+      heard_counts s m (heard (moment s.timed d.shard.clock time) from r (monitor_closed x s)) d e a.1 (heard_count (moment s.timed d.shard.clock time) from r (monitor_closed x s)) a.2
   attends_counts time (Some (User from b)) s m d e answer a = heard_counts s m s d e a.1 refl a.2
   attends_counts time (Some (Alive x from y)) s m d e answer a = heard_counts s m s d e a.1 refl a.2
   attends_counts time None s m d e answer a =

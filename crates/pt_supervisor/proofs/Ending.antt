@@ -20,7 +20,7 @@ use Rattle.pt_supervisor.specs.declared.asked.Stage.TheVariants.{Gone, Watched, 
 use Rattle.pt_supervisor.specs.declared.children.Shutdown.{Shutdown}
 use Rattle.pt_supervisor.specs.declared.children.Shutdown.TheVariants.{Infinity, After, BrutalKill}
 use Rattle.pt_supervisor.specs.Children.{last_alive}
-use Rattle.pt_supervisor.specs.Ending.{bids, stage_of, told_by, waits_in}
+use Rattle.pt_supervisor.specs.Ending.{bids, stage_of, stage_told, next_at_stage}
 use Rattle.pt_supervisor.specs.Hearing.{Standing, at_stage}
 use Rattle.pt_supervisor.specs.Supervising.{EndsChild, Supervises, TellsToEnd, after_watching}
 
@@ -39,14 +39,14 @@ IsLast p shutdown s = last_alive s.children s.ending (length s.children) ≡ Som
 
 module _ (me p : Pid) where
   -- one that it told waits at that stage
-  told_waits : (stage : Stage) (s : Standing) (next : Next) → Supervises (waits_in stage) (at_stage p stage s) → (ok : Bool) (t : Standing) → next ≡ cond ok (waits_in stage) Proceed → t ≡ cond ok (at_stage p stage s) s → Supervises next t
-  told_waits stage s next waits true t next_is t_is = subst (λ (n : Next). Supervises n t) (sym next_is) (subst (Supervises (waits_in stage)) (sym t_is) waits)
+  told_waits : (stage : Stage) (s : Standing) (next : Next) → Supervises (next_at_stage stage) (at_stage p stage s) → (ok : Bool) (t : Standing) → next ≡ cond ok (next_at_stage stage) Proceed → t ≡ cond ok (at_stage p stage s) s → Supervises next t
+  told_waits stage s next waits true t next_is t_is = subst (λ (n : Next). Supervises n t) (sym next_is) (subst (Supervises (next_at_stage stage)) (sym t_is) waits)
   told_waits stage s next waits false t next_is t_is = subst (λ (n : Next). Supervises n t) (sym next_is) tt
 
-  tells_supervise : (reason : Reason) (stage : Stage) (s : Standing) (d : DeskState) (next : Next) (t : Standing) (e : DeskState) → Supervises (waits_in stage) (at_stage p stage s) → TellsToEnd me p reason stage s d next t e → Supervises next t
+  tells_supervise : (reason : Reason) (stage : Stage) (s : Standing) (d : DeskState) (next : Next) (t : Standing) (e : DeskState) → Supervises (next_at_stage stage) (at_stage p stage s) → TellsToEnd me p reason stage s d next t e → Supervises next t
   tells_supervise reason stage s d next t e waits h = told_waits stage s next waits (is_ok h.result) t h.next_is h.new_is
 
-  by_shutdown : (shutdown : Shutdown) (m : Ref) (now : ℕ) (s : Standing) → IsLast p shutdown s → Supervises (waits_in (told_by shutdown m now)) (at_stage p (told_by shutdown m now) s)
+  by_shutdown : (shutdown : Shutdown) (m : Ref) (now : ℕ) (s : Standing) → IsLast p shutdown s → Supervises (next_at_stage (stage_told shutdown m now)) (at_stage p (stage_told shutdown m now) s)
   by_shutdown Infinity m now s last = (p, Infinity, inl (refl, (last, refl)))
   by_shutdown (After time) m now s last = (p, After time, (last, refl))
   by_shutdown BrutalKill m now s last = (p, BrutalKill, inr (last, refl))
@@ -64,7 +64,7 @@ module _ (me p : Pid) where
     proceeds is = subst (λ (n : Next). Supervises n t) (sym is) tt
 
     after_supervises : (now : ℕ) (result : Result Ref CallFault) (mid : DeskState) → after_watching me now p shutdown result s mid next t e → Supervises next t
-    after_supervises now (Ok m) mid h = tells_supervise (bids shutdown) (told_by shutdown m now) (at_stage p (Watched m) s) mid next t e (by_shutdown shutdown m now (at_stage p (Watched m) s) last) h
+    after_supervises now (Ok m) mid h = tells_supervise (bids shutdown) (stage_told shutdown m now) (at_stage p (Watched m) s) mid next t e (by_shutdown shutdown m now (at_stage p (Watched m) s) last) h
     after_supervises now (Err (CallFault.Refused NoProc)) mid h = proceeds h.0
     after_supervises now (Err (CallFault.Refused Over)) mid h = proceeds h.0
     after_supervises now (Err (CallFault.Refused Worn)) mid h = proceeds h.0
@@ -76,7 +76,7 @@ module _ (me p : Pid) where
     pub ends_supervise : (now : ℕ) (stage : Option Stage) → stage_of s.asked p ≡ stage → EndsChild me now p shutdown stage s d next t e → Supervises next t
     ends_supervise now None is h = after_supervises now h.result h.mid h.goes
     ends_supervise now (Some Gone) is h = after_supervises now h.result h.mid h.goes
-    ends_supervise now (Some (Watched m)) is h = tells_supervise (bids shutdown) (told_by shutdown m now) s d next t e (by_shutdown shutdown m now s last) h
-    ends_supervise now (Some (Waiting m)) is h = tells_supervise (bids shutdown) (told_by shutdown m now) s d next t e (by_shutdown shutdown m now s last) h
+    ends_supervise now (Some (Watched m)) is h = tells_supervise (bids shutdown) (stage_told shutdown m now) s d next t e (by_shutdown shutdown m now s last) h
+    ends_supervise now (Some (Waiting m)) is h = tells_supervise (bids shutdown) (stage_told shutdown m now) s d next t e (by_shutdown shutdown m now s last) h
     ends_supervise now (Some (Until m at)) is h = over_supervises (nat_lt now at) m at (stage_at s.asked p (Until m at) is) h
     ends_supervise now (Some (Killed m)) is h = kill_supervises m h

@@ -16,7 +16,7 @@ use Rattle.pt_signal.specs.declared.item.Item.{Item}
 use Rattle.pt_signal.specs.declared.reason.Reason.{Reason}
 use Rattle.pt_signal.specs.declared.signal.Signal.{Signal}
 use Rattle.pt_signal.specs.declared.signal.Signal.TheVariants.{Monitor}
-use Rattle.pt_signal.specs.Values.{same_pid}
+use Rattle.pt_signal.specs.Values.{same_pid, is_pid}
 use Rattle.pt_signal.specs.Process.{ProcessState, enter, say}
 use Rattle.pt_signal.proofs.Same.{same_pid_refl, same_pid_is}
 use Rattle.pt_events.specs.declared.event.Event.{Event}
@@ -38,7 +38,7 @@ use Rattle.pt_crew.specs.Upholding.{IsLater, ActsFor, child_by, children_by}
 use Rattle.pt_crew.proofs.Waking.{by_cases}
 use Rattle.pt_crew.proofs.Upholding.{later_is, later_same, later_then, later_after, born_then, phase_same, phase_is, alone_is, alone_then, alone_event, acts_is, acts_then, same_pid_sym, living_born}
 use Rattle.pt_supervisor.specs.declared.children.Child.{Child}
-use Rattle.pt_supervisor.specs.Children.{NoneLives, is_child}
+use Rattle.pt_supervisor.specs.Children.{NoneLives}
 use Rattle.pt_supervisor.specs.Hearing.{Standing, gone, heard, heard_at, lives_again, lost, restarted_child, started_again, stopped}
 use Rattle.pt_supervisor.specs.Limits.{allows}
 use Rattle.pt_supervisor.specs.Keeping.{pid_of_child, child_at, is_end_of, is_cut, has_cut, all_events, IsTied, IsHeld, Family, tells_end, has_told, WereTold, all_children, was_started, IsPlaced, Remembers}
@@ -92,36 +92,36 @@ again_stop true now place s h = restarted_stop (allows now s.span s.most s.times
 again_stop false now place s h = h
 
 -- who stands in a place, by the test of its pid
-of_is : (pid : Option Pid) (p : Pid) → is_child pid p ≡ true → pid ≡ Some p
+of_is : (pid : Option Pid) (p : Pid) → is_pid pid p ≡ true → pid ≡ Some p
 of_is None p h = absurd (cc)
 of_is (Some q) p h = ap Some (same_pid_is q p h)
 
-of_not : (c : Child) (q from : Pid) → c.pid ≡ Some q → is_child c.pid from ≡ false → same_pid q from ≡ false
-of_not c q from is no_of = sym (ap (λ (o : Option Pid). is_child o from) is) ∙ no_of
+of_not : (c : Child) (q from : Pid) → c.pid ≡ Some q → is_pid c.pid from ≡ false → same_pid q from ≡ false
+of_not c q from is no_of = sym (ap (λ (o : Option Pid). is_pid o from) is) ∙ no_of
 
 module _ (now : ℕ) (from : Pid) (reason : Reason) (s : Standing) (apart : (i j : ℕ) (q : Pid) → child_at s.children i ≡ Some q → child_at s.children j ≡ Some q → i ≡ j) where
   test : Child → Bool
-  test c = is_child c.pid from
+  test c = is_pid c.pid from
 
-  none_of : position (λ (c : Child). is_child c.pid from) s.children ≡ None → (j : ℕ) (q : Pid) → child_at s.children j ≡ Some q → same_pid q from ≡ false
+  none_of : position (λ (c : Child). is_pid c.pid from) s.children ≡ None → (j : ℕ) (q : Pid) → child_at s.children j ≡ Some q → same_pid q from ≡ false
   none_of nowhere j q is =
       let x = child_is s.children j q is in
       let within : j < length s.children = slice_get_within s.children j x.0 x.1 in
       let at : get_or s.children j x.0 ≡ x.0 = get_or_from_slice_get s.children j x.0 x.0 x.1 in
-      let past : length s.children ≤ position_or_len (λ (c : Child). is_child c.pid from) s.children = past_end nowhere in
-      of_not x.0 q from x.2 (ap (λ (c : Child). is_child c.pid from) (sym at) ∙ fails_before_first (λ (c : Child). is_child c.pid from) s.children j x.0 (omega (arith, within, past)))
+      let past : length s.children ≤ position_or_len (λ (c : Child). is_pid c.pid from) s.children = past_end nowhere in
+      of_not x.0 q from x.2 (ap (λ (c : Child). is_pid c.pid from) (sym at) ∙ fails_before_first (λ (c : Child). is_pid c.pid from) s.children j x.0 (omega (arith, within, past)))
     where
-      past_end : cond (nat_lt (position_or_len (λ (c : Child). is_child c.pid from) s.children) (length s.children)) (Some (position_or_len (λ (c : Child). is_child c.pid from) s.children)) None ≡ None
-          → length s.children ≤ position_or_len (λ (c : Child). is_child c.pid from) s.children
+      past_end : cond (nat_lt (position_or_len (λ (c : Child). is_pid c.pid from) s.children) (length s.children)) (Some (position_or_len (λ (c : Child). is_pid c.pid from) s.children)) None ≡ None
+          → length s.children ≤ position_or_len (λ (c : Child). is_pid c.pid from) s.children
       past_end h = grind (arith, h)
 
-  one_of : (place : ℕ) → position (λ (c : Child). is_child c.pid from) s.children ≡ Some place → (d : Child) → (slice_get s.children place ≡ Some (get_or s.children place d)) × (child_at s.children place ≡ Some from)
+  one_of : (place : ℕ) → position (λ (c : Child). is_pid c.pid from) s.children ≡ Some place → (d : Child) → (slice_get s.children place ≡ Some (get_or s.children place d)) × (child_at s.children place ≡ Some from)
   one_of place found d =
-      let p = position-Some (λ (c : Child). is_child c.pid from) s.children place d found in
+      let p = position-Some (λ (c : Child). is_pid c.pid from) s.children place d found in
       let at : slice_get s.children place ≡ Some (get_or s.children place d) = slice_get-get_or s.children place d p.0 in
       (at, ap pid_of_child at ∙ of_is (get_or s.children place d).pid from p.1)
 
-  less_lost : (place : ℕ) (c : Option Child) → position (λ (x : Child). is_child x.pid from) s.children ≡ Some place → slice_get s.children place ≡ c → (r : Reason) → Less (Item.Exit from r) s (lost now reason place c s)
+  less_lost : (place : ℕ) (c : Option Child) → position (λ (x : Child). is_pid x.pid from) s.children ≡ Some place → slice_get s.children place ≡ c → (r : Reason) → Less (Item.Exit from r) s (lost now reason place c s)
   less_lost place None found at r = record {
     sub = λ j q is. is;
     stop = λ h. h;
@@ -182,7 +182,7 @@ module _ (now : ℕ) (from : Pid) (reason : Reason) (s : Standing) (apart : (i j
       here j q is same =
           let bad : None ≡ Some q = sym (set_at s.children place c v at) ∙ ap (child_at (slice_set s.children place v)) (sym same) ∙ before j q is in absurd (cc)
 
-  less_at : (at : Option ℕ) → position (λ (x : Child). is_child x.pid from) s.children ≡ at → (r : Reason) → Less (Item.Exit from r) s (heard_at at now reason s)
+  less_at : (at : Option ℕ) → position (λ (x : Child). is_pid x.pid from) s.children ≡ at → (r : Reason) → Less (Item.Exit from r) s (heard_at at now reason s)
   less_at None nowhere r = record { sub = λ j q is. is; stop = λ h. h; out = λ h j q is. none_of nowhere j q is; kept = λ j q is. inl is; count = refl }
   less_at (Some place) found r = less_lost place (slice_get s.children place) found refl r
 
@@ -192,8 +192,8 @@ module _ (now : ℕ) (from : Pid) (reason : Reason) (s : Standing) (apart : (i j
 
   pub less_heard : Less (Item.Exit from reason) s (heard now from reason s)
   less_heard =
-      less_parent (is_child s.parent from) (heard_at (position (λ (c : Child). is_child c.pid from) s.children) now reason s) reason
-      (less_at (position (λ (c : Child). is_child c.pid from) s.children) refl reason)
+      less_parent (is_pid s.parent from) (heard_at (position (λ (c : Child). is_pid c.pid from) s.children) now reason s) reason
+      (less_at (position (λ (c : Child). is_pid c.pid from) s.children) refl reason)
 
 -- what it hears leaves whom it ends
 lost_asked : (now : ℕ) (reason : Reason) (place : ℕ) (c : Option Child) (s : Standing) → (lost now reason place c s).asked ≡ s.asked
@@ -212,8 +212,8 @@ parent_asked false reason s other h = h
 
 pub heard_asked : (now : ℕ) (from : Pid) (reason : Reason) (s : Standing) → (heard now from reason s).asked ≡ s.asked
 heard_asked now from reason s =
-    parent_asked (is_child s.parent from) reason s (heard_at (position (λ (c : Child). is_child c.pid from) s.children) now reason s)
-    (at_asked (position (λ (c : Child). is_child c.pid from) s.children) now reason s)
+    parent_asked (is_pid s.parent from) reason s (heard_at (position (λ (c : Child). is_pid c.pid from) s.children) now reason s)
+    (at_asked (position (λ (c : Child). is_pid c.pid from) s.children) now reason s)
 
 -- nor does it count anybody
 lost_count : (now : ℕ) (reason : Reason) (place : ℕ) (c : Option Child) (s : Standing) → (lost now reason place c s).started ≡ s.started
@@ -232,8 +232,8 @@ parent_count false reason s other h = h
 
 pub heard_count : (now : ℕ) (from : Pid) (reason : Reason) (s : Standing) → (heard now from reason s).started ≡ s.started
 heard_count now from reason s =
-    parent_count (is_child s.parent from) reason s (heard_at (position (λ (c : Child). is_child c.pid from) s.children) now reason s)
-    (at_count (position (λ (c : Child). is_child c.pid from) s.children) now reason s)
+    parent_count (is_pid s.parent from) reason s (heard_at (position (λ (c : Child). is_pid c.pid from) s.children) now reason s)
+    (at_count (position (λ (c : Child). is_pid c.pid from) s.children) now reason s)
 
 -- desks that go on -----------------------------------------------------------------------------------
 

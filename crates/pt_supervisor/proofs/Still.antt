@@ -51,7 +51,7 @@ use Rattle.pt_supervisor.specs.declared.children.Child.{Child}
 use Rattle.pt_supervisor.specs.declared.children.Shutdown.{Shutdown}
 use Rattle.pt_supervisor.specs.declared.children.Shutdown.TheVariants.{Infinity}
 use Rattle.pt_supervisor.specs.Children.{last_alive, leaving_in, or_before}
-use Rattle.pt_supervisor.specs.Ending.{monitor_of, told_in, waits_in}
+use Rattle.pt_supervisor.specs.Ending.{monitor_of, told_in, next_at_stage}
 use Rattle.pt_supervisor.specs.Hearing.{Standing}
 use Rattle.pt_supervisor.specs.Supervising.{EndsLast}
 use Rattle.pt_supervisor.specs.Keeping.{pid_of_child, is_end_of, has_cut, all_events, IsHeld, IsPlaced, IsWatched, IsAsked, bids_to, has_bid_to, HasTrapped, IsSpared, IsEnding, ChildLives, IsStillNode, Holds, PartOf, HoldsAs, IsIdle, QuietChildrenLive}
@@ -279,7 +279,7 @@ module _ {B : Type 0} (part : PartOf B) (laws : StillLaws) (past : Past) (c : Cr
         (λ any. quiet_killed (begins g) p q same_desk (events merged) (still.quiet merged m).0 known (still.quiet merged m).1 q_lives any)
         (λ b is any. quiet_killed [] p q same_desk b.past b.left.legal b.known b.left.quiet (lived Reason.Kill b any) any)
 
-    is_ending : next ≡ waits_in stage → (GoesOnFrom past g ⊎ (past ≡ []) → IsSpared shutdown stage × (HasTrapped (begins g) (events merged) p q ⊎ HasTrapped [] past p q)) → IsEnding past s next p q g merged
+    is_ending : next ≡ next_at_stage stage → (GoesOnFrom past g ⊎ (past ≡ []) → IsSpared shutdown stage × (HasTrapped (begins g) (events merged) p q ⊎ HasTrapped [] past p q)) → IsEnding past s next p q g merged
     is_ending waits trapped = record { shutdown = shutdown; stage = stage; last = last; waits = waits; lives = q_lives; trapped = trapped }
 
   -- so it is of each -------------------------------------------------------------------------------------

@@ -109,17 +109,17 @@ module _ (p q : Pid) where
 
   -- by a link, a monitor or a call, or by itself --------------------------------------------------------------------------
 
-  told_by : (e : Event) → tells_end p q e ≡ true → (shows_end p q e ≡ true) ⊎ (bids_end p q e ≡ true)
-  told_by (Came a b (LinkExit ids r)) h = inl h
-  told_by (Came a b (Signal.Down m r)) h = inl h
-  told_by (Came a b (Signal.Exit r)) h = inr h
-  told_by (Refused a b) h = inl h
-  told_by _ h = absurd (cc)
+  stage_told : (e : Event) → tells_end p q e ≡ true → (shows_end p q e ≡ true) ⊎ (bids_end p q e ≡ true)
+  stage_told (Came a b (LinkExit ids r)) h = inl h
+  stage_told (Came a b (Signal.Down m r)) h = inl h
+  stage_told (Came a b (Signal.Exit r)) h = inr h
+  stage_told (Refused a b) h = inl h
+  stage_told _ h = absurd (cc)
 
   any_told : (past : Past) → has_told p q past ≡ true → (list_any (shows_end p q) past ≡ true) ⊎ (has_bidden p q past ≡ true)
   any_told [] h = absurd (cc)
   any_told (e ∷ past) h = by_cases (tells_end p q e)
-      (λ here. elim (told_by e here) [
+      (λ here. elim (stage_told e here) [
         | inl l ↦ inl (or_left (shows_end p q e) (list_any (shows_end p q) past) l)
         | inr b ↦ inr (or_left (bids_end p q e) (has_bidden p q past) b)
       ])

@@ -42,9 +42,9 @@ use Rattle.pt_supervisor.specs.declared.asked.Stage.TheVariants as far
 use Rattle.pt_supervisor.specs.declared.children.Child.{Child}
 use Rattle.pt_supervisor.specs.declared.children.Shutdown.{Shutdown}
 use Rattle.pt_supervisor.specs.Children.{NoneLives, is_missing, last_alive}
-use Rattle.pt_supervisor.specs.Ending.{bids, gone_at, gone_in, is_ref, monitor_of, stage_of, told_by}
+use Rattle.pt_supervisor.specs.Ending.{bids, gone_at, gone_in, is_ref, monitor_of, stage_of, stage_told}
 use Rattle.pt_supervisor.specs.Limits.{moment}
-use Rattle.pt_supervisor.specs.Hearing.{Standing, at_stage, closed, found, heard, heard_gone}
+use Rattle.pt_supervisor.specs.Hearing.{Standing, at_stage, monitor_closed, gone_heard, heard, heard_gone}
 use Rattle.pt_supervisor.specs.Supervising.{EndsChild, TellsToEnd, WatchesChild, after_watching, StartsOf, Nursery, BearsAs, StartsAt, StartsOne, StartsFirst, StartsAll, SupervisorScene, nursery, SupervisorSettles, AdvancesAs, SupervisorAttends, SupervisorHandles, Supervises, with_pid, with_one, after_attending}
 use Rattle.pt_supervisor.specs.Keeping.{is_end_of, is_cut, has_cut, all_events, IsTied, IsHeld, Family, all_children, was_started, has_told, IsPlaced, Remembers, AreAsked, IsWatched, Holds, Tends, PartOf, HoldsAs, Keeps, SupervisorBegins, AllBegin, ActsAs, SuperviseAs}
 use Rattle.pt_supervisor.proofs.Tying.{or_left, stays_in, tied_by, is_unlink, handled_tied, handled_traps}
@@ -181,7 +181,7 @@ module _ {S B : Type 0} (starts : StartsOf S B) (me : Pid) where
   as_it_was s t is = subst (λ (x : Standing). x ≡ record s { asked = x.asked }) (sym is) refl
 
   after_goes : (now : ℕ) (p : Pid) (shutdown : Shutdown) (result : Result Ref CallFault) (s : Standing) (mid : DeskState) (next : Next) (t : Standing) (e : DeskState) → after_watching me now p shutdown result s mid next t e → Goes me mid.shard e.shard
-  after_goes now p shutdown (Ok m) s mid next t e h = tells_goes p (bids shutdown) (told_by shutdown m now) (at_stage p (Watched m) s) mid next t e h
+  after_goes now p shutdown (Ok m) s mid next t e h = tells_goes p (bids shutdown) (stage_told shutdown m now) (at_stage p (Watched m) s) mid next t e h
   after_goes now p shutdown (Err (CallFault.Refused NoProc)) s mid next t e h = same_desk mid e h.2
   after_goes now p shutdown (Err (CallFault.Refused Gone)) s mid next t e h = same_desk mid e h.2
   after_goes now p shutdown (Err (CallFault.Refused Worn)) s mid next t e h = same_desk mid e h.2
@@ -192,7 +192,7 @@ module _ {S B : Type 0} (starts : StartsOf S B) (me : Pid) where
 
   after_kept : (past : Past) (children : List Child) (started : ℕ) (stopping : Option Reason) (now : ℕ) (p : Pid) (shutdown : Shutdown) (result : Result Ref CallFault) (s : Standing) (mid : DeskState) (next : Next) (t : Standing) (e : DeskState)
       → after_watching me now p shutdown result s mid next t e → Kept past children started stopping me mid.shard → Kept past children started stopping me e.shard
-  after_kept past children started stopping now p shutdown (Ok m) s mid next t e h k = tells_kept past children started stopping p (bids shutdown) (told_by shutdown m now) (at_stage p (Watched m) s) mid next t e h k
+  after_kept past children started stopping now p shutdown (Ok m) s mid next t e h k = tells_kept past children started stopping p (bids shutdown) (stage_told shutdown m now) (at_stage p (Watched m) s) mid next t e h k
   after_kept past children started stopping now p shutdown (Err (CallFault.Refused NoProc)) s mid next t e h k = kept_is past children started stopping me mid.shard e.shard (ap (λ (x : DeskState). x.shard) h.2) k
   after_kept past children started stopping now p shutdown (Err (CallFault.Refused Gone)) s mid next t e h k = kept_is past children started stopping me mid.shard e.shard (ap (λ (x : DeskState). x.shard) h.2) k
   after_kept past children started stopping now p shutdown (Err (CallFault.Refused Worn)) s mid next t e h k = kept_is past children started stopping me mid.shard e.shard (ap (λ (x : DeskState). x.shard) h.2) k
@@ -202,7 +202,7 @@ module _ {S B : Type 0} (starts : StartsOf S B) (me : Pid) where
   after_kept past children started stopping now p shutdown (Err Unknown) s mid next t e h k = kept_is past children started stopping me mid.shard e.shard (ap (λ (x : DeskState). x.shard) h.2) k
 
   after_rest : (now : ℕ) (p : Pid) (shutdown : Shutdown) (result : Result Ref CallFault) (s : Standing) (mid : DeskState) (next : Next) (t : Standing) (e : DeskState) → after_watching me now p shutdown result s mid next t e → t ≡ record s { asked = t.asked }
-  after_rest now p shutdown (Ok m) s mid next t e h = tells_rest p (bids shutdown) (told_by shutdown m now) (at_stage p (Watched m) s) mid next t e h
+  after_rest now p shutdown (Ok m) s mid next t e h = tells_rest p (bids shutdown) (stage_told shutdown m now) (at_stage p (Watched m) s) mid next t e h
   after_rest now p shutdown (Err (CallFault.Refused NoProc)) s mid next t e h = subst (λ (x : Standing). x ≡ record s { asked = x.asked }) (sym h.1) refl
   after_rest now p shutdown (Err (CallFault.Refused Gone)) s mid next t e h = as_it_was s t h.1
   after_rest now p shutdown (Err (CallFault.Refused Worn)) s mid next t e h = as_it_was s t h.1
@@ -224,8 +224,8 @@ module _ {S B : Type 0} (starts : StartsOf S B) (me : Pid) where
     pub ends_goes : (stage : Option Stage) → EndsChild me now p shutdown stage s d next t e → Goes me d.shard e.shard
     ends_goes None h = watches_goes h
     ends_goes (Some far.Gone) h = watches_goes h
-    ends_goes (Some (Watched m)) h = tells_goes p (bids shutdown) (told_by shutdown m now) s d next t e h
-    ends_goes (Some (Waiting m)) h = tells_goes p (bids shutdown) (told_by shutdown m now) s d next t e h
+    ends_goes (Some (Watched m)) h = tells_goes p (bids shutdown) (stage_told shutdown m now) s d next t e h
+    ends_goes (Some (Waiting m)) h = tells_goes p (bids shutdown) (stage_told shutdown m now) s d next t e h
     ends_goes (Some (Until m at)) h = over_goes (nat_lt now at) m at h
     ends_goes (Some (Killed m)) h = tells_goes p Reason.Kill (Killed m) s d next t e h
 
@@ -237,8 +237,8 @@ module _ {S B : Type 0} (starts : StartsOf S B) (me : Pid) where
     pub ends_rest : (stage : Option Stage) → EndsChild me now p shutdown stage s d next t e → t ≡ record s { asked = t.asked }
     ends_rest None h = after_rest now p shutdown h.result s h.mid next t e h.goes
     ends_rest (Some far.Gone) h = after_rest now p shutdown h.result s h.mid next t e h.goes
-    ends_rest (Some (Watched m)) h = tells_rest p (bids shutdown) (told_by shutdown m now) s d next t e h
-    ends_rest (Some (Waiting m)) h = tells_rest p (bids shutdown) (told_by shutdown m now) s d next t e h
+    ends_rest (Some (Watched m)) h = tells_rest p (bids shutdown) (stage_told shutdown m now) s d next t e h
+    ends_rest (Some (Waiting m)) h = tells_rest p (bids shutdown) (stage_told shutdown m now) s d next t e h
     ends_rest (Some (Until m at)) h = over_rest (nat_lt now at) m at h
     ends_rest (Some (Killed m)) h = tells_rest p Reason.Kill (Killed m) s d next t e h
 
@@ -256,8 +256,8 @@ module _ {S B : Type 0} (starts : StartsOf S B) (me : Pid) where
       pub ends_kept : (stage : Option Stage) → EndsChild me now p shutdown stage s d next t e → Kept past children started stopping me d.shard → Kept past children started stopping me e.shard
       ends_kept None h k = watches_kept h k
       ends_kept (Some far.Gone) h k = watches_kept h k
-      ends_kept (Some (Watched m)) h k = tells_kept past children started stopping p (bids shutdown) (told_by shutdown m now) s d next t e h k
-      ends_kept (Some (Waiting m)) h k = tells_kept past children started stopping p (bids shutdown) (told_by shutdown m now) s d next t e h k
+      ends_kept (Some (Watched m)) h k = tells_kept past children started stopping p (bids shutdown) (stage_told shutdown m now) s d next t e h k
+      ends_kept (Some (Waiting m)) h k = tells_kept past children started stopping p (bids shutdown) (stage_told shutdown m now) s d next t e h k
       ends_kept (Some (Until m at)) h k = over_kept (nat_lt now at) m at h k
       ends_kept (Some (Killed m)) h k = tells_kept past children started stopping p Reason.Kill (Killed m) s d next t e h k
 
@@ -385,9 +385,9 @@ refused_holds past s m me before was d e same is as_is h =
       asks = h.asks;
     }))
 
-refused_attends : (past : Past) (s m : Standing) (me : Pid) (now : ℕ) (before : Next) (was d e : ShardState) (answer : Bool) → answer ≡ false → m ≡ cond answer (found now s) s → d ≡ was → e ≡ d → Holds past s before me was → Attended past answer m me e
+refused_attends : (past : Past) (s m : Standing) (me : Pid) (now : ℕ) (before : Next) (was d e : ShardState) (answer : Bool) → answer ≡ false → m ≡ cond answer (gone_heard now s) s → d ≡ was → e ≡ d → Holds past s before me was → Attended past answer m me e
 refused_attends past s m me now before was d e answer off same is as_is h =
-    subst (λ (a : Bool). Attended past a m me e) (sym off) (refused_holds past s m me before was d e (same ∙ ap (λ (b : Bool). cond b (found now s) s) off) is as_is h)
+    subst (λ (a : Bool). Attended past a m me e) (sym off) (refused_holds past s m me before was d e (same ∙ ap (λ (b : Bool). cond b (gone_heard now s) s) off) is as_is h)
 
 -- it hears of the end of the one that it found to have ended
 kept_less : (past : Past) (me : Pid) (item : Item) (s m : Standing) (e : ShardState) → Less item s m → ((q : Pid) → IsPlaced s.children q → is_end_of q item ≡ true → has_told me q (all_events past e) ≡ true)
@@ -433,11 +433,11 @@ found_with past me now s e (Some p) is k = (
         let q_is : q ≡ a.0.pid = same_pid_is q p same ∙ sym a.3 in
         subst (λ (x : Pid). has_told me x (all_events past e) ≡ true) (sym q_is) ((k.1 a.0 a.1 (subst (λ (x : Pid). IsPlaced s.children x) q_is placed)).gone a.2)
 
-flag_attends : (past : Past) (me : Pid) (now : ℕ) (s m : Standing) (before : Next) (was d e : ShardState) (on answer : Bool) (result : Result Bool Fault) → Calls me (Some (Flag me true)) on d result e → answer ≡ is_ok result → m ≡ cond answer (found now s) s
+flag_attends : (past : Past) (me : Pid) (now : ℕ) (s m : Standing) (before : Next) (was d e : ShardState) (on answer : Bool) (result : Result Bool Fault) → Calls me (Some (Flag me true)) on d result e → answer ≡ is_ok result → m ≡ cond answer (gone_heard now s) s
     → ItemIsTaken me before None was d → Holds past s before me was → Attended past answer m me e
 flag_attends past me now s m before was d e on answer (Ok x) c ok same taken h =
     subst (λ (a : Bool). Attended past a m me e) (sym ok)
-    (subst (λ (x : Standing). KeptWith past x me e) (sym (same ∙ ap (λ (b : Bool). cond b (found now s) s) ok)) (found_with past me now s e (gone_in s.asked) refl (kept, asks)))
+    (subst (λ (x : Standing). KeptWith past x me e) (sym (same ∙ ap (λ (b : Bool). cond b (gone_heard now s) s) ok)) (found_with past me now s e (gone_in s.asked) refl (kept, asks)))
   where
     st : (s : ProcessState) × (phase_of d me ≡ living s)
     st = living_of (phase_of d me) c.0
@@ -485,12 +485,12 @@ heard_attends past me item s m n before was d e answer on is same less still tak
     ))
 
 -- by a DOWN
-less_down : (m : Ref) (from : Pid) (r : Reason) (s n : Standing) → Less (Exit from r) (closed m s) n → Less (Down m from r) s n
+less_down : (m : Ref) (from : Pid) (r : Reason) (s n : Standing) → Less (Exit from r) (monitor_closed m s) n → Less (Down m from r) s n
 less_down m from r s n h = record { sub = h.sub; stop = h.stop; out = h.out; kept = h.kept; count = h.count }
 
-still_down : (m : Ref) (from : Pid) (r : Reason) (now : ℕ) (s : Standing) → StillAsked (Down m from r) s (heard now from r (closed m s))
+still_down : (m : Ref) (from : Pid) (r : Reason) (now : ℕ) (s : Standing) → StillAsked (Down m from r) s (heard now from r (monitor_closed m s))
 still_down m from r now s a is =
-    let k = unless_is m s.asked a (sym (heard_asked now from r (closed m s)) ∙ is) in
+    let k = unless_is m s.asked a (sym (heard_asked now from r (monitor_closed m s)) ∙ is) in
     (k.0, λ n by. ap (λ (o : Option Ref). is_ref o m) (sym by) ∙ k.1)
 
 attends_to : (past : Past) (me : Pid) (time : ℕ) (item : Option Item) (s m : Standing) (before : Next) (was : ShardState) (d e : DeskState) (answer : Bool) → SupervisorAttends me time item s d answer m e
@@ -500,8 +500,8 @@ attends_to past me time (Some (Exit from r)) s m before was d e answer a taken h
     (λ x is. (sym (heard_asked (moment s.timed d.shard.clock time) from r s) ∙ is, λ n by. refl)) taken h
 attends_to past me time (Some (User from b)) s m before was d e answer a taken h = heard_attends past me (User from b) s m s before was d e answer a.0 a.1 a.2 (less_same (User from b) s (λ q. refl)) (λ x is. (is, λ n by. refl)) taken h
 attends_to past me time (Some (Down x from r)) s m before was d e answer a taken h =
-    heard_attends past me (Down x from r) s m (heard (moment s.timed d.shard.clock time) from r (closed x s)) before was d e answer a.0 a.1 a.2
-    (less_down x from r s (heard (moment s.timed d.shard.clock time) from r (closed x s)) (less_heard (moment s.timed d.shard.clock time) from r (closed x s) h.family.apart))
+    heard_attends past me (Down x from r) s m (heard (moment s.timed d.shard.clock time) from r (monitor_closed x s)) before was d e answer a.0 a.1 a.2
+    (less_down x from r s (heard (moment s.timed d.shard.clock time) from r (monitor_closed x s)) (less_heard (moment s.timed d.shard.clock time) from r (monitor_closed x s) h.family.apart))
     (still_down x from r (moment s.timed d.shard.clock time) s) taken h
 attends_to past me time (Some (Alive x from y)) s m before was d e answer a taken h = heard_attends past me (Alive x from y) s m s before was d e answer a.0 a.1 a.2 (less_same (Alive x from y) s (λ q. refl)) (λ z is. (is, λ n by. refl)) taken h
 attends_to past me time None s m before was d e answer a taken h = flag_attends past me (moment s.timed e.shard.clock time) s m before was d.shard e.shard (state_in d.shard me).traps answer a.0 a.1 a.2 a.3 taken h

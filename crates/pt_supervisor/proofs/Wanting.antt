@@ -9,10 +9,11 @@ use Rattle.pt_signal.specs.declared.reason.Reason.{Reason}
 use Rattle.pt_supervisor.specs.declared.children.Child.{Child}
 use Rattle.pt_supervisor.specs.declared.restart.Restart.{Restart}
 use Rattle.pt_supervisor.specs.Restarts.{ends_from}
-use Rattle.pt_supervisor.specs.Children.{PermanentAreWanted, is_child, is_missing, is_temporary, revived, revived_child, revive_in}
+use Rattle.pt_supervisor.specs.Children.{PermanentAreWanted, is_missing, is_temporary, revived, revived_child, revive_in}
+use Rattle.pt_signal.specs.Values.{is_pid}
 use Rattle.pt_supervisor.specs.Ending.{gone_in}
 use Rattle.pt_supervisor.specs.Limits.{allows}
-use Rattle.pt_supervisor.specs.Hearing.{Standing, found, gone, heard, heard_at, heard_gone, lives_again, lost, restarted_child, started_again, stopped}
+use Rattle.pt_supervisor.specs.Hearing.{Standing, gone_heard, gone, heard, heard_at, heard_gone, lives_again, lost, restarted_child, started_again, stopped}
 use Rattle.pt_crew.proofs.Waking.{by_cases}
 
 pub set_same : (xs : List Child) (i : ℕ) (v : Child) → i < length xs → slice_get (slice_set xs i v) i ≡ Some v
@@ -180,14 +181,14 @@ parent_or false reason s other k h = h
 
 pub heard_keeps : (now : ℕ) (from : Pid) (reason : Reason) (s : Standing) → PermanentAreWanted s.children → PermanentAreWanted (heard now from reason s).children
 heard_keeps now from reason s k =
-    parent_or (is_child s.parent from) reason s (heard_at (position (λ (c : Child). is_child c.pid from) s.children) now reason s) k
-    (at_keeps (position (λ (c : Child). is_child c.pid from) s.children) now reason s k)
+    parent_or (is_pid s.parent from) reason s (heard_at (position (λ (c : Child). is_pid c.pid from) s.children) now reason s) k
+    (at_keeps (position (λ (c : Child). is_pid c.pid from) s.children) now reason s k)
 
 gone_keeps : (o : Option Pid) (now : ℕ) (s : Standing) → PermanentAreWanted s.children → PermanentAreWanted (heard_gone o now s).children
 gone_keeps None now s k = k
 gone_keeps (Some p) now s k = heard_keeps now p Reason.Noproc (record s { asked = None }) k
 
-pub found_keeps : (now : ℕ) (s : Standing) → PermanentAreWanted s.children → PermanentAreWanted (found now s).children
+pub found_keeps : (now : ℕ) (s : Standing) → PermanentAreWanted s.children → PermanentAreWanted (gone_heard now s).children
 found_keeps now s k = gone_keeps (gone_in s.asked) now s k
 
 -- one that is to live and is not missing lives

@@ -9,11 +9,6 @@ use Rattle.pt_supervisor.specs.declared.restart.Restart.{Restart}
 use Rattle.pt_supervisor.specs.declared.restart.Restart.TheVariants.{Permanent, Transient, Temporary}
 use Rattle.pt_supervisor.specs.declared.children.Shutdown.{Shutdown}
 
--- there is a process, and it is this one
-abbrev pub is_child : Option Pid → Pid → Bool
-is_child None p = false
-is_child (Some q) p = same_pid q p
-
 -- it is to live, and does not
 abbrev pub is_missing : Child → Bool
 is_missing c = c.wanted && not (is_some c.pid)

@@ -39,12 +39,12 @@ told_in (Until m at) = Some Reason.Shutdown
 told_in (Killed m) = Some Reason.Kill
 
 -- it waits for the DOWN of one that it has told to end, until a time if there is one
-abbrev pub waits_in : Stage → Next
-waits_in Gone = Proceed
-waits_in (Watched m) = Proceed
-waits_in (Waiting m) = Wait (Pick.DownOf m)
-waits_in (Until m at) = WaitUntil (Pick.DownOf m) at
-waits_in (Killed m) = Wait (Pick.DownOf m)
+abbrev pub next_at_stage : Stage → Next
+next_at_stage Gone = Proceed
+next_at_stage (Watched m) = Proceed
+next_at_stage (Waiting m) = Wait (Pick.DownOf m)
+next_at_stage (Until m at) = WaitUntil (Pick.DownOf m) at
+next_at_stage (Killed m) = Wait (Pick.DownOf m)
 
 -- the reason of the exit signal by which a child is told to end
 abbrev pub bids : Shutdown → Reason
@@ -53,10 +53,10 @@ bids (After time) = Reason.Shutdown
 bids BrutalKill = Reason.Kill
 
 -- how far it has come with a child that it monitors and tells so now
-abbrev pub told_by : Shutdown → Ref → ℕ → Stage
-told_by Infinity m now = Waiting m
-told_by (After time) m now = Until m (min (now + time) (2 ^ 64 - 1))
-told_by BrutalKill m now = Killed m
+abbrev pub stage_told : Shutdown → Ref → ℕ → Stage
+stage_told Infinity m now = Waiting m
+stage_told (After time) m now = Until m (min (now + time) (2 ^ 64 - 1))
+stage_told BrutalKill m now = Killed m
 
 -- how far it has come with p, if p is the one that it ends
 abbrev pub stage_of : Option Asked → Pid → Option Stage
@@ -78,13 +78,13 @@ unless_by m None = None
 unless_by m (Some a) = cond (is_ref (monitor_of a.stage) m) None (Some a)
 
 -- the process of whose end it hears by an item, or, without one, as it has found that one to have ended
-abbrev pub end_heard : Option Item → Option Asked → Option Pid
-end_heard (Some (Exit from r)) asked = Some from
-end_heard (Some (Down m from r)) asked = Some from
-end_heard (Some _) asked = None
-end_heard None asked = gone_in asked
+abbrev pub child_end_heard : Option Item → Option Asked → Option Pid
+child_end_heard (Some (Exit from r)) asked = Some from
+child_end_heard (Some (Down m from r)) asked = Some from
+child_end_heard (Some _) asked = None
+child_end_heard None asked = gone_in asked
 
 -- a call was refused since the one that it was to reach has ended
-abbrev pub is_over : CallFault → Bool
-is_over (CallFault.Refused NoProc) = true
-is_over _ = false
+abbrev pub is_noproc : CallFault → Bool
+is_noproc (CallFault.Refused NoProc) = true
+is_noproc _ = false

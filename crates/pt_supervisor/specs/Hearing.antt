@@ -13,7 +13,8 @@ use Rattle.pt_supervisor.specs.declared.restart.Strategy.{Strategy}
 use Rattle.pt_supervisor.specs.declared.supervisor.Supervisor.{Supervisor}
 use Rattle.pt_supervisor.specs.Restarts.{starts_again, ends_from}
 use Rattle.pt_supervisor.specs.Limits.{recent, allows, counted_restarts}
-use Rattle.pt_supervisor.specs.Children.{is_child, is_temporary, revived}
+use Rattle.pt_supervisor.specs.Children.{is_temporary, revived}
+use Rattle.pt_signal.specs.Values.{is_pid}
 use Rattle.pt_supervisor.specs.Ending.{gone_in, unless_by}
 
 pub record Standing : Type 0 where
@@ -79,8 +80,8 @@ abbrev pub at_stage : Pid → Stage → Standing → Standing
 at_stage p stage s = record s { asked = Some (record { pid = p; stage = stage }) }
 
 -- the monitor is closed: it monitors the child that it ends no more
-abbrev pub closed : Ref → Standing → Standing
-closed m s = record s { asked = unless_by m s.asked }
+abbrev pub monitor_closed : Ref → Standing → Standing
+monitor_closed m s = record s { asked = unless_by m s.asked }
 
 -- whether a child is to live again: one that its supervisor ended unless it is temporary, and one that ended by itself
 -- where its rule says so
@@ -122,13 +123,13 @@ heard_at (Some place) now reason s = lost now reason place (slice_get s.children
 -- It hears that a process has ended. With its parent it ends itself; a child is lost; of any other nothing comes.
 abbrev pub heard : ℕ → Pid → Reason → Standing → Standing
 heard now from reason s =
-    cond (is_child s.parent from) (stopped reason s)
-    (heard_at (position (λ c. is_child c.pid from) s.children) now reason s)
+    cond (is_pid s.parent from) (stopped reason s)
+    (heard_at (position (λ c. is_pid c.pid from) s.children) now reason s)
 
 -- it hears of the end of the child that it found to have ended
 abbrev pub heard_gone : Option Pid → ℕ → Standing → Standing
 heard_gone None now s = s
 heard_gone (Some p) now s = heard now p Reason.Noproc (record s { asked = None })
 
-abbrev pub found : ℕ → Standing → Standing
-found now s = heard_gone (gone_in s.asked) now s
+abbrev pub gone_heard : ℕ → Standing → Standing
+gone_heard now s = heard_gone (gone_in s.asked) now s

@@ -37,7 +37,7 @@ use Rattle.pt_supervisor.specs.declared.asked.Stage.TheVariants.{Waiting, Until}
 use Rattle.pt_supervisor.specs.declared.children.Child.{Child}
 use Rattle.pt_supervisor.specs.declared.children.Shutdown.{Shutdown}
 use Rattle.pt_supervisor.specs.Children.{NoneLives}
-use Rattle.pt_supervisor.specs.Ending.{gone_at, monitor_of, told_in, waits_in}
+use Rattle.pt_supervisor.specs.Ending.{gone_at, monitor_of, told_in, next_at_stage}
 use Rattle.pt_supervisor.specs.Hearing.{Standing}
 use Rattle.pt_supervisor.specs.Supervising.{EndsLast, StartsOf, Supervises}
 
@@ -241,7 +241,7 @@ pub record IsEnding (past : Past) (s : Standing) (next : Next) (p q : Pid) (g : 
   pub shutdown : Shutdown
   pub stage : Stage
   pub last : EndsLast q shutdown stage s
-  pub waits : next ≡ waits_in stage
+  pub waits : next ≡ next_at_stage stage
   pub lives : alive (begins g) (events merged) q ≡ true
   pub trapped : GoesOnFrom past g ⊎ (past ≡ [])
       → IsSpared shutdown stage × (HasTrapped (begins g) (events merged) p q ⊎ HasTrapped [] past p q)

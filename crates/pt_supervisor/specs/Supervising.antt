@@ -29,10 +29,10 @@ use Rattle.pt_supervisor.specs.declared.children.Shutdown.{Shutdown}
 use Rattle.pt_supervisor.specs.declared.restart.Restart.{Restart}
 use Rattle.pt_supervisor.specs.Children.{AreStarted, NoneLives, PermanentAreWanted}
 use Rattle.pt_supervisor.specs.Children.{is_missing, last_alive}
-use Rattle.pt_supervisor.specs.Ending.{bids, is_over, stage_of, told_by, waits_in}
+use Rattle.pt_supervisor.specs.Ending.{bids, is_noproc, stage_of, stage_told, next_at_stage}
 use Rattle.pt_supervisor.specs.declared.supervisor.Supervisor.{Supervisor}
 use Rattle.pt_supervisor.specs.Limits.{moment}
-use Rattle.pt_supervisor.specs.Hearing.{Standing, at_stage, closed, found, heard, program_of, standing}
+use Rattle.pt_supervisor.specs.Hearing.{Standing, at_stage, monitor_closed, gone_heard, heard, program_of, standing}
 
 -- the program's `Start`: it before, the supervisor, the place, what it answers, and it afterwards
 abbrev pub StartsOf : Type 0 → Type 0 → Type 1
@@ -127,7 +127,7 @@ pub record TellsToEnd (me p : Pid) (reason : Reason) (stage : Stage) (old : Stan
   pub result : Result (Unit {0}) CallFault
   pub signal : IfKnown (knows d.shard p)
       (λ r. Calls me (Some (Said me p (Signal.Exit reason))) (tt {0}) d.shard r e.shard) d result e
-  pub next_is : next ≡ cond (is_ok result) (waits_in stage) Proceed
+  pub next_is : next ≡ cond (is_ok result) (next_at_stage stage) Proceed
   pub new_is : new ≡ cond (is_ok result) (at_stage p stage old) old
 
 -- One that it monitors now it tells to end. One that has ended before is gone. Where the call was refused for another
@@ -135,9 +135,9 @@ pub record TellsToEnd (me p : Pid) (reason : Reason) (stage : Stage) (old : Stan
 abbrev pub after_watching : Pid → ℕ → Pid → Shutdown → Result Ref CallFault → Standing → DeskState → Next → Standing → DeskState
     → Type 0
 after_watching me now p shutdown (Ok m) old mid next new e =
-    TellsToEnd me p (bids shutdown) (told_by shutdown m now) (at_stage p (Watched m) old) mid next new e
+    TellsToEnd me p (bids shutdown) (stage_told shutdown m now) (at_stage p (Watched m) old) mid next new e
 after_watching me now p shutdown (Err f) old mid next new e =
-    (next ≡ Proceed) × (new ≡ cond (is_over f) (at_stage p Gone old) old) × (e ≡ mid)
+    (next ≡ Proceed) × (new ≡ cond (is_noproc f) (at_stage p Gone old) old) × (e ≡ mid)
 
 -- it monitors one that it is to end, and then tells it to
 pub record WatchesChild (me : Pid) (now : ℕ) (p : Pid) (shutdown : Shutdown) (old : Standing) (d : DeskState) (next : Next)
@@ -153,9 +153,9 @@ abbrev pub EndsChild : Pid → ℕ → Pid → Shutdown → Option Stage → Sta
 EndsChild me now p shutdown None old d next new e = WatchesChild me now p shutdown old d next new e
 EndsChild me now p shutdown (Some Gone) old d next new e = WatchesChild me now p shutdown old d next new e
 EndsChild me now p shutdown (Some (Watched m)) old d next new e =
-    TellsToEnd me p (bids shutdown) (told_by shutdown m now) old d next new e
+    TellsToEnd me p (bids shutdown) (stage_told shutdown m now) old d next new e
 EndsChild me now p shutdown (Some (Waiting m)) old d next new e =
-    TellsToEnd me p (bids shutdown) (told_by shutdown m now) old d next new e
+    TellsToEnd me p (bids shutdown) (stage_told shutdown m now) old d next new e
 EndsChild me now p shutdown (Some (Until m at)) old d next new e =
     MatchBool (nat_lt now at) ((next ≡ WaitUntil (Pick.DownOf m) at) × (new ≡ old) × (e ≡ d))
     (TellsToEnd me p Reason.Kill (Killed m) old d next new e)
@@ -193,12 +193,12 @@ abbrev pub SupervisorAttends : Pid → ℕ → Option Item → Standing → Desk
 SupervisorAttends me time (Some (Exit from reason)) old d answer new e =
     (answer ≡ true) × (new ≡ heard (moment old.timed d.shard.clock time) from reason old) × (e ≡ d)
 SupervisorAttends me time (Some (Down m from reason)) old d answer new e =
-    (answer ≡ true) × (new ≡ heard (moment old.timed d.shard.clock time) from reason (closed m old)) × (e ≡ d)
+    (answer ≡ true) × (new ≡ heard (moment old.timed d.shard.clock time) from reason (monitor_closed m old)) × (e ≡ d)
 SupervisorAttends me time (Some _) old d answer new e = (answer ≡ true) × (new ≡ old) × (e ≡ d)
 SupervisorAttends me time None old d answer new e =
     (result : Result Bool Fault)
     × Calls me (Some (Flag me true)) (state_in d.shard me).traps d.shard result e.shard × (answer ≡ is_ok result)
-    × (new ≡ cond answer (found (moment old.timed e.shard.clock time) old) old)
+    × (new ≡ cond answer (gone_heard (moment old.timed e.shard.clock time) old) old)
 
 abbrev pub after_attending : {S B : Type 0} → StartsOf S B → Pid → ℕ → Bool → SupervisorScene S B → Next
     → SupervisorScene S B → Type 0

@@ -1,7 +1,7 @@
 //! How far a supervisor has come in ending a child.
 
 ghost use Rattle.std.specs.Prelude.{◌≡◌};
-ghost use Rattle.pt_supervisor.specs.Ending.{gone_in, is_over, is_ref, monitor_of, stage_of, unless_by, waits_in};
+ghost use Rattle.pt_supervisor.specs.Ending.{gone_in, is_noproc, is_ref, monitor_of, stage_of, unless_by, next_at_stage};
 
 use pt_crew::{CallFault, Next};
 use pt_node::{Fault, Pick, Pid, Ref};
@@ -38,7 +38,7 @@ impl Stage {
     /// What the supervisor does next: it waits for the `DOWN`, until a time if there is one. It proceeds if it has not
     /// told the child yet.
     pub(crate) fn waits(&self) -> Next
-        ensures { result ≡ waits_in self.now }
+        ensures { result ≡ next_at_stage self.now }
     {
         match *self {
             Stage::Gone => Next::Proceed,
@@ -105,8 +105,8 @@ pub(crate) fn gone_in(asked: Option<Asked>) -> Option<Pid>
 }
 
 /// Whether a call was refused since the process that it was to reach has exited.
-pub(crate) fn is_over(fault: CallFault) -> bool
-    ensures { result ≡ is_over fault }
+pub(crate) fn is_noproc(fault: CallFault) -> bool
+    ensures { result ≡ is_noproc fault }
 {
     match fault {
         CallFault::Refused(Fault::NoProc) => true,

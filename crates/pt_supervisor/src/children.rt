@@ -2,8 +2,9 @@
 
 ghost use Rattle.std.specs.Prelude.{◌≡◌, ◌<◌, IfSome, None, true, position, length};
 ghost use Rattle.std.specs.Option.{option_map};
-ghost use Rattle.pt_supervisor.specs.Children.{is_missing, is_child, last_alive, leaving, revived, revived_child};
-ghost use Rattle.pt_supervisor.specs.Ending.{bids, told_by};
+ghost use Rattle.pt_supervisor.specs.Children.{is_missing, last_alive, leaving, revived, revived_child};
+ghost use Rattle.pt_signal.specs.Values.{is_pid};
+ghost use Rattle.pt_supervisor.specs.Ending.{bids, stage_told};
 
 use crate::asked::Stage;
 use crate::restart::Restart;
@@ -38,7 +39,7 @@ impl Shutdown {
     /// How far a supervisor has come with a child that it monitors and tells so now to exit. A time to be killed at is
     /// at most `u64::MAX`.
     pub fn told(&self, monitor: Ref, now: u64) -> Stage
-        ensures { result ≡ told_by self.now monitor now }
+        ensures { result ≡ stage_told self.now monitor now }
     {
         match *self {
             Shutdown::Infinity => Stage::Waiting(monitor),
@@ -88,7 +89,7 @@ impl Child {
 
     /// Whether it is this process.
     pub fn is_of(&self, pid: Pid) -> bool
-        ensures { result ≡ is_child self.now.pid pid }
+        ensures { result ≡ is_pid self.now.pid pid }
     {
         is_process(self.pid, pid)
     }
@@ -116,7 +117,7 @@ impl Child {
 
 /// Whether there is a process, and it is this one.
 pub(crate) fn is_process(known: Option<Pid>, pid: Pid) -> bool
-    ensures { result ≡ is_child known pid }
+    ensures { result ≡ is_pid known pid }
 {
     match known {
         Some(own) => own == pid,
@@ -126,7 +127,7 @@ pub(crate) fn is_process(known: Option<Pid>, pid: Pid) -> bool
 
 /// The place of a child by its pid.
 pub fn place_of(children: &[Child], pid: Pid) -> Option<usize>
-    ensures place { result ≡ position (λ c. is_child c.pid pid) children.now }
+    ensures place { result ≡ position (λ c. is_pid c.pid pid) children.now }
     ensures within { IfSome result (λ i. i < length children.now) }
 {
     children.iter().position(|child| child.is_of(pid))

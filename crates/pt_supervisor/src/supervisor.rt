@@ -6,7 +6,7 @@ ghost use Rattle.pt_signal.specs.declared.pid.Pid.{Pid};
 ghost use Rattle.pt_shard.specs.declared.fault.Fault.{Fault};
 ghost use Rattle.pt_crew.specs.declared.behaviour.Next.{Next};
 
-use crate::asked::{Asked, Stage, gone_in, is_over, stage_of, unless_by};
+use crate::asked::{Asked, Stage, gone_in, is_noproc, stage_of, unless_by};
 use crate::children::{Child, Shutdown, is_process, last_alive, place_of, revive};
 use crate::limit::Limit;
 use crate::restart::{Restart, Strategy};
@@ -55,8 +55,8 @@ impl<S> Supervisor<S> {
     ghost use Rattle.pt_crew.specs.Visiting.{takes};
     ghost use Rattle.pt_supervisor.specs.Children.{AreStarted, PermanentAreWanted};
     ghost use Rattle.pt_supervisor.specs.declared.asked.Stage.TheVariants.{Gone};
-    ghost use Rattle.pt_supervisor.specs.Ending.{end_heard, is_over, stage_of};
-    ghost use Rattle.pt_supervisor.specs.Hearing.{at_stage, begun, closed, found, heard, lost, program_of, standing};
+    ghost use Rattle.pt_supervisor.specs.Ending.{child_end_heard, is_noproc, stage_of};
+    ghost use Rattle.pt_supervisor.specs.Hearing.{at_stage, begun, monitor_closed, gone_heard, heard, lost, program_of, standing};
     ghost use Rattle.pt_supervisor.specs.Limits.{moment};
     ghost use Rattle.pt_supervisor.specs.Hearing.{started_again, stopped};
     ghost use Rattle.pt_supervisor.specs.Supervising.{Advances, EndsChild, SupervisorAttends, SupervisorHandles, TellsToEnd};
@@ -133,7 +133,7 @@ impl<S> Supervisor<S> {
     /// The process of whose exit it hears by this item. Without an item it hears of the child that it found to have
     /// exited.
     pub fn hears(&self, item: Option<Item>) -> Option<Pid>
-        ensures { result ≡ end_heard item (standing self.now).asked }
+        ensures { result ≡ child_end_heard item (standing self.now).asked }
     {
         match item {
             Some(Item::Exit(from, _)) => Some(from),
@@ -249,7 +249,7 @@ impl<S> Supervisor<S> {
     /// Notes that the child which it found to have exited has exited, if there is one.
     fn find(&mut self, desk: &Desk, now: u64)
         ensures standing { standing self.new
-            ≡ found (moment (standing self.old).timed desk.now.shard.clock now) (standing self.old) }
+            ≡ gone_heard (moment (standing self.old).timed desk.now.shard.clock now) (standing self.old) }
         ensures start { program_of self.new ≡ program_of self.old }
     {
         if let Some(pid) = gone_in(self.asked) {
@@ -261,7 +261,7 @@ impl<S> Supervisor<S> {
     /// Notes that a process which it monitored has exited. It does not monitor it any more.
     fn hear_down(&mut self, desk: &Desk, now: u64, monitor: Ref, from: Pid, reason: Reason)
         ensures standing { standing self.new ≡ heard (moment (standing self.old).timed desk.now.shard.clock now) from reason
-            (closed monitor (standing self.old)) }
+            (monitor_closed monitor (standing self.old)) }
         ensures start { program_of self.new ≡ program_of self.old }
     {
         self.set_asked(unless_by(self.asked, monitor));
@@ -421,11 +421,11 @@ impl<S> Supervisor<S> {
 
     /// Notes that a child has exited before, if a call was refused for that.
     fn find_gone(&mut self, pid: Pid, fault: CallFault)
-        ensures standing { standing self.new ≡ cond (is_over fault) (at_stage pid Gone (standing self.old))
+        ensures standing { standing self.new ≡ cond (is_noproc fault) (at_stage pid Gone (standing self.old))
             (standing self.old) }
         ensures start { program_of self.new ≡ program_of self.old }
     {
-        if is_over(fault) {
+        if is_noproc(fault) {
             self.set_asked(Some(Asked {
                 pid,
                 stage: Stage::Gone,

@@ -11,7 +11,7 @@ use Rattle.pt_crew.specs.declared.births.Role.{Role}
 use Rattle.pt_crew.specs.Visiting.{Answers}
 use Rattle.pt_hands.specs.Pulling.{noted_reason, reason_told}
 use Rattle.pt_supervisor.specs.declared.supervisor.Supervisor.{Supervisor}
-use Rattle.pt_supervisor.specs.Ending.{end_heard}
+use Rattle.pt_supervisor.specs.Ending.{child_end_heard}
 use Rattle.pt_supervisor.specs.Hearing.{program_of, standing}
 use Rattle.pt_supervisor.specs.Supervising.{SupervisorHandles}
 use Rattle.pt_supervisor.specs.Keeping.{AnswerAs, PartOf}
@@ -33,7 +33,7 @@ pub record BossHandles (time : ℕ) (old : Supervisor Plan) (d : ShardState) (me
     (new : Supervisor Plan) (e : ShardState) (births : List (Role Member)) : Type 0 where
   pub plan : Plan
   pub heard : posts_of plan
-      ≡ posts_heard (end_heard item (standing old).asked) (standing old).children (posts_of (program_of old))
+      ≡ posts_heard (child_end_heard item (standing old).asked) (standing old).children (posts_of (program_of old))
   pub desk : DeskState
   pub later : DeskState
   pub before : desk.shard ≡ d

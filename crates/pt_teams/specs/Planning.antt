@@ -5,7 +5,7 @@ use Rattle.pt_shard.specs.declared.fault.Fault.{Fault}
 use Rattle.pt_crew.specs.declared.behaviour.Next.{Next}
 use Rattle.pt_crew.specs.declared.behaviour.Next.TheVariants.{Proceed}
 use Rattle.pt_supervisor.specs.declared.children.Child.{Child}
-use Rattle.pt_supervisor.specs.Children.{is_child}
+use Rattle.pt_signal.specs.Values.{is_pid}
 use Rattle.pt_supervisor.specs.Hearing.{Standing}
 use Rattle.pt_supervisor.specs.Supervising.{StartsOf}
 use Rattle.pt_teams.specs.declared.member.Member.{Member}
@@ -33,7 +33,7 @@ again_at (Some place) posts = with_again place posts
 
 -- so it is of a child of whose exit the supervisor hears
 abbrev pub posts_heard : Option Pid → List Child → List Post → List Post
-posts_heard (Some from) children posts = again_at (position (λ c. is_child c.pid from) children) posts
+posts_heard (Some from) children posts = again_at (position (λ c. is_pid c.pid from) children) posts
 posts_heard None children posts = posts
 
 -- what a child begins as

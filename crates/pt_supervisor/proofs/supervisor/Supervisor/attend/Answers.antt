@@ -1,7 +1,7 @@
 -- `Supervisor::attend`: its clause `permanent`.
 use Rattle.std.proofs.Common.{sym, subst}
 use Rattle.pt_supervisor.specs.Children.{PermanentAreWanted}
-use Rattle.pt_supervisor.specs.Hearing.{Standing, closed, standing}
+use Rattle.pt_supervisor.specs.Hearing.{Standing, monitor_closed, standing}
 use Rattle.pt_supervisor.specs.Limits.{moment}
 use Rattle.pt_supervisor.proofs.Wanting.{heard_keeps}
 use Rattle.pt_supervisor.proofs.supervisor.Supervisor.attend.Goals as goal
@@ -14,4 +14,4 @@ returns-in-Some-Exit-clause-permanent g c = λ k.
 pub returns-in-Some-Down-clause-permanent : goal.returns-in-Some-Down-clause-permanent
 returns-in-Some-Down-clause-permanent g c = λ k.
     subst (λ (s : Standing). PermanentAreWanted s.children) (sym c.hear_down.ensures.standing)
-    (heard_keeps (moment (standing c.args.self.now).timed c.args.desk.now.shard.clock c.args.now) c.in-Some-Down.from c.in-Some-Down.reason (closed c.in-Some-Down.monitor (standing c.args.self.now)) k)
+    (heard_keeps (moment (standing c.args.self.now).timed c.args.desk.now.shard.clock c.args.now) c.in-Some-Down.from c.in-Some-Down.reason (monitor_closed c.in-Some-Down.monitor (standing c.args.self.now)) k)
