@@ -223,8 +223,9 @@ class Edit:
 
 
 def form_of(text: str) -> list[str]:
-    """The form of a text: its words and signs, with each path, number or text as one operand."""
-    text = re.sub(r'"(\\.|[^"\\])*"|b?\'(\\.|[^\'\\])\'', "0", text)
+    """The form of a text: its words and signs, with each path, number or text as one operand, and what a text names."""
+    text = re.sub(r'"(\\.|[^"\\])*"', lambda it: " 0" * (1 + it[0].count("{")), text)
+    text = re.sub(r"b?'(\\.|[^'\\])'", "0", text)
     tokens = re.findall(r"[\w.:]*\w|==|!=|<=|>=|&&|\|\||=>|->|\.\.=?|[^\w\s]", text)
     signs = {"==": "o", "!=": "o", "<=": "o", ">=": "o", "<": "o", ">": "o", "+": "o", "-": "o", "*": "o", "/": "o", "%": "o"}
     kept = {"let", "if", "else", "match", "for", "while", "loop", "return", "break", "continue", "in", "mut", "move"}
