@@ -404,12 +404,12 @@ class Finding:
 
 def reason_of(edit: Edit, clause: Clause, goal: Goal, proof: str) -> str:
     """Why a goal of the clause counts."""
-    by_hand = answered_by_hand(proof, clause)
     if goal.reason in ("values", "name"):
         return goal.reason
-    if not by_hand:
+    # (a body of the same form has the same goals, so a goal without an answer is one that the tactics prove of the right body)
+    if not answered_by_hand(proof, clause) or goal.reason == "open" and edit.keeps_form():
         return "search"
-    return "answer" if goal.reason == "answer" and edit.keeps_form() else "words"
+    return "answer" if edit.keeps_form() else "words"
 
 
 def found_in(edit: Edit, said: Said, proofs: dict[str, str], is_alone: bool) -> Finding:
