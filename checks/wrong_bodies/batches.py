@@ -129,6 +129,16 @@ def proofs_of(crate: str) -> dict[str, str]:
     return found
 
 
+def definitions_of(crates: list[str]) -> dict[str, str]:
+    """The definitions of these crates."""
+    found: dict[str, str] = {}
+    for crate in crates:
+        for file in sorted((ROOT / "crates" / crate / "specs").rglob("*.antt")):
+            for name, text in deciding.definitions_in(file.read_text()).items():
+                found[name] = found.get(name, "") + text
+    return found
+
+
 @dataclass
 class Options:
     """What a run was asked for."""
@@ -145,10 +155,17 @@ class Trials:
         self.kit, self.crate, self.edits, self.options = kit, crate, edits, options
         self.texts = sources_of(crate)
         self.proofs = proofs_of(crate)
+        self.definitions = definitions_of([*kit.below(crate), crate])
         self.found: dict[str, Finding] = {}
         self.checks = 0
         self.seconds = 0.0
         self.kept = ""
+
+    def asks(self, edit: Edit) -> bool:
+        """Whether the clause that an edit names asks for a value."""
+        clauses = [it for path in edit.functions for it in clauses_at(self.texts, path)]
+        wanted = [text for label, text in clauses if edit.clause and edit.clause.name == (label or "ensures")]
+        return any(deciding.asks_for_value(it, self.definitions) for it in wanted)
 
     def batches(self, edits: list[Edit]) -> list[list[Edit]]:
         """The edits that have no verdict, in batches, but for those that change something outside of functions."""
@@ -224,7 +241,7 @@ class Trials:
                 self.found[batch[0].label] = Finding("bad", "", deciding.first_error(said.text))
         elif said.is_sound(changed):
             for edit in batch:
-                found = deciding.found_in(edit, said, self.proofs, len(batch) == 1)
+                found = deciding.found_in(edit, said, self.proofs, len(batch) == 1, self.asks(edit))
                 if found.verdict:
                     self.found[edit.label] = found
 
@@ -237,7 +254,7 @@ class Trials:
         elif not changed:
             self.found[edit.label] = Finding("bad", "", "it changes no function: name the one that is to refuse it by a line 'fn: PATH'")
         elif said.is_sound(changed):
-            self.found[edit.label] = deciding.found_in(edit, said, self.proofs, True)
+            self.found[edit.label] = deciding.found_in(edit, said, self.proofs, True, self.asks(edit))
         else:
             self.found[edit.label] = Finding("bad", "", "a function is refused that the edit does not reach: " + deciding.first_error(said.text))
 
@@ -295,18 +312,18 @@ def all_edits() -> list[Edit]:
         raise Broken(f"a text to be replaced is not in its file exactly once: {', '.join(stale)}")
     for edit in edits:
         edit.find_functions(texts[edit.crate])
-        named = {label for path in edit.functions for label in labels_at(texts[edit.crate], path)}
+        named = {label for path in edit.functions for label, _ in clauses_at(texts[edit.crate], path)}
         if edit.clause and named and edit.clause.name not in named | ({"ensures"} if "" in named else set()):
             raise Broken(f"{edit.label}: its function ensures no clause {edit.clause.name}: there are {', '.join(sorted(it or 'ensures' for it in named))}")
     return edits
 
 
-def labels_at(texts: dict[str, str], path: str) -> list[str]:
-    """The labels of the clauses that the function of this path ensures."""
+def clauses_at(texts: dict[str, str], path: str) -> list[tuple[str, str]]:
+    """The clauses that the function of this path ensures."""
     for file, text in texts.items():
         for function in deciding.functions_of(text, deciding.module_of(file)):
             if function.path == path:
-                return deciding.labels_of(text.split("\n"), function)
+                return deciding.clauses_of(text.split("\n"), function)
     return []
 
 

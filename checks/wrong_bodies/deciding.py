@@ -18,8 +18,9 @@ Only a goal of that clause counts, and it counts by one of four reasons:
     values    the prover names values at which the goal is false
     search    the prover's tactics prove the clause of the right body, and not this goal
     answer    the hand-written answer of the goal fails, not about a name, and the edit keeps the form of the body
-    words     the answer fails otherwise, or none is there for this goal. That a wrong body has no proof is what the
-              words of its clause say. So a neutral twin of the function must not fail there too: see `Finding`
+    words     the answer fails otherwise, or none is there for this goal, or the clause asks for a value, which the
+              tactics seldom find. That the wrong body has no proof is then what the words of its clause say. So a
+              neutral twin of the function must not fail there too: see `with_twin`
 """
 from __future__ import annotations
 
@@ -34,6 +35,8 @@ OF_A_NAME = re.compile(
 )
 # How the prover says that values break a goal, all that is known there being true.
 HAS_VALUES = re.compile(r"allow values at which this goal is false|The hypotheses hold, and the goal fails at")
+# A statement that asks for a value: a product over a name.
+A_VALUE = re.compile(r"\(\w+(?: \w+)* : [^()]*(?:\([^()]*\)[^()]*)*\) ×")
 # An answer that is one tactic. The prover finds such a proof by itself.
 TACTIC = re.compile(r"^(λ[^.\n]*\. *)?(search|grind|omega|simp|cc)\b[^\n]*$")
 
@@ -173,6 +176,9 @@ def kind_of(goal: str) -> tuple[str, str]:
 def is_of(goal: str, clause: Clause) -> bool:
     """Whether a goal is of this clause. A goal that all clauses share is of each."""
     kind, label = kind_of(goal)
+    if goal.endswith("_spec"):
+        # (a proof that walks the whole body)
+        return True
     if clause.place:
         return kind == clause.place or kind.partition(" ")[0] == clause.place
     return kind == "returns" and label in ("", clause.name)
@@ -261,14 +267,46 @@ def read_edit(path: Path) -> Edit:
     return edit
 
 
-def labels_of(lines: list[str], function: Function) -> list[str]:
-    """The labels of the clauses that a function ensures, as its own lines have them. One without a label is ''."""
-    found = []
+def clauses_of(lines: list[str], function: Function) -> list[tuple[str, str]]:
+    """The clauses that a function ensures, each with its label ('' if it has none) and its text, as its own lines have them."""
+    found: list[tuple[str, str]] = []
+    is_open = False
     for line in lines[function.first : function.last + 1]:
-        clause = re.match(r" *(?:starred )?ensures *(\w*) *\{", line)
+        clause = re.match(r" *(?:starred )?(ensures|requires) *(\w*) *\{(.*)", line)
         if clause:
-            found.append(clause[1])
+            is_open = clause[1] == "ensures"
+            found += [(clause[2], clause[3])] if is_open else []
+        elif line.strip() == "{":
+            break
+        elif is_open:
+            found[-1] = (found[-1][0], found[-1][1] + " " + line.strip())
     return found
+
+
+def definitions_in(text: str) -> dict[str, str]:
+    """The definitions of a file of specs/, each by its name, with all that stands behind its colons and equal signs."""
+    found: dict[str, str] = {}
+    name = ""
+    for line in text.split("\n"):
+        begins = re.match(r"(?:[a-z]+ )*pub (?:(?:record|data) )?([A-Za-z_][\w'-]*)", line)
+        name = begins[1] if begins else name if line.startswith((" ", f"{name} ")) else ""
+        if name:
+            found[name] = found.get(name, "") + " " + line
+    return found
+
+
+def asks_for_value(clause: str, definitions: dict[str, str]) -> bool:
+    """Whether a clause, or a definition that it cites, asks for a value by a product over a name."""
+    seen: set[str] = set()
+    waits = [clause]
+    while waits:
+        text = waits.pop()
+        if A_VALUE.search(text):
+            return True
+        names = {it for it in re.findall(r"[A-Za-z_][\w'-]*", text) if it in definitions} - seen
+        seen |= names
+        waits += [definitions[it] for it in names]
+    return False
 
 
 def answers_in(text: str) -> dict[str, str]:
@@ -402,17 +440,17 @@ class Finding:
     goals: list[str] = field(default_factory=list)
 
 
-def reason_of(edit: Edit, clause: Clause, goal: Goal, proof: str) -> str:
-    """Why a goal of the clause counts."""
+def reason_of(edit: Edit, clause: Clause, goal: Goal, proof: str, asks: bool) -> str:
+    """Why a goal of the clause counts. `asks` says whether the clause asks for a value."""
     if goal.reason in ("values", "name"):
         return goal.reason
     # (a body of the same form has the same goals, so a goal without an answer is one that the tactics prove of the right body)
     if not answered_by_hand(proof, clause) or goal.reason == "open" and edit.keeps_form():
-        return "search"
+        return "words" if asks else "search"
     return "answer" if edit.keeps_form() else "words"
 
 
-def found_in(edit: Edit, said: Said, proofs: dict[str, str], is_alone: bool) -> Finding:
+def found_in(edit: Edit, said: Said, proofs: dict[str, str], is_alone: bool, asks: bool = False) -> Finding:
     """What a sound check says of an edit. In a batch, a goal that waits for another function decides nothing."""
     own = [name for name in said.verdicts if any(same(name, it) for it in edit.functions)]
     if not own:
@@ -422,7 +460,7 @@ def found_in(edit: Edit, said: Said, proofs: dict[str, str], is_alone: bool) -> 
         clauses = [(Clause(*place_of(it.name), ""), name, it) for name, it in goals]
     else:
         clauses = [(edit.clause, name, it) for name, it in goals if is_of(it.name, edit.clause)]
-    reasons = [(reason_of(edit, clause, it, proofs.get(name, "")), name, it) for clause, name, it in clauses]
+    reasons = [(reason_of(edit, clause, it, proofs.get(name, ""), asks), name, it) for clause, name, it in clauses]
     for wanted in ("values", "search", "answer", "words"):
         for reason, name, it in reasons:
             if reason == wanted:

@@ -99,6 +99,18 @@ class Reasons(unittest.TestCase):
         tried = edit("playing::play", "ensures: words", new="let c = b; a < c")
         self.assertEqual(found(tried, proofs={"playing::play": BY_TACTIC}).reason, "search")
 
+    def test_a_clause_that_asks_for_a_value(self) -> None:
+        specs = "abbrev pub IsGivenUp : Pending → Type 0\nIsGivenUp p = (result : Result Bool Fault) × Unwatches p result\n"
+        definitions = deciding.definitions_in(specs + "-- closes\nabbrev pub Closes : Type 0\nCloses p =\n    IsGivenUp p\n\npub two : ℕ\ntwo = 2\n")
+        self.assertTrue(deciding.asks_for_value("Closes self.old", definitions))
+        self.assertFalse(deciding.asks_for_value("(p : Pid) → result ≡ two", definitions))
+        self.assertEqual(deciding.found_in(edit("exploring::count", "counts: words"), said("goals_of_two_clauses"), {}, True, True).reason, "words")
+
+    def test_the_clauses_of_a_function(self) -> None:
+        text = "fn two(a: u8) -> u8\n    requires { a < 9 }\n    ensures sum { result ≡\n        a + 1 }\n    ensures { a ≡ a }\n{\n    a + 1\n}\n"
+        function = deciding.functions_of(text, "")[0]
+        self.assertEqual([it[0] for it in deciding.clauses_of(text.split("\n"), function)], ["sum", ""])
+
     def test_a_twin_that_fails_there_too_takes_the_refusal_back(self) -> None:
         tried = edit("playing::play", "ensures: words", new="let c = b; a < c")
         before = found(tried, proofs={"playing::play": BY_HAND})
