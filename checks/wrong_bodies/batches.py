@@ -7,6 +7,7 @@
     checks/wrong_bodies/batches.py CRATE/NAME..    these alone
     --keep               writes the verdicts into verdicts.txt
     --fill               gives each edit without a line `clause:` one, by the goals that refuse it
+    --mark-open          gives each edit that no goal of its clause refuses a line `open:` that says so
     --logs FOLDER        keeps what the prover said of each batch there
     --said FOLDER        takes from there what the prover said of the very same files, and keeps it there
     --libraries FOLDER   takes the proved libraries from another checkout (its folder crates/)
@@ -378,6 +379,7 @@ def arguments() -> argparse.Namespace:
     parser.add_argument("--all", action="store_true", help="those with a kept verdict too, and twins of all functions with a proof by hand")
     parser.add_argument("--keep", action="store_true", help="writes the verdicts into verdicts.txt")
     parser.add_argument("--fill", action="store_true", help="writes a line 'clause:' into each edit that has none")
+    parser.add_argument("--mark-open", action="store_true", help="writes a line 'open:' into each edit that no goal of its clause refuses")
     parser.add_argument("--logs", type=Path, help="a folder for what the prover says of each batch")
     parser.add_argument("--said", type=Path, help="a folder with what the prover said of the same files before")
     parser.add_argument("--libraries", type=Path, default=ROOT / "crates", help="the folder crates/ with the proved libraries")
@@ -410,6 +412,8 @@ def main() -> int:
         return 2
     if given.fill:
         fill_clauses(trials)
+    if given.mark_open:
+        mark_open(trials)
     return Report(edits, trials, verdicts, sums).end(given.keep)
 
 
@@ -431,6 +435,18 @@ def fill_clauses(trials: list[Trials]) -> None:
             words = edit.name.removeprefix(edit.functions[0].split("::")[-1]).strip("_").replace("_", " ") if edit.functions else edit.name
             file = file_of(edit)
             file.write_text(f"clause: {deciding.Clause(clause, place, '')}: {words}\n{file.read_text()}")
+
+
+def mark_open(trials: list[Trials]) -> None:
+    """Writes a line `open:` into each edit that no goal of its clause refuses."""
+    says = {"proved": "it is proved", "name": "only a name or the form of a proof refuses it", "other": "a goal of another clause refuses it"}
+    for it in trials:
+        for edit in it.edits:
+            found = it.found[edit.label]
+            if not edit.neutral and not edit.open and found.verdict in says:
+                goals = ", ".join(dict.fromkeys(it for it in found.goals if it))
+                file = file_of(edit)
+                file.write_text(f"open: {says[found.verdict]}{f': {goals}' if goals else ''}\n{file.read_text()}")
 
 
 @dataclass
