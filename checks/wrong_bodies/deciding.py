@@ -431,7 +431,8 @@ class Finding:
     """What a check says of an edit.
 
     The verdict is `refused`, `proved`, `name` (only a name, or only the form of a proof, refuses it), `other` (a goal
-    of another clause), `bad` (it cannot be tried), `open`, `neutral`, or empty if there is none yet.
+    of another clause), `bad` (it cannot be tried), `open`, `neutral`, or empty if there is none yet. `goals` are those
+    that were refused otherwise than by a name.
     """
 
     verdict: str = ""
@@ -460,21 +461,21 @@ def found_in(edit: Edit, said: Said, proofs: dict[str, str], is_alone: bool, ask
         clauses = [(Clause(*place_of(it.name), ""), name, it) for name, it in goals]
     else:
         clauses = [(edit.clause, name, it) for name, it in goals if is_of(it.name, edit.clause)]
+    counted = [it.name for _, it in goals if it.reason != "name"]
     reasons = [(reason_of(edit, clause, it, proofs.get(name, ""), asks), name, it) for clause, name, it in clauses]
     for wanted in ("values", "search", "answer", "words"):
         for reason, name, it in reasons:
             if reason == wanted:
                 counts = "neutral" if edit.neutral and reason == "words" else "refused"
-                return Finding(counts, reason, f"{name}: {it.text}", [it.name for _, it in goals])
+                return Finding(counts, reason, f"{name}: {it.text}", counted)
     if all(is_proved(said.verdicts[name]) for name in own):
         return Finding("neutral" if edit.neutral else "proved", "proved", f"{', '.join(own)}: the contract lets it through")
     if not is_alone and (not goals or any(within(it, set(own)) for it in said.waits)):
         return Finding()
     texts = [f"{name}: {it.text}" for name, it in goals] or [first_error(said.text)]
     if edit.neutral:
-        return Finding("neutral", "name", texts[0], [it.name for _, it in goals])
-    others = [it for _, it in goals if it.reason != "name" and it.name]
-    return Finding("other" if others and edit.clause else "name", "", texts[0], [it.name for _, it in goals])
+        return Finding("neutral", "name", texts[0], counted)
+    return Finding("other" if any(counted) and edit.clause else "name", "", texts[0], counted)
 
 
 def place_of(goal: str) -> tuple[str, str]:
