@@ -4,8 +4,8 @@ A kept verdict rests on this file too, so a change of it takes all of them back.
 
 The prover names each goal after the clause that it is of, as `returns-in-Some-clause-writes`. An edit names its clause
 by a line `clause: NAME: what is false of it`. NAME is the clause's label in the contract of the function, or `ensures` if
-the function has one clause that has no label. If the goal is not of that clause itself, but of what it is proved by,
-then the line is `clause: NAME (PLACE): ..`, and PLACE is one of these:
+the function has one clause that has no label. If the goal is not of that clause itself, but may be of what it is proved
+by, then the line is `clause: NAME (PLACE): ..`, and PLACE is one of these (its first word stands for all of them):
 
     loop NAME               an invariant of a loop
     invariant [FIELD]       a ghost field of a type
@@ -179,9 +179,9 @@ def is_of(goal: str, clause: Clause) -> bool:
     if goal.endswith("_spec"):
         # (a proof that walks the whole body)
         return True
-    if clause.place:
-        return kind == clause.place or kind.partition(" ")[0] == clause.place
-    return kind == "returns" and label in ("", clause.name)
+    if kind == "returns":
+        return label in ("", clause.name)
+    return clause.place != "" and clause.place in (kind, kind.partition(" ")[0])
 
 
 @dataclass

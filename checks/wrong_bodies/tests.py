@@ -86,6 +86,7 @@ class Clauses(unittest.TestCase):
         self.assertEqual({it: deciding.kind_of(it)[0] for it in at}, at)
         clause = deciding.clause_in("counts (loop run): it counts one more")
         self.assertTrue(clause and deciding.is_of("loop-run-preserved", clause) and not deciding.is_of("loop-of-preserved", clause))
+        self.assertTrue(clause and deciding.is_of("returns-then-clause-counts", clause) and not deciding.is_of("returns-clause-given", clause))
         self.assertIsNone(deciding.clause_in("counts it counts one more"))
 
 
