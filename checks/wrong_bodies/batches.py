@@ -510,7 +510,11 @@ class Report:
             if edit.open:
                 print(f"open: {edit.label}: {edit.open}")
         reasons = Counter(found.reason for edit, found in tried if found.verdict == "refused" and not faults[edit.label])
-        print("refused by " + ", ".join(f"{reason}: {count}" for reason, count in sorted(reasons.items())))
+        was_tried = {edit.label for edit, _ in tried}
+        rests = [self.verdicts[it.label] for it in self.edits if it.label not in was_tried and is_kept(it, self.verdicts, self.sums)]
+        before = Counter(it.reason for it in rests if it.verdict == "refused")
+        for says, counts in (("refused in this run", reasons), ("kept as refused", before)):
+            print(f"{says}: {sum(counts.values())}, by " + ", ".join(f"{reason} {count}" for reason, count in sorted(counts.items())))
         wrong = sum(it != "" for it in faults.values())
         refused = sum(found.verdict == "refused" for edit, found in tried if not faults[edit.label])
         neutral = sum(edit.neutral and not faults[edit.label] for edit, _ in tried)

@@ -24,6 +24,7 @@ Only a goal of that clause counts, and it counts by one of four reasons:
 """
 from __future__ import annotations
 
+import functools
 import re
 from dataclasses import dataclass, field
 from pathlib import Path
@@ -95,7 +96,8 @@ def owner_of(header: str) -> str:
     return name + flat_name(trait) if found else name
 
 
-def functions_of(text: str, module: str) -> list[Function]:
+@functools.cache
+def functions_of(text: str, module: str) -> tuple[Function, ...]:
     """The functions of a source file in the formatter's layout, those of `impl` blocks and of traits too."""
     lines = text.split("\n")
     found: list[Function] = []
@@ -117,7 +119,7 @@ def functions_of(text: str, module: str) -> list[Function]:
             of = owner if start[1] else module
             has_loop = any(re.match(r" *(for|while|loop)\b", it) for it in lines[at : last + 1])
             found.append(Function("::".join(it for it in (of, start[7]) if it), at, last, has_loop))
-    return found
+    return tuple(found)
 
 
 def end_of(lines: list[str], at: int, indent: str) -> int:
