@@ -313,10 +313,18 @@ def all_edits() -> list[Edit]:
         raise Broken(f"a text to be replaced is not in its file exactly once: {', '.join(stale)}")
     for edit in edits:
         edit.find_functions(texts[edit.crate])
-        named = {label for path in edit.functions for label, _ in clauses_at(texts[edit.crate], path)}
-        if edit.clause and named and edit.clause.name not in named | ({"ensures"} if "" in named else set()):
-            raise Broken(f"{edit.label}: its function ensures no clause {edit.clause.name}: there are {', '.join(sorted(it or 'ensures' for it in named))}")
+    unknown = [it for edit in edits for it in wrong_names(edit, texts[edit.crate])]
+    if unknown:
+        raise Broken("\n".join(["these name clauses that their functions do not have:", *unknown]))
     return edits
+
+
+def wrong_names(edit: Edit, texts: dict[str, str]) -> list[str]:
+    """What is wrong with the name of an edit's clause: its function has clauses of its own, and none is called so."""
+    known = {label or "ensures" for path in edit.functions for label, _ in clauses_at(texts, path)}
+    if edit.clause is None or not known or edit.clause.name in known:
+        return []
+    return [f"{edit.label}: {edit.clause.name}, where there are {', '.join(sorted(known))}"]
 
 
 def clauses_at(texts: dict[str, str], path: str) -> list[tuple[str, str]]:
