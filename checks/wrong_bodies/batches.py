@@ -453,8 +453,9 @@ def mark_open(trials: list[Trials]) -> None:
             found = it.found[edit.label]
             if not edit.neutral and not edit.open and found.verdict in says:
                 goals = ", ".join(dict.fromkeys(it for it in found.goals if it))
+                edit.open = says[found.verdict] + (f": {goals}" if goals else "")
                 file = file_of(edit)
-                file.write_text(f"open: {says[found.verdict]}{f': {goals}' if goals else ''}\n{file.read_text()}")
+                file.write_text(f"open: {edit.open}\n{file.read_text()}")
 
 
 @dataclass
