@@ -1,23 +1,35 @@
 #!/usr/bin/env python3
-"""Tries wrong bodies in batches: the prover has to refuse each one, by a goal of the function that it changes.
+"""Tries wrong bodies in batches: the prover has to refuse each one, by a goal of the clause that the edit names.
 
-    checks/wrong_bodies/batches.py                 the wrong bodies of the gate
-    checks/wrong_bodies/batches.py --all           these, and those that left_out.txt names
+    checks/wrong_bodies/batches.py                 those that name a clause and have no kept verdict, and a tenth of the others
+    checks/wrong_bodies/batches.py --all           all, and a neutral twin of each function with a proof by hand
     checks/wrong_bodies/batches.py CRATE..         all those of these crates
     checks/wrong_bodies/batches.py CRATE/NAME..    these alone
+    --keep               writes the verdicts into verdicts.txt
+    --fill               gives each edit without a line `clause:` one, by the goals that refuse it
+    --mark-open          gives each edit that no goal of its clause refuses a line `open:` that says so
     --logs FOLDER        keeps what the prover said of each batch there
+    --said FOLDER        takes from there what the prover said of the very same files, and keeps it there
     --libraries FOLDER   takes the proved libraries from another checkout (its folder crates/)
     --jobs N             so many checks side by side (else one a processor, as memory allows)
 
 The libraries are those that `rt ci` has proved and left in crates/*/out/rlib, so this runs behind it.
 
 A wrong body is a file CRATE/NAME.edit in this folder, with lines `file:`, `old:` and `new:` as edits under must-fail
-have them. Edits of different functions go into one copy of their crate, and one check proves the changed functions and
-what they call. An edit counts as refused only if the prover refuses a goal of its own function: one that it cannot
-answer, or an answer in that function's own proof files which is wrong for another reason than a name. In the same check
-each function that is neither changed nor calls a changed one has to be proved, and at least one such function is asked
-for, so a broken set-up refuses nothing. An edit for which a batch gives no such verdict goes into a later batch, at
-last alone. It fails if it is proved, if only a name refuses it, or if it cannot be applied or compiled.
+have them, and a line `clause: NAME: what is false of it`. deciding.py says what NAME may be, and when an edit counts as
+refused. A file CRATE/NAME.neutral is a twin: an edit that changes nothing, and may not come out as refused. Each run
+applies all edits, those too that it does not try.
+
+Edits of different functions go into one copy of their crate, and one check proves the changed functions and what they
+call. In the same check each function that is neither changed nor calls a changed one has to be proved, and at least one
+such function is asked for, so a broken set-up refuses nothing. An edit for which a batch gives no verdict goes into a
+later batch, at last alone. If a refusal rests on the words of its clause (deciding.py), then a twin of its function is
+tried too, and the refusal does not count if the twin fails at a goal of the same clause.
+
+A verdict is kept in verdicts.txt beside the checksum of all that it was made from. A run tries the edits without one,
+and a tenth of the others, drawn by the commit. A kept verdict that a trial contradicts fails the run. An edit with a
+line `open: REASON` is one that no clause refuses yet. It is counted and printed, and fails if a clause refuses it. An
+edit that names no clause is counted, and tried by `--all` or by its name alone.
 
 An edit of something outside of all functions, as a constant, may reach any function, so it is tried alone. A line
 `fn: PATH` names the function whose goal is to refuse it.
@@ -25,179 +37,28 @@ An edit of something outside of all functions, as a constant, may reach any func
 from __future__ import annotations
 
 import argparse
+import hashlib
 import os
 import re
 import shutil
 import subprocess
 import sys
 import tempfile
+from collections import Counter
 from concurrent.futures import ThreadPoolExecutor
-from dataclasses import dataclass, field
+from dataclasses import dataclass
 from pathlib import Path
+
+sys.dont_write_bytecode = True
+import deciding
+import kept
+from deciding import Broken, Edit, Finding, Said
 
 HERE = Path(__file__).resolve().parent
 ROOT = HERE.parent.parent
-
-# How a proof file fails if a name is gone, which says nothing of the contract.
-OF_A_NAME = re.compile(r"has no field|is not in scope|has no `|was not admitted|no such|cannot be named|was rejected, w(as|ere) not checked")
+VERDICTS = HERE / "verdicts.txt"
 # The least that a check takes of memory, in kilobytes, if several are to run side by side.
 MEMORY = 3_600_000
-
-
-class Broken(Exception):
-    """Something without which no verdict can be had."""
-
-
-@dataclass(frozen=True)
-class Function:
-    """A function of a source file, by the end of the prover's name, with its place there (lines from 0)."""
-
-    path: str
-    first: int
-    last: int
-    has_loop: bool
-
-
-def parts_of(text: str) -> list[str]:
-    """The types of a list that is separated by commas, those within brackets apart."""
-    parts, depth = [""], 0
-    for letter in text:
-        depth += (letter in "<([") - (letter in ">)]")
-        if letter == "," and depth == 0:
-            parts.append("")
-        else:
-            parts[-1] += letter
-    return [it.strip() for it in parts if it.strip()]
-
-
-def flat_name(text: str) -> str:
-    """What the prover calls a type among the arguments of a trait: its names, one behind the other."""
-    text = re.sub(r"&('\w+ )?(mut )?|dyn ", "", text).strip()
-    if text.startswith("("):
-        inner = parts_of(text[1:-1])
-        return f"Tuple{len(inner)}" + "".join(map(flat_name, inner))
-    name, found, rest = text.partition("<")
-    return name.split("::")[-1].strip() + ("".join(map(flat_name, parts_of(rest.rstrip()[:-1]))) if found else "")
-
-
-def owner_of(header: str) -> str:
-    """What the prover calls the block of this `impl` or `trait` line: its type, or type, trait and the trait's arguments."""
-    header = re.sub(r"\s+", " ", header).split(" where ")[0].rstrip("{ ")
-    if re.match(r"(pub(\(\w+\))? )?trait ", header):
-        return re.split(r"[:<]", header.partition("trait ")[2])[0].strip()
-    header = re.sub(r"^(unsafe )?impl\s*", "", header)
-    if header.startswith("<"):
-        depth = 0
-        for at, letter in enumerate(header):
-            depth += (letter == "<") - (letter == ">" and header[at - 1] != "-")
-            if depth == 0:
-                header = header[at + 1 :].strip()
-                break
-    trait, found, of = header.rpartition(" for ")
-    name = flat_name(of.partition("<")[0])
-    return name + flat_name(trait) if found else name
-
-
-def functions_of(text: str, module: str) -> list[Function]:
-    """The functions of a source file in the formatter's layout, those of `impl` blocks and of traits too."""
-    lines = text.split("\n")
-    found: list[Function] = []
-    owner = ""
-    for at, line in enumerate(lines):
-        if re.match(r"(unsafe )?impl\b|(pub(\(\w+\))? )?trait ", line):
-            header = line
-            below = at + 1
-            while "{" not in header and below < len(lines):
-                header += " " + lines[below].strip()
-                below += 1
-            owner = owner_of(header.split("{")[0])
-        elif line.startswith("}"):
-            owner = ""
-        start = re.match(r'( *)(pub(\([a-z]+\))? )?(const )?(unsafe )?(extern "C" )?fn (\w+)', line)
-        if start and len(start[1]) in (0, 4):
-            last = end_of(lines, at, start[1])
-            # (the prover names a method by the module of its type, which may be another one)
-            of = owner if start[1] else module
-            has_loop = any(re.match(r" *(for|while|loop)\b", it) for it in lines[at : last + 1])
-            found.append(Function("::".join(it for it in (of, start[7]) if it), at, last, has_loop))
-    return found
-
-
-def end_of(lines: list[str], at: int, indent: str) -> int:
-    """The last line of the function that begins in this line."""
-    if lines[at].rstrip().endswith(("}", ";")) and lines[at].count("{") == lines[at].count("}"):
-        return at
-    for below in range(at + 1, len(lines)):
-        if re.match(indent + r"\}\s*$", lines[below]) or lines[below].startswith(indent + ");"):
-            return below
-        if lines[below].rstrip() == indent + "{}" or re.match(indent + r"    .*;$", lines[below]) and "{" not in "".join(lines[at : below + 1]):
-            return below
-    return len(lines) - 1
-
-
-def module_of(file: str) -> str:
-    """The module of a source file, as a path below the crate."""
-    parts = [it for it in re.sub(r"\.rt$", "", file).split("/")[1:] if it not in ("lib", "main", "mod")]
-    return "::".join(parts)
-
-
-@dataclass
-class Edit:
-    """A wrong body."""
-
-    crate: str
-    name: str
-    pairs: list[tuple[str, str, str]]
-    named: list[str]
-    functions: list[str] = field(default_factory=list)
-    outside: bool = False
-    verdict: str = ""
-    reason: str = ""
-
-    @property
-    def label(self) -> str:
-        return f"{self.crate}/{self.name}"
-
-    def apply(self, texts: dict[str, str]) -> dict[str, str] | None:
-        """The files with this edit, or None if a text to be replaced stands there not exactly once."""
-        changed = dict(texts)
-        for file, old, new in self.pairs:
-            if changed.get(file, "").count(old) != 1:
-                return None
-            changed[file] = changed[file].replace(old, new)
-        return changed
-
-    def find_functions(self, texts: dict[str, str]) -> None:
-        """Finds the functions that the edit changes, and whether it changes something outside of all."""
-        changed = dict(texts)
-        found = []
-        for file, old, new in self.pairs:
-            line = changed[file][: changed[file].index(old)].count("\n")
-            within = [it.path for it in functions_of(changed[file], module_of(file)) if it.first <= line <= it.last]
-            self.outside = self.outside or not within
-            found += within[-1:]
-            changed[file] = changed[file].replace(old, new)
-        self.functions = self.named or list(dict.fromkeys(found))
-
-
-def read_edit(path: Path) -> Edit:
-    """Reads a file of an edit."""
-    file, old, pairs, named = "", None, [], []
-    for line in path.read_text().split("\n"):
-        if line.startswith("file: "):
-            file = line[6:].strip()
-        elif line.startswith("fn: "):
-            named.append(line[4:].strip())
-        elif line.startswith("old: "):
-            old = line[5:]
-        elif line.startswith("new:"):
-            if not file or old is None:
-                raise Broken(f"{path}: a line 'new:' stands before 'file:' or 'old:'")
-            pairs.append((file, old, line[4:].removeprefix(" ")))
-            old = None
-    if not pairs:
-        raise Broken(f"{path}: it has no lines 'old:' and 'new:'")
-    return Edit(path.parent.name, path.stem, pairs, named)
 
 
 @dataclass
@@ -205,6 +66,7 @@ class Kit:
     """Where compiler, libraries and the crates' lists are."""
 
     folder: Path
+    version: str
     libraries: Path
     crates: dict[str, list[str]]
 
@@ -224,9 +86,12 @@ class Kit:
         return [*words, "--logic-built", f"{self.folder}/logic_built", "--links", f"{crate}=", "--jobs", "1"]
 
     def library(self, name: str) -> Path:
+        """The proved library of a crate, which was made of the sources that this checkout has."""
         path = self.libraries / name / "out" / "rlib" / f"{name}.rlib"
         if not path.is_dir():
             raise Broken(f"no proved library of {name}: `rt ci` proves it, and this runs behind it")
+        if self.libraries != ROOT / "crates" and kept.sources(self.libraries / name) != kept.sources(ROOT / "crates" / name):
+            raise Broken(f"the library of {name} was made of other sources than this checkout has")
         return path
 
     def below(self, crate: str) -> list[str]:
@@ -242,15 +107,10 @@ def kit_of(libraries: Path) -> Kit:
     """The toolchain, the proved libraries and the lists of crates.txt."""
     rt = os.environ.get("RT", "rt")
     try:
-        page = subprocess.run([rt, "doc"], capture_output=True, text=True, check=True).stdout.strip()
+        page, version = (subprocess.run([rt, it], capture_output=True, text=True, check=True).stdout.strip() for it in ("doc", "version"))
     except (OSError, subprocess.CalledProcessError) as error:
-        raise Broken(f"'{rt} doc' does not tell where the toolchain is: {error}") from error
-    crates = {}
-    for line in (ROOT / "crates.txt").read_text().split("\n"):
-        names, colon, below = line.split("#")[0].partition(":")
-        if colon:
-            crates[names.split()[0]] = below.split()
-    return Kit(Path(page).parent, libraries, crates)
+        raise Broken(f"'{rt}' does not tell where the toolchain is: {error}") from error
+    return Kit(Path(page).parent, version, libraries, kept.listed((ROOT / "crates.txt").read_text()))
 
 
 def sources_of(crate: str) -> dict[str, str]:
@@ -259,72 +119,58 @@ def sources_of(crate: str) -> dict[str, str]:
     return {str(it.relative_to(folder)): it.read_text() for it in sorted((folder / "src").rglob("*.rt"))}
 
 
+def proofs_of(crate: str) -> dict[str, str]:
+    """What is written of the proof of each function of a crate, by the function's path."""
+    folder = ROOT / "crates" / crate / "proofs"
+    found: dict[str, str] = {}
+    for name in ("Answers.antt", "Proof.antt"):
+        for file in sorted(folder.rglob(name)):
+            path = str(file.parent.relative_to(folder)).replace("/", "::")
+            found[path] = found.get(path, "") + file.read_text()
+    return found
+
+
+def definitions_of(crates: list[str]) -> dict[str, str]:
+    """The definitions of these crates."""
+    found: dict[str, str] = {}
+    for crate in crates:
+        for file in sorted((ROOT / "crates" / crate / "specs").rglob("*.antt")):
+            for name, text in deciding.definitions_in(file.read_text()).items():
+                found[name] = found.get(name, "") + text
+    return found
+
+
 @dataclass
-class Said:
-    """What the prover said in one check, function by function."""
+class Options:
+    """What a run was asked for."""
 
-    verdicts: dict[str, str]
-    goals: dict[str, list[str]]
-    names: dict[str, list[str]]
-    ended: bool
-    text: str
-    seconds: float
-
-    def own(self, found: dict[str, list[str]], function: str) -> list[str]:
-        """What was found of a function and of the closures in it."""
-        return [it for name, texts in found.items() if name == function or name.startswith(function + "::") for it in texts]
-
-    def is_above(self, function: str, changed: set[str]) -> bool:
-        """Whether a function is refused only since it calls, by others or at once, a changed one."""
-        seen: set[str] = set()
-        waits = [function]
-        while waits:
-            name = waits.pop()
-            for it in re.findall(r"`([^`]+)`", self.verdicts.get(name, "")):
-                if within(it, changed) or any(each.startswith(it + "::") for each in changed):
-                    return True
-                if it not in seen:
-                    seen.add(it)
-                    waits.append(it)
-        return False
-
-
-def understood(text: str, crate: str, seconds: float) -> Said:
-    """Reads the prover's report."""
-    verdicts, goals, names = {}, {}, {}
-    for line in text.split("\n"):
-        verdict = re.match(r"fn (\S+): (.*)", line)
-        if verdict:
-            name = verdict[1].removeprefix(f"{crate}::")
-            verdicts[name] = verdict[2].replace(f"`{crate}::", "`")
-            unanswered = re.search(r"`search` did not prove (.*)", verdict[2])
-            if unanswered:
-                goals.setdefault(name, []).append(unanswered[0])
-        wrong = re.match(r"(?:note: )?(?:\./)?proofs/(\S+)/(?:Answers|Invariants|Proof)\.antt:\d+:\d+: error: (.*)", line)
-        if wrong:
-            name = wrong[1].replace("/", "::")
-            (names if OF_A_NAME.search(wrong[2]) else goals).setdefault(name, []).append(wrong[2])
-    return Said(verdicts, goals, names, bool(re.search(r"^(only=|logic=)", text, re.M)), text, seconds)
+    logs: Path | None
+    said: Path | None
+    checksums: kept.Checksums
 
 
 class Trials:
-    """The edits of one crate, and what the prover says of them."""
+    """The edits of one crate that are tried, and what the prover says of them."""
 
-    def __init__(self, kit: Kit, crate: str, edits: list[Edit], logs: Path | None):
-        self.kit, self.crate, self.edits, self.logs = kit, crate, edits, logs
+    def __init__(self, kit: Kit, crate: str, edits: list[Edit], options: Options):
+        self.kit, self.crate, self.edits, self.options = kit, crate, edits, options
         self.texts = sources_of(crate)
+        self.proofs = proofs_of(crate)
+        self.definitions = definitions_of([*kit.below(crate), crate])
+        self.found: dict[str, Finding] = {}
         self.checks = 0
         self.seconds = 0.0
         self.kept = ""
-        for edit in edits:
-            if edit.apply(self.texts) is None:
-                edit.verdict, edit.reason = "bad", "a text to be replaced is not in its file exactly once"
-            else:
-                edit.find_functions(self.texts)
 
-    def batches(self) -> list[list[Edit]]:
+    def asks(self, edit: Edit) -> bool:
+        """Whether the clause that an edit names asks for a value."""
+        clauses = [it for path in edit.functions for it in clauses_at(self.texts, path)]
+        wanted = [text for label, text in clauses if edit.clause and edit.clause.name == (label or "ensures")]
+        return any(deciding.asks_for_value(it, self.definitions) for it in wanted)
+
+    def batches(self, edits: list[Edit]) -> list[list[Edit]]:
         """The edits that have no verdict, in batches, but for those that change something outside of functions."""
-        left = [it for it in self.edits if not it.verdict and not it.outside]
+        left = [it for it in edits if it.label not in self.found and not it.outside]
         found = []
         while left:
             batch = self.fill(left)[0]
@@ -347,24 +193,41 @@ class Trials:
 
     def asked_for(self, changed: set[str]) -> list[str]:
         """The functions to ask for: the changed ones and a short one of the others; an empty list for all."""
-        files = [it for file, text in self.texts.items() for it in functions_of(text, module_of(file))]
+        files = [it for file, text in self.texts.items() for it in deciding.functions_of(text, deciding.module_of(file))]
         names = [it.path for it in files]
         free = [it for it in files if it.path not in changed and names.count(it.path) == 1 and it.last - it.first > 1]
         free.sort(key=lambda it: (re.search(r"[A-Z]", it.path) is not None, it.has_loop, it.last - it.first))
         return [*sorted(changed), free[0].path] if changed and free else []
 
     def try_all(self) -> None:
-        """Tries all edits: in batches as long as these decide something, and then one by one."""
-        with tempfile.TemporaryDirectory(prefix="wrong-bodies-kept-") as kept:
+        """Tries all edits, and then twins of the functions whose refusals rest on words."""
+        with tempfile.TemporaryDirectory(prefix="wrong-bodies-kept-") as folder:
             # (what one check proved of the functions that no edit changes serves the next ones; to keep it costs a little)
-            self.kept = kept if len(self.batches()) > 1 else ""
-            left = -1
-            while left != (left := sum(map(len, self.batches()))):
-                for batch in self.batches():
-                    self.try_batch(batch)
-            for edit in self.edits:
-                if not edit.verdict:
-                    self.try_alone(edit)
+            self.kept = folder if len(self.batches(self.edits)) > 1 else ""
+            self.try_these(self.edits)
+            self.try_twins()
+
+    def try_these(self, edits: list[Edit]) -> None:
+        """Tries edits: in batches as long as these decide something, and then one by one."""
+        left = -1
+        while left != (left := sum(map(len, self.batches(edits)))):
+            for batch in self.batches(edits):
+                self.try_batch(batch)
+        for edit in edits:
+            if edit.label not in self.found:
+                self.try_alone(edit)
+
+    def try_twins(self) -> None:
+        """Tries a twin of each function of which an edit is refused by words alone, and takes back what it refutes."""
+        doubted = [it for it in self.edits if not it.neutral and self.found[it.label].reason == "words"]
+        made = {path: deciding.twin_of(self.crate, self.texts, path) for it in doubted for path in it.functions}
+        twins = {path: it for path, it in made.items() if it}
+        self.try_these(list(twins.values()))
+        for edit in doubted:
+            for path in edit.functions:
+                if path in twins:
+                    twin = self.found[twins[path].label]
+                    self.found[edit.label] = deciding.with_twin(edit, self.found[edit.label], twin)
 
     def try_batch(self, batch: list[Edit]) -> None:
         """Tries a batch; what it does not decide keeps no verdict."""
@@ -376,57 +239,48 @@ class Trials:
                 self.try_batch(batch[: len(batch) // 2])
                 self.try_batch(batch[len(batch) // 2 :])
             else:
-                batch[0].verdict, batch[0].reason = "bad", first_error(said.text)
-            return
-        if not self.is_sound(said, changed):
-            return
-        for edit in batch:
-            self.judge(edit, said)
-
-    def is_sound(self, said: Said, changed: set[str]) -> bool:
-        """Whether each function that is neither changed nor calls a changed one is proved, and there is one."""
-        full = {name for name in said.verdicts if any(same(name, it) for it in changed)}
-        others = {name: it for name, it in said.verdicts.items() if not within(name, full)}
-        apart = [name for name in others if not said.is_above(name, full)]
-        return bool(apart) and all(is_proved(others[name]) for name in apart)
-
-    def judge(self, edit: Edit, said: Said) -> None:
-        """Takes the verdict of a sound check."""
-        own = [name for name in said.verdicts if any(same(name, it) for it in edit.functions)]
-        if not own:
-            raise Broken(f"{edit.label}: the prover says nothing of {', '.join(edit.functions)}: name it by a line 'fn: PATH'")
-        for name in own:
-            if said.own(said.goals, name):
-                edit.verdict, edit.reason = "refused", f"{name}: {said.own(said.goals, name)[0]}"
-                return
-        if all(is_proved(said.verdicts[name]) for name in own):
-            edit.verdict, edit.reason = "proved", f"{', '.join(own)}: the contract lets it through"
+                self.found[batch[0].label] = Finding("bad", "", deciding.first_error(said.text))
+        elif said.is_sound(changed):
+            for edit in batch:
+                found = deciding.found_in(edit, said, self.proofs, len(batch) == 1, self.asks(edit))
+                if found.verdict:
+                    self.found[edit.label] = found
 
     def try_alone(self, edit: Edit) -> None:
         """Tries one edit; if it changes no function, with a check of the whole crate."""
         changed = set(edit.functions)
-        texts = edit.apply(self.texts) or self.texts
-        said = self.check(texts, self.asked_for(changed))
+        said = self.check(edit.apply(self.texts) or self.texts, self.asked_for(changed))
         if not said.ended:
-            edit.verdict, edit.reason = "bad", first_error(said.text)
+            self.found[edit.label] = Finding("bad", "", deciding.first_error(said.text))
         elif not changed:
-            goals = [f"{name}: {it[0]}" for name, it in said.goals.items()]
-            if goals:
-                edit.verdict, edit.reason = "refused", goals[0]
-            elif "logic=proved" in said.text:
-                edit.verdict, edit.reason = "proved", "the crate is proved with it"
-            else:
-                edit.verdict, edit.reason = "unclear", first_error(said.text)
-        elif self.is_sound(said, changed):
-            self.judge(edit, said)
-            if not edit.verdict:
-                told = [it for name in changed for it in said.own(said.names, name)]
-                edit.verdict, edit.reason = "name", told[0] if told else first_error(said.text)
+            self.found[edit.label] = Finding("bad", "", "it changes no function: name the one that is to refuse it by a line 'fn: PATH'")
+        elif said.is_sound(changed):
+            self.found[edit.label] = deciding.found_in(edit, said, self.proofs, True, self.asks(edit))
         else:
-            edit.verdict, edit.reason = "unclear", "a function is refused that the edit does not reach: " + first_error(said.text)
+            self.found[edit.label] = Finding("bad", "", "a function is refused that the edit does not reach: " + deciding.first_error(said.text))
 
     def check(self, texts: dict[str, str], only: list[str]) -> Said:
         """Checks a copy of the crate with these source files, or of it the functions `only` and what they call."""
+        known = hashlib.sha256(repr((self.options.checksums.of_crate(self.crate), sorted(texts.items()), sorted(only))).encode()).hexdigest()
+        kept_file = self.options.said / f"{self.crate}.{known[:20]}" if self.options.said else None
+        if kept_file and kept_file.exists():
+            text, seconds = kept_file.read_text(), 0.0
+        else:
+            text, seconds = self.run(texts, only)
+            if kept_file:
+                kept_file.write_text(text)
+        self.checks += 1
+        self.seconds += seconds
+        print(f"{self.crate}: check {self.checks}: {seconds:.0f} processor seconds", flush=True)
+        if self.options.logs:
+            (self.options.logs / f"{self.crate}.{self.checks}.log").write_text(text)
+        unknown = re.search(r"^rattle: error: `.*` (has no function|fits).*", text, re.M)
+        if unknown:
+            raise Broken(f"{self.crate}: {unknown[0][:200]}")
+        return deciding.understood(text, self.crate, seconds)
+
+    def run(self, texts: dict[str, str], only: list[str]) -> tuple[str, float]:
+        """Runs the prover, and returns what it said and the processor seconds."""
         with tempfile.TemporaryDirectory(prefix="wrong-bodies-") as room:
             folder = ROOT / "crates" / self.crate
             for part in ("src", "specs", "proofs"):
@@ -442,55 +296,81 @@ class Trials:
             ran = subprocess.Popen(words, cwd=room, stdin=subprocess.DEVNULL, stdout=subprocess.PIPE, stderr=subprocess.STDOUT, text=True, errors="replace")
             text = ran.stdout.read() if ran.stdout else ""
             _, _, used = os.wait4(ran.pid, 0)
-        seconds = used.ru_utime + used.ru_stime
-        self.checks += 1
-        self.seconds += seconds
-        print(f"{self.crate}: check {self.checks}: {seconds:.0f} processor seconds", flush=True)
-        if self.logs:
-            (self.logs / f"{self.crate}.{self.checks}.log").write_text(text)
-        unknown = re.search(r"^rattle: error: `.*` (has no function|fits).*", text, re.M)
-        if unknown:
-            raise Broken(f"{self.crate}: {unknown[0][:200]}")
-        return understood(text, self.crate, seconds)
+        return text, used.ru_utime + used.ru_stime
 
 
-def is_proved(verdict: str) -> bool:
-    """Whether a function is proved. The prover says behind it if the function may wait, abort or serve."""
-    return re.fullmatch(r"proved(, may (wait|abort|serve))*", verdict) is not None
+def file_of(edit: Edit) -> Path:
+    """The file of an edit."""
+    return HERE / edit.crate / f"{edit.name}.{'neutral' if edit.neutral else 'edit'}"
 
 
-def same(name: str, path: str) -> bool:
-    """Whether the name that the prover prints is that of this path."""
-    return name == path or name.endswith("::" + path)
+def all_edits() -> list[Edit]:
+    """All edits and neutral twins, each applied to the files of its crate as a trial."""
+    edits = [deciding.read_edit(it) for it in sorted([*HERE.glob("*/*.edit"), *HERE.glob("*/*.neutral")])]
+    texts = {it: sources_of(it) for it in {edit.crate for edit in edits}}
+    stale = [it.label for it in edits if it.apply(texts[it.crate]) is None]
+    if stale:
+        raise Broken(f"a text to be replaced is not in its file exactly once: {', '.join(stale)}")
+    for edit in edits:
+        edit.find_functions(texts[edit.crate])
+    unknown = [it for edit in edits for it in wrong_names(edit, texts[edit.crate])]
+    if unknown:
+        raise Broken("\n".join(["these name clauses that their functions do not have:", *unknown]))
+    return edits
 
 
-def within(name: str, functions: set[str]) -> bool:
-    """Whether a function is one of these, or a closure in one."""
-    return any(name == it or name.startswith(it + "::") for it in functions)
+def wrong_names(edit: Edit, texts: dict[str, str]) -> list[str]:
+    """What is wrong with the name of an edit's clause: its function has clauses of its own, and none is called so."""
+    known = {label or "ensures" for path in edit.functions for label, _ in clauses_at(texts, path)}
+    if edit.clause is None or not known or edit.clause.name in known:
+        return []
+    return [f"{edit.label}: {edit.clause.name}, where there are {', '.join(sorted(known))}"]
 
 
-def first_error(text: str) -> str:
-    """The first line of an output that names an error, or else its last line."""
-    lines = [it for it in text.split("\n") if "error" in it] or text.strip().split("\n")[-1:]
-    return lines[0][:200]
+def clauses_at(texts: dict[str, str], path: str) -> list[tuple[str, str]]:
+    """The clauses that the function of this path ensures."""
+    for file, text in texts.items():
+        for function in deciding.functions_of(text, deciding.module_of(file)):
+            if function.path == path:
+                return deciding.clauses_of(text.split("\n"), function)
+    return []
 
 
-def chosen(words: list[str], everything: bool) -> dict[str, list[Edit]]:
-    """The edits that are to be tried, by their crates."""
-    left_out = {it.split()[0] for it in (HERE / "left_out.txt").read_text().split("\n") if it.strip() and not it.startswith("#")}
-    edits = [read_edit(it) for it in sorted(HERE.glob("*/*.edit"))]
+def chosen(edits: list[Edit], words: list[str], everything: bool, verdicts: dict[str, kept.Verdict], sums: kept.Checksums) -> list[Edit]:
+    """The edits that are to be tried."""
     known = {it.label for it in edits} | {it.crate for it in edits}
-    for word in [*words, *left_out]:
+    for word in words:
         if word not in known:
             raise Broken(f"no wrong body or crate is called {word}")
     if words:
-        edits = [it for it in edits if {it.label, it.crate} & {*words}]
-    elif not everything:
-        edits = [it for it in edits if not {it.label, it.crate} & left_out]
-    crates: dict[str, list[Edit]] = {}
-    for edit in edits:
-        crates.setdefault(edit.crate, []).append(edit)
-    return crates
+        return [it for it in edits if {it.label, it.crate} & {*words}]
+    commit = subprocess.run(["git", "rev-parse", "HEAD"], cwd=ROOT, capture_output=True, text=True, check=False).stdout.strip()
+    named = [it for it in edits if everything or it.neutral or it.clause or it.open]
+    return [it for it in named if everything or not is_kept(it, verdicts, sums) or kept.is_drawn(it.label, commit)]
+
+
+def is_kept(edit: Edit, verdicts: dict[str, kept.Verdict], sums: kept.Checksums) -> bool:
+    """Whether a verdict is kept that was made from what is there now."""
+    found = verdicts.get(edit.label)
+    return found is not None and found.checksum == sums.of_edit(edit.crate, file_of(edit).read_bytes())
+
+
+def twins_of(crate: str, edits: list[Edit]) -> list[Edit]:
+    """A twin of each function of a crate that has a proof by hand and has none beside the edits."""
+    texts = sources_of(crate)
+    made = (deciding.twin_of(crate, texts, path) for path in by_hand(crate, texts))
+    have = {path for it in edits if it.neutral for path in it.functions}
+    twins = [it for it in made if it and not have & set(it.named)]
+    for twin in twins:
+        twin.find_functions(texts)
+    return twins
+
+
+def by_hand(crate: str, texts: dict[str, str]) -> list[str]:
+    """The functions of a crate that have a proof by hand."""
+    paths = [it.path for file, text in texts.items() for it in deciding.functions_of(text, deciding.module_of(file))]
+    proved = proofs_of(crate)
+    return [it for it in paths if paths.count(it) == 1 and any(deciding.same(name, it) for name in proved)]
 
 
 def side_by_side() -> int:
@@ -500,26 +380,49 @@ def side_by_side() -> int:
     return max(1, min(len(os.sched_getaffinity(0)), by_memory))
 
 
-def main() -> int:
+def arguments() -> argparse.Namespace:
+    """The words of the command line."""
     parser = argparse.ArgumentParser(description="Tries wrong bodies in batches.", allow_abbrev=False)
     parser.add_argument("names", nargs="*", metavar="CRATE[/NAME]")
-    parser.add_argument("--all", action="store_true", help="those that left_out.txt names too")
+    parser.add_argument("--all", action="store_true", help="those with a kept verdict too, and twins of all functions with a proof by hand")
+    parser.add_argument("--keep", action="store_true", help="writes the verdicts into verdicts.txt")
+    parser.add_argument("--fill", action="store_true", help="writes a line 'clause:' into each edit that has none")
+    parser.add_argument("--mark-open", action="store_true", help="writes a line 'open:' into each edit that no goal of its clause refuses")
     parser.add_argument("--logs", type=Path, help="a folder for what the prover says of each batch")
+    parser.add_argument("--said", type=Path, help="a folder with what the prover said of the same files before")
     parser.add_argument("--libraries", type=Path, default=ROOT / "crates", help="the folder crates/ with the proved libraries")
     parser.add_argument("--jobs", type=int, default=side_by_side(), help="checks side by side")
-    given = parser.parse_args()
+    return parser.parse_args()
+
+
+def main() -> int:
+    given = arguments()
+    for folder in (given.logs, given.said):
+        if folder:
+            folder.mkdir(parents=True, exist_ok=True)
     try:
         kit = kit_of(given.libraries.resolve())
-        crates = chosen(given.names, given.all)
-        if given.logs:
-            given.logs.mkdir(parents=True, exist_ok=True)
-        trials = [Trials(kit, crate, edits, given.logs) for crate, edits in crates.items()]
+        sums = kept.Checksums(ROOT, kit.crates, kit.version, HERE / "deciding.py")
+        verdicts = kept.read(VERDICTS)
+        edits = all_edits()
+        tried = chosen(edits, given.names, given.all, verdicts, sums)
+        crates: dict[str, list[Edit]] = {}
+        for edit in tried:
+            crates.setdefault(edit.crate, []).append(edit)
+        if given.all:
+            for crate, own in crates.items():
+                own += twins_of(crate, own)
+        trials = [Trials(kit, crate, own, Options(given.logs, given.said, sums)) for crate, own in crates.items()]
         with ThreadPoolExecutor(max(1, given.jobs)) as pool:
             try_all(pool, trials)
     except Broken as error:
         print(f"wrong bodies: {error}", file=sys.stderr)
         return 2
-    return report(trials)
+    if given.fill:
+        fill_clauses(trials)
+    if given.mark_open:
+        mark_open(trials)
+    return Report(edits, trials, verdicts, sums).end(given.keep)
 
 
 def try_all(pool: ThreadPoolExecutor, trials: list[Trials]) -> None:
@@ -529,19 +432,111 @@ def try_all(pool: ThreadPoolExecutor, trials: list[Trials]) -> None:
         task.result()
 
 
-def report(trials: list[Trials]) -> int:
-    """Prints each verdict, the bad ones last, and how many there were of each kind."""
-    edits = sorted((edit for it in trials for edit in it.edits), key=lambda it: (it.verdict != "refused", it.label))
-    says = {"refused": "refused", "proved": "WRONG: it is proved", "name": "WRONG: only a name refuses it", "bad": "WRONG: it cannot be tried"}
-    for edit in edits:
-        print(f"{edit.label}: {says.get(edit.verdict, 'WRONG: there is no verdict')}: {edit.reason[:160]}")
-    for it in sorted(trials, key=lambda it: it.crate):
-        print(f"{it.crate}: {len(it.edits)} wrong bodies in {it.checks} checks, {it.seconds:.0f} processor seconds")
-    refused = sum(it.verdict == "refused" for it in edits)
-    seconds = sum(it.seconds for it in trials)
-    checks = sum(it.checks for it in trials)
-    print(f"wrong bodies: {refused} refused, {len(edits) - refused} not as they should be, in {checks} checks and {seconds:.0f} processor seconds")
-    return 0 if edits and refused == len(edits) else 1
+def fill_clauses(trials: list[Trials]) -> None:
+    """Writes a line `clause:` into each edit that has none, of the first goal that refuses it, with the words of its name."""
+    for it in trials:
+        for edit in it.edits:
+            goals = [name for name in it.found[edit.label].goals if name]
+            if edit.neutral or edit.clause or edit.open or not goals:
+                continue
+            clause, place = deciding.place_of(goals[0])
+            words = edit.name.removeprefix(edit.functions[0].split("::")[-1]).strip("_").replace("_", " ") if edit.functions else edit.name
+            file = file_of(edit)
+            file.write_text(f"clause: {deciding.Clause(clause, place, '')}: {words}\n{file.read_text()}")
+
+
+def mark_open(trials: list[Trials]) -> None:
+    """Writes a line `open:` into each edit that no goal of its clause refuses."""
+    says = {"proved": "it is proved", "name": "only a name or the form of a proof refuses it", "other": "a goal of another clause refuses it"}
+    for it in trials:
+        for edit in it.edits:
+            found = it.found[edit.label]
+            if not edit.neutral and not edit.open and found.verdict in says:
+                goals = ", ".join(dict.fromkeys(it for it in found.goals if it))
+                edit.open = says[found.verdict] + (f": {goals}" if goals else "")
+                file = file_of(edit)
+                file.write_text(f"open: {edit.open}\n{file.read_text()}")
+
+
+@dataclass
+class Report:
+    """What a run found."""
+
+    edits: list[Edit]
+    trials: list[Trials]
+    verdicts: dict[str, kept.Verdict]
+    sums: kept.Checksums
+
+    def end(self, keeps: bool) -> int:
+        """Prints each verdict, the bad ones last, keeps them if that is asked for, and returns the status."""
+        tried = [(edit, it.found[edit.label]) for it in self.trials for edit in it.edits]
+        faults = {edit.label: self.fault(edit, found) for edit, found in tried}
+        for edit, found in sorted(tried, key=lambda it: (faults[it[0].label] != "", it[0].label)):
+            says = f"WRONG: {faults[edit.label]}" if faults[edit.label] else f"{found.verdict} ({found.reason}, {edit.clause or edit.open or 'nothing'})"
+            print(f"{edit.label}: {says}: {found.text[:160]}")
+        if keeps:
+            self.keep([it for it in tried if not faults[it[0].label]])
+        for it in sorted(self.trials, key=lambda it: it.crate):
+            print(f"{it.crate}: {len(it.edits)} edits in {it.checks} checks, {it.seconds:.0f} processor seconds")
+        return self.sum_up(tried, faults)
+
+    def fault(self, edit: Edit, found: Finding) -> str:
+        """What is wrong with a verdict, or nothing."""
+        if edit.neutral and (file_of(edit).exists() or found.verdict != "bad"):
+            return "it changes nothing, and is refused" if found.verdict == "refused" else "it cannot be tried" if found.verdict == "bad" else ""
+        if edit.neutral:
+            return ""
+        if edit.open:
+            return "it is not open any more" if found.verdict == "refused" else "it cannot be tried" if found.verdict == "bad" else ""
+        if found.verdict == "refused" and edit.clause is None:
+            return "it names no clause"
+        before = self.verdicts.get(edit.label)
+        is_old = before and before.checksum == self.sums.of_edit(edit.crate, file_of(edit).read_bytes())
+        if is_old and before and before.verdict == "refused" != found.verdict:
+            return f"its kept verdict is 'refused', and this trial says '{found.verdict}'"
+        return {
+            "refused": "",
+            "proved": "it is proved",
+            "name": "only a name or the form of a proof refuses it",
+            "other": f"no goal of {edit.clause} refuses it, but {', '.join(it for it in found.goals if it)}",
+            "bad": "it cannot be tried",
+        }[found.verdict]
+
+    def keep(self, tried: list[tuple[Edit, Finding]]) -> None:
+        """Writes the verdicts of this run, and drops those of edits that are gone."""
+        labels = {it.label for it in self.edits}
+        now = {label: it for label, it in kept.read(VERDICTS).items() if label in labels}
+        for edit, found in tried:
+            if edit.label in labels:
+                verdict = "open" if edit.open else found.verdict
+                checksum = self.sums.of_edit(edit.crate, file_of(edit).read_bytes())
+                now[edit.label] = kept.Verdict(verdict, found.reason, str(edit.clause or ""), checksum)
+        kept.write(VERDICTS, now)
+
+    def sum_up(self, tried: list[tuple[Edit, Finding]], faults: dict[str, str]) -> int:
+        """Prints the open edits and how many there are of each kind, and returns the status."""
+        for edit in self.edits:
+            if edit.open:
+                print(f"open: {edit.label}: {edit.open}")
+        reasons = Counter(found.reason for edit, found in tried if found.verdict == "refused" and not faults[edit.label])
+        was_tried = {edit.label for edit, _ in tried}
+        rests = [self.verdicts[it.label] for it in self.edits if it.label not in was_tried and is_kept(it, self.verdicts, self.sums)]
+        before = Counter(it.reason for it in rests if it.verdict == "refused")
+        for says, counts in (("refused in this run", reasons), ("kept as refused", before)):
+            print(f"{says}: {sum(counts.values())}, by " + ", ".join(f"{reason} {count}" for reason, count in sorted(counts.items())))
+        wrong = sum(it != "" for it in faults.values())
+        refused = sum(found.verdict == "refused" for edit, found in tried if not faults[edit.label])
+        neutral = sum(edit.neutral and not faults[edit.label] for edit, _ in tried)
+        rest = [it for it in self.edits if not it.neutral]
+        unnamed = sum(it.clause is None and not it.open for it in rest)
+        print(
+            f"of {len(rest)} wrong bodies {len(rest) - sum(not it.neutral and file_of(it).exists() for it, _ in tried)} were not tried in this run, "
+            f"{sum(it.open != '' for it in rest)} are open, {unnamed} name no clause; {neutral} twins that change nothing are not refused"
+        )
+        seconds = sum(it.seconds for it in self.trials)
+        checks = sum(it.checks for it in self.trials)
+        print(f"wrong bodies in {checks} checks and {seconds:.0f} processor seconds: {refused} refused, {wrong} not as they should be")
+        return 0 if wrong == 0 else 1
 
 
 if __name__ == "__main__":

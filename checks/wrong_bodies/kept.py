@@ -1,0 +1,88 @@
+"""The verdicts that the repository keeps: each in a line of verdicts.txt, beside a checksum of all that it was made from.
+
+That is the crate with its line of crates.txt and all crates below it, the kit, the edit, and the file that decides.
+"""
+from __future__ import annotations
+
+import hashlib
+import re
+from dataclasses import dataclass
+from pathlib import Path
+
+HEAD = """\
+# What a trial of each wrong body found, beside a checksum of all that it was made from: `batches.py --keep` writes it.
+# A line is: name, verdict, reason, clause, checksum. deciding.py says what the words mean.
+"""
+
+
+@dataclass(frozen=True)
+class Verdict:
+    """A verdict that was kept."""
+
+    verdict: str
+    reason: str
+    clause: str
+    checksum: str
+
+    def line(self, label: str) -> str:
+        return f"{label}\t{self.verdict}\t{self.reason or '-'}\t{self.clause or '-'}\t{self.checksum}\n"
+
+
+def read(file: Path) -> dict[str, Verdict]:
+    """The verdicts that are kept, by the names of their edits."""
+    if not file.exists():
+        return {}
+    rows = (it.split("\t") for it in file.read_text().split("\n") if it and not it.startswith("#"))
+    return {row[0]: Verdict(row[1], row[2], row[3], row[4]) for row in rows}
+
+
+def write(file: Path, kept: dict[str, Verdict]) -> None:
+    """Writes the verdicts, sorted by the names of their edits."""
+    file.write_text(HEAD + "".join(kept[it].line(it) for it in sorted(kept)))
+
+
+class Checksums:
+    """The checksums of crates and of edits."""
+
+    def __init__(self, root: Path, crates: dict[str, list[str]], kit: str, deciding: Path):
+        self.root, self.crates, self.kit = root, crates, kit
+        self.deciding = deciding.read_bytes()
+        self.known: dict[str, str] = {}
+
+    def of_crate(self, crate: str) -> str:
+        """A checksum of a crate and of all below it."""
+        if crate not in self.known:
+            folder = self.root / "crates" / crate
+            found = hashlib.sha256(f"{self.kit}\0{crate}\0{' '.join(sorted(self.crates[crate]))}\0".encode())
+            for below in sorted(it for it in self.crates[crate] if it in self.crates):
+                found.update(self.of_crate(below).encode())
+            found.update(sources(folder).encode())
+            self.known[crate] = found.hexdigest()
+        return self.known[crate]
+
+    def of_edit(self, crate: str, edit: bytes) -> str:
+        """A checksum of all that the verdict of an edit is made from."""
+        return hashlib.sha256(b"\0".join([self.of_crate(crate).encode(), edit, self.deciding])).hexdigest()[:20]
+
+
+def sources(folder: Path) -> str:
+    """A checksum of a crate's own files that a check reads."""
+    found = hashlib.sha256()
+    for path in sorted(it for part in ("src", "specs", "proofs") for it in (folder / part).rglob("*") if it.is_file()):
+        found.update(f"{path.relative_to(folder)}\0".encode() + path.read_bytes() + b"\0")
+    return found.hexdigest()
+
+
+def is_drawn(label: str, commit: str) -> bool:
+    """Whether this commit draws an edit to be tried again: a tenth of all are drawn."""
+    return int(hashlib.sha256(f"{commit} {label}".encode()).hexdigest(), 16) % 10 == 0
+
+
+def listed(crates: str) -> dict[str, list[str]]:
+    """Each crate of crates.txt, with what it depends on."""
+    found = {}
+    for line in crates.split("\n"):
+        names, colon, below = line.split("#")[0].partition(":")
+        if colon and re.match(r"\w", names):
+            found[names.split()[0]] = below.split()
+    return found

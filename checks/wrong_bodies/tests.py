@@ -1,0 +1,185 @@
+#!/usr/bin/env python3
+"""Tests of the part that decides about wrong bodies, over stored reports of the prover (samples/).
+
+    checks/wrong_bodies/tests.py
+
+The last line is 'N passed, M failed', and the status is 0 if nothing failed.
+"""
+from __future__ import annotations
+
+import sys
+import tempfile
+import unittest
+from pathlib import Path
+
+sys.dont_write_bytecode = True
+import deciding
+import kept
+from deciding import Edit, Finding, Said
+
+HERE = Path(__file__).resolve().parent
+# A function whose clause a proof answers by hand, and one whose clause a tactic proves.
+BY_HAND = "pub returns-in_default : goal.returns-in_default\nreturns-in_default g c =\n    let walk = c.args in\n    walk\n"
+BY_TACTIC = "pub returns-in_default : goal.returns-in_default\nreturns-in_default g c = search (rules, c.args)\n"
+
+
+def said(name: str) -> Said:
+    return deciding.understood((HERE / "samples" / f"{name}.log").read_text(), "pt_schedules", 1.0)
+
+
+def edit(function: str, clause: str = "", old: str = "a < b", new: str = "a <= b", neutral: bool = False) -> Edit:
+    read = deciding.clause_in(clause) if clause else None
+    return Edit("pt_schedules", "it", [("src/lib.rt", old, new)], clause=read, neutral=neutral, functions=[function])
+
+
+def found(tried: Edit, log: str = "goals_of_two_clauses", proofs: dict[str, str] | None = None, is_alone: bool = True) -> Finding:
+    return deciding.found_in(tried, said(log), proofs or {}, is_alone)
+
+
+class Reports(unittest.TestCase):
+    def test_a_name_in_a_message_of_two_lines(self) -> None:
+        goals = said("name_over_two_lines").own("outcomes::Outcomes::add")
+        self.assertEqual([it.reason for it in goals], ["name", "name"])
+        self.assertEqual(found(edit("Outcomes::add", "counted: words"), "name_over_two_lines").verdict, "name")
+
+    def test_an_edit_that_changes_nothing(self) -> None:
+        tried = edit("Outcomes::add", neutral=True)
+        self.assertEqual(found(tried, "name_over_two_lines").verdict, "neutral")
+
+    def test_an_edit_that_changes_nothing_and_is_refused(self) -> None:
+        self.assertEqual(found(edit("Walk::next", neutral=True)).verdict, "refused")
+
+    def test_goals_left_open(self) -> None:
+        goals = said("goals_of_two_clauses").own("exploring::count")
+        self.assertEqual([(it.name, it.reason) for it in goals], [("returns-clause-counts", "open"), ("returns-clause-told", "open")])
+
+    def test_a_function_above_a_changed_one_is_no_witness(self) -> None:
+        report = said("goals_of_two_clauses")
+        self.assertTrue(report.is_sound({"Walk::next", "Walk::back", "count", "Ids::of"}))
+        self.assertFalse(report.is_sound({"Walk::back", "count", "Ids::of"}))
+
+    def test_a_broken_set_up_decides_nothing(self) -> None:
+        self.assertFalse(said("broken_set_up").is_sound({"Walk::next"}))
+
+    def test_a_function_that_may_wait_is_proved(self) -> None:
+        self.assertEqual(found(edit("laws::tree_decides", "ensures: words")).verdict, "proved")
+
+
+class Clauses(unittest.TestCase):
+    def test_the_open_goal_of_the_clause(self) -> None:
+        self.assertEqual(found(edit("exploring::count", "counts: words")).reason, "search")
+        self.assertEqual(found(edit("exploring::count", "told: words")).verdict, "refused")
+
+    def test_a_goal_of_another_clause(self) -> None:
+        self.assertEqual(found(edit("exploring::count", "unchanged: words")).verdict, "other")
+        self.assertEqual(found(edit("Walk::back", "schedule: words")).verdict, "other")
+
+    def test_values(self) -> None:
+        self.assertEqual(found(edit("Walk::next", "ensures: words")).reason, "values")
+        self.assertEqual(found(edit("Ids::of", "ensures: words")).reason, "values")
+
+    def test_places(self) -> None:
+        at = {
+            "loop-run-preserved": "loop run", "invariant_of-self-2-clause-few": "invariant few", "push-requires-clause-room": "requires push",
+            "search_within-returns": "closure search_within", "overflow_add-count": "safe", "returns-in-Some-clause-writes": "returns",
+        }
+        self.assertEqual({it: deciding.kind_of(it)[0] for it in at}, at)
+        clause = deciding.clause_in("counts (loop run): it counts one more")
+        self.assertTrue(clause and deciding.is_of("loop-run-preserved", clause) and not deciding.is_of("loop-of-preserved", clause))
+        self.assertTrue(clause and deciding.is_of("returns-then-clause-counts", clause) and not deciding.is_of("returns-clause-given", clause))
+        self.assertIsNone(deciding.clause_in("counts it counts one more"))
+
+
+class Reasons(unittest.TestCase):
+    def test_an_answer_by_hand_counts_if_the_form_is_kept(self) -> None:
+        proofs = {"playing::play": BY_HAND}
+        self.assertEqual(found(edit("playing::play", "ensures: words"), proofs=proofs).reason, "answer")
+        self.assertEqual(found(edit("playing::play", "ensures: words", new="let c = b; a < c"), proofs=proofs).reason, "words")
+
+    def test_a_tactic_counts(self) -> None:
+        tried = edit("playing::play", "ensures: words", new="let c = b; a < c")
+        self.assertEqual(found(tried, proofs={"playing::play": BY_TACTIC}).reason, "search")
+
+    def test_a_clause_that_asks_for_a_value(self) -> None:
+        specs = "abbrev pub IsGivenUp : Pending → Type 0\nIsGivenUp p = (result : Result Bool Fault) × Unwatches p result\n"
+        definitions = deciding.definitions_in(specs + "-- closes\nabbrev pub Closes : Type 0\nCloses p =\n    IsGivenUp p\n\npub two : ℕ\ntwo = 2\n")
+        self.assertTrue(deciding.asks_for_value("Closes self.old", definitions))
+        self.assertFalse(deciding.asks_for_value("(p : Pid) → result ≡ two", definitions))
+        self.assertEqual(deciding.found_in(edit("exploring::count", "counts: words"), said("goals_of_two_clauses"), {}, True, True).reason, "words")
+
+    def test_the_clauses_of_a_function(self) -> None:
+        text = "fn two(a: u8) -> u8\n    requires { a < 9 }\n    ensures sum { result ≡\n        a + 1 }\n    ensures { a ≡ a }\n{\n    a + 1\n}\n"
+        function = deciding.functions_of(text, "")[0]
+        self.assertEqual([it[0] for it in deciding.clauses_of(text.split("\n"), function)], ["sum", ""])
+
+    def test_a_twin_that_fails_there_too_takes_the_refusal_back(self) -> None:
+        tried = edit("playing::play", "ensures: words", new="let c = b; a < c")
+        before = found(tried, proofs={"playing::play": BY_HAND})
+        self.assertEqual(deciding.with_twin(tried, before, Finding("neutral", "words", "", ["returns-in_default"])).verdict, "name")
+        self.assertEqual(deciding.with_twin(tried, before, Finding("neutral", "name", "", ["loop-run-preserved"])).verdict, "refused")
+
+    def test_a_goal_that_waits_decides_nothing_in_a_batch(self) -> None:
+        self.assertEqual(found(edit("playing::ask", "asks: words"), is_alone=False).verdict, "")
+
+    def test_forms(self) -> None:
+        self.assertEqual(deciding.form_of("if a.b < 3 {"), deciding.form_of("if c >= d::E {"))
+        self.assertNotEqual(deciding.form_of("f(a)"), deciding.form_of("f(g(a))"))
+
+
+class Twins(unittest.TestCase):
+    TEXT = "fn two(a: u8) -> u8 {\n    let b = a + 1;\n    b\n}\n\nfn one(a: u8) -> u8 {\n    go();\n    a + 1\n}\n"
+
+    def test_a_value_has_one_more_name(self) -> None:
+        texts = {"src/lib.rt": self.TEXT}
+        two, one = (deciding.twin_of("pt", texts, it) for it in ("two", "one"))
+        self.assertTrue(two and one)
+        if two and one:
+            self.assertIn("let here_first = a + 1;\n    let b = here_first;", (two.apply(texts) or {})["src/lib.rt"])
+            self.assertIn("let here_first = a + 1;\n    here_first\n}", (one.apply(texts) or {})["src/lib.rt"])
+
+
+class Files(unittest.TestCase):
+    def test_an_edit_is_read(self) -> None:
+        with tempfile.TemporaryDirectory() as room:
+            file = Path(room, "next_skips.edit")
+            file.write_text("clause: rest (loop run): it skips one\nfile: src/lib.rt\nold: a\nnew: b\n")
+            read = deciding.read_edit(file)
+        self.assertEqual((read.pairs, str(read.clause)), ([("src/lib.rt", "a", "b")], "rest (loop run)"))
+        self.assertIsNone(read.apply({"src/lib.rt": "a a"}))
+        self.assertEqual(read.apply({"src/lib.rt": "a c"}), {"src/lib.rt": "b c"})
+
+    def test_verdicts_are_kept(self) -> None:
+        with tempfile.TemporaryDirectory() as room:
+            file = Path(room, "verdicts.txt")
+            verdicts = {"a/b": kept.Verdict("refused", "values", "rest (loop run)", "12ab"), "a/c": kept.Verdict("open", "-", "-", "34cd")}
+            kept.write(file, verdicts)
+            self.assertEqual(kept.read(file), verdicts)
+
+    def test_a_checksum_is_of_the_crates_below_too(self) -> None:
+        with tempfile.TemporaryDirectory() as room:
+            root = Path(room)
+            for crate in ("low", "high"):
+                (root / "crates" / crate / "src").mkdir(parents=True)
+                (root / "crates" / crate / "src/lib.rt").write_text(crate)
+            (root / "deciding.py").write_text("")
+
+            def now(kit: str = "one", edit: bytes = b"edit") -> str:
+                return kept.Checksums(root, {"low": [], "high": ["low"]}, kit, root / "deciding.py").of_edit("high", edit)
+
+            first = now()
+            self.assertEqual(first, now())
+            self.assertNotEqual(first, now(kit="two"))
+            self.assertNotEqual(first, now(edit=b"other"))
+            (root / "crates/low/src/lib.rt").write_text("changed")
+            self.assertNotEqual(first, now())
+
+    def test_a_tenth_is_drawn(self) -> None:
+        drawn = sum(kept.is_drawn(f"crate/edit_{it}", "0123") for it in range(1000))
+        self.assertTrue(60 < drawn < 140, drawn)
+
+
+if __name__ == "__main__":
+    ran = unittest.main(argv=["tests.py", "--quiet"], exit=False).result
+    wrong = len(ran.failures) + len(ran.errors)
+    print(f"{ran.testsRun - wrong} passed, {wrong} failed")
+    sys.exit(1 if wrong else 0)
