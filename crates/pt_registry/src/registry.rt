@@ -151,6 +151,7 @@ impl Registry {
     }
 
     /// Removes the name that the process has with this monitor, and returns it, or `None` if there is no such name.
+    #[tactic(auto, using(crate::proofs::Naming::unnamed, crate::proofs::Naming::unheld, crate::proofs::Naming::otherwise, crate::proofs::Naming::forgotten))]
     fn free(&mut self, pid: Pid, monitor: Ref) -> Option<Name>
         ensures frees { FreesName (record { pid = pid; monitor = monitor }) self.old.names result self.new.names }
         ensures me { self.new.me ≡ self.old.me }
