@@ -83,6 +83,12 @@ freed h old (Some k) new one u n has = by (same_name k n) refl
 pub unnamed : (p : Pid) (m : Ref) (s : NamesState) → IsOneToOne s → name_at s p ≡ None → (n : Name) → holder_of s n ≡ Some (holder p m) → ⊥
 unnamed p m s one none n has = one_none (name_at s p) n (one.has_name n (holder p m) has) none
 
+-- nobody has its name
+pub unheld : (p : Pid) (m : Ref) (s : NamesState) (k : Name) → IsOneToOne s → name_at s p ≡ Some k → holder_of s k ≡ None → (n : Name) → holder_of s n ≡ Some (holder p m) → ⊥
+unheld p m s k one named none n has =
+    let same : n ≡ k = some_is n k (sym (one.has_name n (holder p m) has) ∙ named) in
+    one_none (holder_of s n) (holder p m) has (ap (holder_of s) same ∙ none)
+
 -- its name has another monitor
 pub otherwise : (p : Pid) (m : Ref) (s : NamesState) (k : Name) (o : Option Holder) → IsOneToOne s → name_at s p ≡ Some k → holder_of s k ≡ o → ((x : Holder) → o ≡ Some x → same_ref x.monitor m ≡ false)
     → (n : Name) → holder_of s n ≡ Some (holder p m) → ⊥

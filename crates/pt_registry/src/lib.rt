@@ -22,6 +22,7 @@
 
 mod laws;
 mod registry;
+mod unregistered;
 
 pub use laws::names_keep_their_monitors;
 pub use registry::{Registry, RegistryError};

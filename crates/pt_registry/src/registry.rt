@@ -1,9 +1,8 @@
 //! Names with the monitors of their processes.
 
-ghost use Rattle.std.specs.Prelude.{◌≡◌};
 ghost use Rattle.pt_names.specs.State.{IsOneToOne};
-ghost use Rattle.pt_registry.specs.Registering.{unkept_as};
 
+use crate::unregistered::unkept;
 use pt_crew::{CallFault, demonitor, monitor};
 use pt_names::{Name, Names, RegisterError};
 use pt_pending::Request;
@@ -38,6 +37,7 @@ pub struct Registry {
 }
 
 impl Registry {
+    ghost use Rattle.std.specs.Prelude.{◌≡◌};
     ghost use Rattle.pt_desk.specs.DeskState.{GoesOn};
     ghost use Rattle.pt_names.specs.Calls.{IsNone};
     ghost use Rattle.pt_names.specs.State.{pid_of};
@@ -151,6 +151,7 @@ impl Registry {
     }
 
     /// Removes the name that the process has with this monitor, and returns it, or `None` if there is no such name.
+    #[tactic(auto, using(crate::proofs::Naming::unnamed, crate::proofs::Naming::unheld, crate::proofs::Naming::otherwise, crate::proofs::Naming::forgotten))]
     fn free(&mut self, pid: Pid, monitor: Ref) -> Option<Name>
         ensures frees { FreesName (record { pid = pid; monitor = monitor }) self.old.names result self.new.names }
         ensures me { self.new.me ≡ self.old.me }
@@ -160,15 +161,5 @@ impl Registry {
             return None;
         }
         self.names.forget(pid)
-    }
-}
-
-/// Why a process was not registered for which there was no name, once its monitor was to be cancelled.
-fn unkept(error: RegisterError, reference: Ref, cancelled: Result<bool, Fault>) -> RegistryError
-    ensures { result ≡ unkept_as error reference cancelled }
-{
-    match cancelled {
-        Ok(_) => RegistryError::Refused(error),
-        Err(_) => RegistryError::LeftOpen(error, reference),
     }
 }

@@ -1,5 +1,5 @@
--- `Registry::free`: its clause `frees`, and the invariant of `self`.
-use Rattle.pt_registry.proofs.Naming.{forgotten, forgotten_one, otherwise, unnamed}
+-- `Registry::free`: the invariant of `self`.
+use Rattle.pt_registry.proofs.Naming.{forgotten_one}
 use Rattle.pt_registry.proofs.registry.Registry.free.Goals as goal
 
 pub invariant_of-self : goal.invariant_of-self
