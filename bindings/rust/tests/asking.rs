@@ -1,8 +1,8 @@
 //! Calls that are answered, where letters are, and the way in.
 
 use pundewo::{
-    Body, Call, Config, Desk, Door, Fault, Heard, Item, Pick, Pid, Post, PostError, Reason, Request, WayIn, open,
-    way_in,
+    AskFault, Body, Call, Config, Desk, Door, Fault, Heard, Item, Pick, Pid, Post, PostError, Reason, Request, WayIn,
+    open, way_in,
 };
 
 fn receive(desk: &mut Desk, p: Pid) -> Result<Item, Fault> {
@@ -33,9 +33,10 @@ fn a_call_ends_once() -> Result<(), Fault> {
     let down = receive(desk, client)?;
     assert_eq!(second.hear(desk, down), Heard::NotMine);
     assert_eq!((third.hear(desk, down), third.hear(desk, down)), (Heard::ServerDown(Reason::Other(7)), Heard::Late));
-    assert_eq!(desk.ask(client, server, 1).err(), Some(Fault::NoProc));
-    assert_eq!(desk.ask(client, client, 1).err(), Some(Fault::Myself));
-    assert_eq!(desk.ask_until(server, client, 1, 2).err(), Some(Fault::Gone));
+    let unasked = |fault| Some(AskFault { fault, left_open: None });
+    assert_eq!(desk.ask(client, server, 1).err(), unasked(Fault::NoProc));
+    assert_eq!(desk.ask(client, client, 1).err(), unasked(Fault::Myself));
+    assert_eq!(desk.ask_until(server, client, 1, 2).err(), unasked(Fault::Gone));
     Ok(())
 }
 
