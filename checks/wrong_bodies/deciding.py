@@ -456,6 +456,8 @@ def reason_of(edit: Edit, clause: Clause, goal: Goal, proof: str, asks: bool) ->
 def found_in(edit: Edit, said: Said, proofs: dict[str, str], is_alone: bool, asks: bool = False) -> Finding:
     """What a sound check says of an edit. In a batch, a goal that waits for another function decides nothing."""
     own = [name for name in said.verdicts if any(same(name, it) for it in edit.functions)]
+    if not own and edit.neutral:
+        return Finding("bad", "", f"the prover says nothing of {', '.join(edit.functions)}")
     if not own:
         raise Broken(f"{edit.label}: the prover says nothing of {', '.join(edit.functions)}: name it by a line 'fn: PATH'")
     goals = [(name, it) for name in own for it in said.own(name)]
@@ -501,8 +503,10 @@ def twin_of(crate: str, texts: dict[str, str], path: str) -> Edit | None:
             if function.path == path:
                 old = lines[function.first : function.last + 1]
                 new = renamed(old)
-                is_fit = new is not None and text.count("\n".join(old)) == 1
-                return Edit(crate, path, [(file, "\n".join(old), "\n".join(new or []))], [path], neutral=True) if is_fit else None
+                if new is None or text.count("\n".join(old)) != 1:
+                    return None
+                pairs = [(file, "\n".join(old), "\n".join(new))]
+                return Edit(crate, path, pairs, [path], neutral=True, functions=[path])
     return None
 
 

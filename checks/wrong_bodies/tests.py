@@ -134,6 +134,7 @@ class Twins(unittest.TestCase):
         two, one = (deciding.twin_of("pt", texts, it) for it in ("two", "one"))
         self.assertTrue(two and one)
         if two and one:
+            self.assertEqual((two.functions, two.neutral), (["two"], True))
             self.assertIn("let here_first = a + 1;\n    let b = here_first;", (two.apply(texts) or {})["src/lib.rt"])
             self.assertIn("let here_first = a + 1;\n    here_first\n}", (one.apply(texts) or {})["src/lib.rt"])
 
