@@ -139,6 +139,13 @@ class Twins(unittest.TestCase):
             self.assertIn("let here_first = a + 1;\n    here_first\n}", (one.apply(texts) or {})["src/lib.rt"])
 
 
+    def test_an_argument_has_one_more_name(self) -> None:
+        text = "fn three(a: &mut A, b: u8) -> u8\n    ensures { result ≡ b }\n{\n    match b {\n        _ => b,\n    }\n}\n"
+        three = deciding.twin_of("pt", {"src/lib.rt": text}, "three")
+        changed = three.apply({"src/lib.rt": text}) if three else None
+        self.assertIn("{\n    let here_first = b;\n    let b = here_first;\n    match", (changed or {}).get("src/lib.rt", ""))
+
+
 class Files(unittest.TestCase):
     def test_an_edit_is_read(self) -> None:
         with tempfile.TemporaryDirectory() as room:
