@@ -6,6 +6,7 @@ use Rattle.pt_signal.specs.declared.item.Item.{Item}
 use Rattle.pt_signal.specs.declared.item.Item.TheVariants.{Down}
 use Rattle.pt_names.specs.declared.name.Name.{Name}
 use Rattle.pt_names.specs.declared.names.Holder.{Holder}
+use Rattle.pt_names.specs.declared.names.RegisterError.{RegisterError}
 use Rattle.pt_names.specs.State.{NamesState, holder_of}
 use Rattle.pt_names.specs.Calls.{IsFree, Checks, Registers, Unregisters}
 use Rattle.pt_shard.specs.declared.fault.Fault.{Fault}
