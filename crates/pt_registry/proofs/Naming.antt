@@ -13,7 +13,7 @@ use Rattle.pt_names.specs.declared.name.Name.{Name}
 use Rattle.pt_names.specs.declared.names.Holder.{Holder}
 use Rattle.pt_names.specs.declared.names.RegisterError.{RegisterError}
 use Rattle.pt_names.specs.declared.names.RegisterError.TheVariants.{Taken, HasName, Memory}
-use Rattle.pt_names.specs.State.{NamesState, holder_of, pid_of, name_at, same_name, IsOneToOne}
+use Rattle.pt_names.specs.State.{NamesState, holder_of, name_at, same_name, IsOneToOne}
 use Rattle.pt_names.specs.Calls.{IsNone, Registers, Unregisters, Forgets}
 use Rattle.pt_names.proofs.Sound.{added, removed}
 use Rattle.pt_registry.specs.Registering.{FreesName, HearsNames}
