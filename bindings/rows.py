@@ -68,13 +68,13 @@ class State:
             return False
         if self.phase == "settled" and step.name == "waiting":
             return False
-        if self.phase != "running" or step.name in WITHOUT_ACTOR or step.name == "open":
+        if step.name in BY_DESK and int(step.words[0]) >= self.desks:
+            return False
+        if self.phase != "running" or step.name in WITHOUT_ACTOR or step.name == "open" or step.name in BY_DESK:
             return True
         if step.name in ("watching", "kept"):
             return False
-        first = step.words[0]
-        desk = int(first) if step.name in BY_DESK else int(first[1:].split(".")[0])
-        return desk < self.desks
+        return int(step.words[0][1:].split(".")[0]) < self.desks
 
 
 def settings(words: list[str]) -> list[str]:

@@ -178,6 +178,9 @@ echo "c: examples passed"
 # Rust: tests, examples of the documentation, the pages themselves, and lints
 (
     cd "$here/rust"
+    if cargo fmt --version >/dev/null 2>&1; then
+        cargo fmt --check
+    fi
     cargo test -q --offline
     RUSTDOCFLAGS="-D warnings" cargo doc -q --offline --no-deps
     cargo run -q --offline --example supervisor | diff "$here/c/supervisor.out" -
@@ -201,12 +204,13 @@ echo "rust: tests, pages and examples passed"
 # The chat server under its load: nothing lost or out of order, each crash one DOWN, idle it rests, and its history is legal
 "$here/../.ci/build" pt_audit >"$work/printed"
 chat=$CARGO_TARGET_DIR/debug/examples
-timeout 120 "$chat/chat_load" "$chat/chat" "$work/chat.history" 40 10 3 10
+"$here/../.ci/bounded" 120 "$chat/chat_load" "$chat/chat" "$work/chat.history" 40 10 3 10
 "$here/../bin/pt_audit" "$work/chat.history"
+timeout 300 "$here/bad_clients.py" "$chat/chat" 0 "$work/bad.history"
 echo "rust: the chat server passed"
 
 # The telephone exchange: lines crash in calls and are started again, each partner hears of it, and its history is legal
-timeout 120 "$chat/exchange" "$work/exchange.history" 200 2>"$work/panics" || { tail -n 20 "$work/panics"; exit 1; }
+"$here/../.ci/bounded" 120 "$chat/exchange" "$work/exchange.history" 200 2>"$work/panics" || { tail -n 20 "$work/panics"; exit 1; }
 "$here/../bin/pt_audit" "$work/exchange.history"
 echo "rust: the telephone exchange passed"
 
@@ -219,7 +223,7 @@ echo "rust: the telephone exchange passed"
     PYTHONPATH=. python3 examples/team.py | diff "$here/c/team.out" -
     if command -v mypy >/dev/null; then
         for level in 3.9 "$(python3 -c 'import sys; print("%d.%d" % sys.version_info[:2])')"; do
-            mypy --strict --cache-dir=/dev/null --python-version "$level" pundewo build_wheel.py examples tests
+            mypy --strict --cache-dir=/dev/null --python-version "$level" pundewo build_wheel.py examples tests ../bad_clients.py
         done
     fi
 )
@@ -227,9 +231,10 @@ echo "python: tests passed"
 
 # The chat server in asyncio under its load, as the one in Rust
 "$here/../.ci/build" pt_audit >"$work/printed"
-(cd "$here/python" && PYTHONPATH=. timeout 240 python3 examples/chat_load.py --connections 40 --crashing 10 --rate 10 \
+(cd "$here/python" && PYTHONPATH=. "$here/../.ci/bounded" 240 python3 examples/chat_load.py --connections 40 --crashing 10 --rate 10 \
     --seconds 3 --archive "$work/chat_python.history")
 "$here/../bin/pt_audit" "$work/chat_python.history"
+(cd "$here/python" && PYTHONPATH=. timeout 300 "$here/bad_clients.py" python3 examples/chat.py)
 echo "python: the chat server passed"
 python3 -m venv "$work/venv"
 "$work/venv/bin/pip" install -q --no-index --disable-pip-version-check "$here/python"

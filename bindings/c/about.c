@@ -76,7 +76,8 @@ static void asking(void) {
     pt_post post;
     SAMPLE(pt_asking_about, s, pt_about_asking);
     pid(s.call.client); pid(s.call.server); ref(s.call.monitor);
-    TRUE(s.call.has_deadline); TRUE(s.call.waits); NEXT(s.call.deadline);
+    TRUE(s.call.has_deadline); TRUE(s.call.waits); TRUE(s.call.left_open);
+    NEXT(s.call.deadline);
     next = 0;
     pid(s.request.from); NEXT(s.request.asks); NEXT(s.request.number);
     next = 0;
@@ -143,7 +144,7 @@ static void codes(void) {
     static const uint32_t all[] = {
         PT_OK, PT_FULL, PT_MEMORY, PT_WORN, PT_GONE, PT_MYSELF, PT_NOPROC, PT_UNKNOWN, PT_NOTHING, PT_EMPTY, PT_FILLED,
         PT_BAD_DESKS, PT_BAD_SLOTS, PT_BAD_TOP_VERSION, PT_BAD_LANE, PT_BAD_START, PT_BAD_CODE, PT_NOT_RUNNING,
-        PT_WRONG_DESK, PT_BAD_NAME, PT_TAKEN, PT_HAS_NAME,
+        PT_WRONG_DESK, PT_BAD_NAME, PT_TAKEN, PT_HAS_NAME, PT_BAD_PLACES,
         PT_NORMAL, PT_KILL, PT_KILLED, PT_NO_PROCESS, PT_SHUTDOWN, PT_OTHER,
         PT_ITEM_USER, PT_ITEM_EXIT, PT_ITEM_DOWN, PT_ITEM_ALIVE,
         PT_PICK_KIND, PT_PICK_FROM, PT_PICK_EXIT_OF, PT_PICK_DOWN_OF, PT_PICK_ALIVE_OF, PT_PICK_ANY,

@@ -44,6 +44,7 @@ static void refused(void) {
     assert(pt_hear(&desk, &call, bad, &heard) == PT_BAD_CODE && pt_hear(&desk, &call, bad_reason, &heard) == PT_BAD_CODE);
     assert(heard.code == 7 && heard.answer == 7 && heard.reason.code == 7 && memcmp(&call, &was, sizeof call) == 0);
     assert(pt_request_of(bad, &request) == PT_BAD_CODE && pt_request_of(item, &request) == PT_NOTHING);
+    assert(pt_is_call(p, bad, &has) == PT_BAD_CODE && pt_is_call(p, bad_reason, &has) == PT_BAD_CODE && has);
     assert(request.asks == 7 && request.number == 7 && pt_reply(&desk, p, request, 1) == PT_UNKNOWN);
     assert(pt_give_up(&desk) == PT_OK);
 }
@@ -97,6 +98,41 @@ static void ends(void) {
     assert(pt_ask(&desk, client, server, EXIT, &third) == PT_NOPROC && pt_give_up(&desk) == PT_OK);
 }
 
+static bool is_call(pt_pid me, pt_item item) {
+    bool is;
+    assert(pt_is_call(me, item, &is) == PT_OK);
+    return is;
+}
+
+/* A request and an answer are told from messages whose kinds are the same numbers, also if nobody keeps the call. */
+static void kinds(void) {
+    enum { KIND = 3 };
+    pt_desk desk = PT_NO_DESK;
+    pt_pid client, server;
+    pt_call dropped;
+    pt_request request;
+    pt_item item;
+    assert(pt_open(&desk, 1, settings) == PT_OK && pt_spawn(&desk, &client) == PT_OK && pt_spawn(&desk, &server) == PT_OK);
+    assert(pt_ask(&desk, client, server, KIND, &dropped) == PT_OK);
+    assert(pt_send(&desk, client, server, (pt_body){.kind = KIND}) == PT_OK);
+    item = receive(&desk, server);
+    assert(item.body.kind == KIND && is_call(server, item) && pt_request_of(item, &request) == PT_OK);
+    assert(pt_reply(&desk, server, request, KIND) == PT_OK);
+    item = receive(&desk, server);
+    assert(item.body.kind == KIND && !is_call(server, item) && pt_request_of(item, &request) == PT_NOTHING);
+    assert(pt_send(&desk, server, client, (pt_body){.kind = KIND}) == PT_OK);
+    item = receive(&desk, client);
+    assert(item.code == PT_ITEM_USER && item.body.kind == KIND && is_call(client, item));
+    assert(!is_call(server, item)); /* it names another process */
+    item = receive(&desk, client);
+    assert(item.code == PT_ITEM_USER && item.body.kind == KIND && !is_call(client, item));
+    assert(pt_exit(&desk, server, (pt_reason){PT_NORMAL, 0}) == PT_OK);
+    item = receive(&desk, client);
+    assert(item.code == PT_ITEM_DOWN && !is_call(client, item)); /* a DOWN is no message */
+    assert(pt_give_up(&desk) == PT_OK);
+    puts("an answer is told from a message of that kind");
+}
+
 /* ---- a way in, by itself */
 
 static void *hand_in(void *at) {
@@ -134,6 +170,51 @@ static void doors(void) {
     assert(pthread_join(thread, NULL) == 0);
     assert(pt_way_in_give_up(&way_in) == PT_OK && pt_way_in_give_up(&way_in) == PT_EMPTY);
     printf("%d messages came in, in order\n", MANY);
+}
+
+/* Hands in until the way in is gone, as the loop of a thread without a desk does. */
+static void *hand_in_for_ever(void *at) {
+    uint32_t code;
+    while ((code = pt_door_post(at, (pt_post){{0, 0, 1}, {.kind = 1}})) != PT_GONE) {
+        assert(code == PT_OK || code == PT_FULL);
+        sched_yield();
+    }
+    return NULL;
+}
+
+/* A door whose way in was given up says so, with free places and without, and a loop that waits for a place ends. */
+static void gone(void) {
+    pt_door door = PT_NO_DOOR;
+    pt_way_in way_in = PT_NO_WAY_IN;
+    pt_post post = {{0, 0, 1}, {.kind = 1}};
+    pthread_t thread;
+    size_t count;
+    for (int handed_in = 0; handed_in <= 2; handed_in++) {
+        assert(pt_door_open(&door, &way_in, 2) == PT_OK);
+        for (int k = 0; k < handed_in; k++) assert(pt_door_post(&door, post) == PT_OK);
+        assert(pt_way_in_give_up(&way_in) == PT_OK);
+        for (int k = 0; k < 5; k++) assert(pt_door_post(&door, post) == PT_GONE);
+        assert(pt_door_give_up(&door) == PT_OK && pt_door_post(&door, post) == PT_EMPTY);
+    }
+    assert(pt_door_open(&door, &way_in, 2) == PT_OK && pthread_create(&thread, NULL, hand_in_for_ever, &door) == 0);
+    do assert(pt_way_in_len(&way_in, &count) == PT_OK);
+    while (count < 2);
+    assert(pt_way_in_give_up(&way_in) == PT_OK && pthread_join(thread, NULL) == 0 && pt_door_give_up(&door) == PT_OK);
+    /* what was handed in is taken out also if the door was given up first */
+    assert(pt_door_open(&door, &way_in, 2) == PT_OK && pt_door_post(&door, post) == PT_OK);
+    assert(pt_door_give_up(&door) == PT_OK && pt_way_in_take(&way_in, &post) == PT_OK);
+    assert(pt_way_in_take(&way_in, &post) == PT_NOTHING && pt_way_in_give_up(&way_in) == PT_OK);
+    puts("a door whose way in was given up says so");
+}
+
+/* A way in has a place at least. Nothing has changed if none is asked for, and a handle that is not empty comes first. */
+static void no_places(void) {
+    pt_door door = PT_NO_DOOR, other = PT_NO_DOOR;
+    pt_way_in way_in = PT_NO_WAY_IN, entry = PT_NO_WAY_IN;
+    assert(pt_door_open(&door, &way_in, 0) == PT_BAD_PLACES && !door.at && !way_in.at);
+    assert(pt_door_open(&door, &way_in, 1) == PT_OK && pt_door_open(&other, &way_in, 0) == PT_FILLED && !other.at);
+    assert(pt_door_open(&door, &entry, 0) == PT_FILLED && !entry.at);
+    assert(pt_door_give_up(&door) == PT_OK && pt_way_in_give_up(&way_in) == PT_OK);
 }
 
 /* ---- two desks, whose threads sleep */
@@ -256,7 +337,10 @@ static void sleeping(void) {
 int main(void) {
     refused();
     ends();
+    kinds();
     doors();
+    gone();
+    no_places();
     sleeping();
     return 0;
 }

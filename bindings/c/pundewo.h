@@ -82,7 +82,7 @@ enum pt_code {
     PT_FULL = 1,            /* no slot is free, or no place of a door */
     PT_MEMORY = 2,          /* malloc or realloc refused; the call may be made again */
     PT_WORN = 3,            /* the clock stands at its limit, 2^62 */
-    PT_GONE = 4,            /* the acting process does not live on this desk */
+    PT_GONE = 4,            /* the acting process does not live on this desk, or the way in of a door was given up */
     PT_MYSELF = 5,          /* a process cannot monitor itself */
     PT_NOPROC = 6,          /* the other process is seen to have ended */
     PT_UNKNOWN = 7,         /* the desk cannot have had the other process */
@@ -99,7 +99,8 @@ enum pt_code {
     PT_WRONG_DESK = 18,     /* the crew or team is that of a desk with another number */
     PT_BAD_NAME = 19,       /* the bytes are no name */
     PT_TAKEN = 20,          /* a process has the name */
-    PT_HAS_NAME = 21        /* the process has a name */
+    PT_HAS_NAME = 21,       /* the process has a name */
+    PT_BAD_PLACES = 22      /* a way in has a place at least */
 };
 
 /* The name of a process: its desk, its slot there, and how often the slot was given out. No two have the same. */
@@ -181,7 +182,7 @@ typedef struct { bool has_ended; pt_reason ended; uint64_t arrived; uint64_t tak
 typedef struct { uint32_t slots; uint32_t top_version; uint32_t lane; uint64_t start; } pt_config;
 
 /* What a desk lost by one event: how many items of this process. Either it exited with this reason, and they waited in its
- * mailbox; or it was not alive as a message came, and `reason` says nothing. */
+ * mailbox, none if `items` is 0; or it was not alive as a message came, and `reason` says nothing. */
 typedef struct { bool has_exited; pt_pid pid; pt_reason reason; size_t items; } pt_loss;
 
 /* What a process of a crew does next:
@@ -251,10 +252,11 @@ typedef struct { char letters[32]; } pt_name;
 /* The process that has a name, and the monitor that it was registered with. */
 typedef struct { pt_pid pid; pt_ref monitor; } pt_holder;
 
-/* A call that was made: the server that it waits for, until when (`deadline`, where `has_deadline`), and whether it still
- * does. It is yours: keep it while it waits, and show it each item that its client gets (pt_hear). */
+/* A call that was made: the server that it waits for, until when (`deadline`, if `has_deadline`), and whether it still does.
+ * It is yours: keep it while it waits, and show it each item that its client gets (pt_hear). With `left_open` it has ended,
+ * and its monitor could not be cancelled: pt_demonitor of `client` and `monitor` does so. Else its DOWN may arrive. */
 typedef struct {
-    pt_pid client; pt_pid server; pt_ref monitor; bool has_deadline; bool waits; uint64_t deadline;
+    pt_pid client; pt_pid server; pt_ref monitor; bool has_deadline; bool waits; bool left_open; uint64_t deadline;
 } pt_call;
 
 /* A request that arrived: who asks, what, as a number of your own, and the number that its answer carries. */
@@ -351,22 +353,31 @@ uint32_t pt_has_letters(pt_desk *desk, bool *out);
 
 /* Asks a server: monitors it, and sends it the request under the number of the monitor. `out` gets the call. pt_ask_until
  * makes a call that ends at the moment `deadline` if it is open then (pt_expire); the moment may have passed. As
- * pt_monitor, and then nothing is asked; PT_WORN and PT_MEMORY too where the request was not sent, and then the monitor is
- * cancelled. If the server is seen to have exited only as the request is sent, the call is made, and its DOWN ends it. */
+ * pt_monitor, and then nothing is asked; PT_WORN and PT_MEMORY too if the request was not sent, and then the monitor is
+ * cancelled. If that fails too, `out` gets the call, which has ended and is `left_open`: the one case in which a call writes
+ * an output though it fails. If the server is seen to have exited only as the request is sent, the call is made, and its
+ * DOWN ends it. */
 uint32_t pt_ask(pt_desk *desk, pt_pid me, pt_pid server, uint32_t asks, pt_call *out);
 uint32_t pt_ask_until(pt_desk *desk, pt_pid me, pt_pid server, uint32_t asks, uint64_t deadline, pt_call *out);
 
 /* Reads an item that the client got: `out` gets what it means to the call. If the call ends by it, its monitor is
- * cancelled, and `waits` is false; a call ends once. PT_BAD_CODE. */
+ * cancelled (or `left_open` is true), and `waits` is false; a call ends once. PT_BAD_CODE. */
 uint32_t pt_hear(pt_desk *desk, pt_call *call, pt_item item, pt_heard *out);
 
 /* Reports the time: `out` gets whether the call ends by its deadline now, since it is open and the deadline is not above
- * `now`. Its monitor is cancelled then, and an answer that arrives later is LATE. So show the call what waits in the mailbox
- * first. */
+ * `now`. Its monitor is cancelled then (or `left_open` is true), and an answer that arrives later is LATE. So show the call
+ * what waits in the mailbox first. */
 uint32_t pt_expire(pt_desk *desk, pt_call *call, uint64_t now, bool *out);
 
 /* The request that the item is: a message that names its own sender. PT_BAD_CODE; PT_NOTHING: it is none. */
 uint32_t pt_request_of(pt_item item, pt_request *out);
+
+/* Whether an item that `me` got is a message of a call: a request, which names its own sender, or an answer, which names
+ * `me`. The kind of such a message is what is asked, or the answer itself: so ask this before you read a kind as one of your
+ * own. Each request and each answer is told (that is proved), also an answer to a call that was dropped. A message of your
+ * own is told too if its body names its sender or its receiver, so send none that does. The DOWN of a call is an item as any
+ * DOWN: pt_hear reads it. PT_BAD_CODE. */
+uint32_t pt_is_call(pt_pid me, pt_item item, bool *out);
 
 /* Answers a request, at once or later. As pt_send; if the client has exited, there is nothing left to do. */
 uint32_t pt_reply(pt_desk *desk, pt_pid me, pt_request request, uint32_t answer);
@@ -374,13 +385,18 @@ uint32_t pt_reply(pt_desk *desk, pt_pid me, pt_request request, uint32_t answer)
 /* ---- the way in: messages from threads that have no desk. Each may answer PT_EMPTY
  *
  * A way in has two ends, each in a handle of its own: a thread without a desk holds the door, and the thread of a desk the
- * way in. The two may be used at the same time. What is taken out is what was handed in, in order, each message once. Who
- * sleeps, and who is woken, is yours: wake the thread of the desk after pt_door_post. */
+ * way in. The two may be used at the same time. What is taken out is what was handed in, in order, each message once (that
+ * is proved). Who sleeps, and who is woken, is yours: wake the thread of the desk after pt_door_post. */
 
-/* Makes a way in with so many places. PT_FILLED where either handle is not empty; PT_MEMORY. */
+/* Makes a way in with so many places, at least one. PT_FILLED where either handle is not empty; PT_BAD_PLACES where
+ * `places` is 0; PT_MEMORY. */
 uint32_t pt_door_open(pt_door *door, pt_way_in *way_in, uint32_t places);
 
-/* Hands in a message. PT_FULL: the door knows of no free place, and nothing has changed. */
+/* Hands in a message. Otherwise nothing has changed, and the message is yours:
+ *  - PT_GONE: the way in was given up. Each later call answers so, too;
+ *  - PT_FULL: the door knows of no free place. Wait, and try again.
+ * After PT_OK the message waits in the way in. If the way in is given up before it is taken out, it is dropped: another
+ * thread may do so at any time, also while this call is made. */
 uint32_t pt_door_post(pt_door *door, pt_post post);
 
 /* Takes out the oldest message that waits: send it on with pt_send, as a process of the desk. PT_NOTHING: none waits. */
@@ -394,7 +410,10 @@ uint32_t pt_way_in_len(pt_way_in *way_in, size_t *out);
  * A message is lost where its receiver exits before it took it, or is not alive as it comes. A desk that is asked to keeps
  * what it lost until it is told, in order: nothing else takes memory for it, and a desk that is not asked keeps nothing.
  * So the one who keeps something beside a message knows when nobody will ever take it. What settling lost is told by the
- * desk of the same number in the node that was resumed. */
+ * desk of the same number in the node that was resumed.
+ *
+ * Each exit of a process of the desk is a loss, also if nothing waited: `items` is 0 then, and `reason` is that of the exit.
+ * So a desk that is asked to has one loss for each of its processes that exits, and each is passed by pt_next_loss. */
 
 /* Sets whether what is lost from now on is kept. It is not at first. */
 uint32_t pt_keep_losses(pt_desk *desk, bool on);
@@ -693,9 +712,9 @@ uint32_t pt_history_left_at(pt_history *history, size_t place, pt_left_over *out
 typedef struct {
     uint32_t
         done, full, memory, worn, gone, myself, noproc, unknown, nothing, empty, filled, bad_desks, bad_slots,
-        bad_top_version, bad_lane, bad_start, bad_code, not_running, wrong_desk, bad_name, taken, has_name, reason_normal,
-        reason_kill, reason_killed, reason_noproc, reason_shutdown, reason_other, item_user, item_exit, item_down,
-        item_alive, pick_kind, pick_from,
+        bad_top_version, bad_lane, bad_start, bad_code, not_running, wrong_desk, bad_name, taken, has_name, bad_places,
+        reason_normal, reason_kill, reason_killed, reason_noproc, reason_shutdown, reason_other, item_user, item_exit,
+        item_down, item_alive, pick_kind, pick_from,
         pick_exit_of, pick_down_of, pick_alive_of, pick_any, signal_message, signal_link, signal_unlink,
         signal_exit, signal_link_exit, signal_monitor, signal_demonitor, signal_down, signal_alive_ask,
         signal_alive_say, event_born, event_said, event_came, event_took, event_flag, event_left, event_refused,

@@ -30,7 +30,7 @@ source "$here/../../.ci/copy"
 # Runs a part of the program of the calls; what it prints, and its status, go to files of that part.
 run_part() {
     local status=0
-    env -i ASAN_OPTIONS=exitcode=99 timeout 3600 "$work/bin/pt_refused" >"$work/$1" 2>&1 <<<"$1" || status=$?
+    "$root/.ci/bounded" 3600 env -i ASAN_OPTIONS=exitcode=99 "$work/bin/pt_refused" >"$work/$1" 2>&1 <<<"$1" || status=$?
     echo "status=$status" >>"$work/$1"
 }
 
@@ -43,7 +43,7 @@ try_calls() {
     for file in "$here"/calls/*.rt.txt; do
         cp "$file" "$work/crates/pt_refused/src/$(basename "$file" .txt)"
     done
-    echo pt_refused: pt_{heap,signal,slots,timers,names,schedules,process,accounts,carrier,directory,history,texts,auditor,shard,node,crew,hands,registry,supervisor,resting,epochs,script,runner,render,report} >>"$work/crates.txt"
+    echo pt_refused: pt_{heap,signal,slots,timers,names,schedules,process,accounts,carrier,directory,history,texts,auditor,shard,node,crew,pending,hands,registry,supervisor,resting,epochs,script,runner,render,report} >>"$work/crates.txt"
     "$root/.ci/build" --in "$work" --checked pt_refused
     run_part sequences &
     run_part calls
@@ -60,7 +60,7 @@ cases=150
 read_after() {
     local status=0
     echo "== $1"
-    env -i ASAN_OPTIONS=exitcode=99 timeout 60 "$work/bin/pt_reading" 2>&1 <<<"$2" || status=$?
+    "$root/.ci/bounded" 60 env -i ASAN_OPTIONS=exitcode=99 "$work/bin/pt_reading" 2>&1 <<<"$2" || status=$?
     echo "case=$1 status=$status"
 }
 

@@ -10,6 +10,7 @@ each number of turns between `# cut` and `# uncut`. README.md says how to read a
 from __future__ import annotations
 
 import re
+import signal
 import subprocess
 import sys
 from concurrent.futures import ThreadPoolExecutor
@@ -18,7 +19,9 @@ from pathlib import Path
 from typing import Iterator, Optional
 
 HERE = Path(__file__).resolve().parent
-CRATES = HERE.parent.parent / "crates"
+ROOT = HERE.parent.parent
+CRATES = ROOT / "crates"
+# The seconds of a processor that a play may take.
 SECONDS = 60
 
 
@@ -134,10 +137,10 @@ def told(play: Play, said: str) -> str:
 def run(program: Path, play: Play) -> Optional[str]:
     """Plays a row: what is wrong with it, or nothing."""
     text = "".join(line.text + "\n" for line in play.lines)
-    try:
-        done = subprocess.run([str(program)], input=text, capture_output=True, text=True, timeout=SECONDS, check=False)
-    except subprocess.TimeoutExpired:
-        return told(play, f"no end after {SECONDS} seconds")
+    words = [str(ROOT / ".ci" / "bounded"), str(SECONDS), str(program)]
+    done = subprocess.run(words, input=text, capture_output=True, text=True, check=False)
+    if done.returncode == -signal.SIGXCPU:
+        return told(play, f"no end after {SECONDS} seconds of a processor")
     if done.returncode != 0:
         return told(play, done.stderr or f"status {done.returncode}")
     return None

@@ -7,6 +7,9 @@ The first line of a connection is the number of its room; each line after it goe
 
 It prints its address, and serves until SIGTERM or SIGINT. Then it prints how many crashes its rooms told it of, and what the
 run was. The file HISTORY gets the history of the run, which `pt_audit` judges. `chat_load.py` is the other end.
+
+All that a client may make the server keep has a bound. What goes beyond one is refused by a line that begins with `refused: `,
+and then the connection is closed (`bindings/bad_clients.py`).
 """
 
 from __future__ import annotations
@@ -23,8 +26,10 @@ from pundewo.runtime import (
     Address, Behaviour, Context, Down, Event, HistoryFile, Mailbox, Message, Next, RunOver, Runtime,
 )
 
-# How much is read at once, the longest line, and how much may wait for a client that does not read.
-READ, LONGEST, UNREAD = 2**12, 2**16, 2**22
+# How much is read at once, how long a line is at most, and how much may wait for a client that does not read, in bytes.
+READ, LONGEST, UNREAD = 2**12, 2**12, 2**18
+# How many connections are served at a time, and for how many seconds a client may read what it is told last.
+CONNECTIONS, LINGER = 500, 1.0
 # For how many seconds lines are gathered before they go out, and how many messages may wait before no more are read.
 GATHERS, WAITING = 0.05, 5_000
 
@@ -95,6 +100,7 @@ class Member(Behaviour):
             self.room = self.rooms[int(value.line)]
             cx.send(self.room, Join(cx.me))
         else:
+            self.connection.refuse("there is no such room")
             return Next.stop()
         return None
 
@@ -113,6 +119,7 @@ class Chat:
         self.written: list[Connection] = []
         # those of whom no more is read, and what reads on
         self.held: Deque[Connection] = deque()
+        self.served: set[Connection] = set()
         self.alarm: Optional[asyncio.TimerHandle] = None
 
     def write_soon(self, connection: Connection) -> None:
@@ -153,6 +160,7 @@ class Connection(asyncio.BufferedProtocol):
     def __init__(self, chat: Chat):
         self.chat = chat
         self.member: Optional[Address] = None
+        self.is_refused = False
         # the lines that came, and the beginning of the next; and what is to go out
         self.buffer = bytearray(READ)
         self.heard: Deque[bytes] = deque()
@@ -163,19 +171,40 @@ class Connection(asyncio.BufferedProtocol):
         assert isinstance(transport, asyncio.Transport)
         transport.set_write_buffer_limits(high=UNREAD)
         self.transport = transport
+        if len(self.chat.served) >= CONNECTIONS:
+            self.refuse(f"{CONNECTIONS} connections are open")
+            return
+        self.chat.served.add(self)
         try:
             self.member = self.chat.runtime.spawn(Member(self.chat.rooms, self))
-        except (Fault, RunOver):  # there are too many, or the run ends
-            transport.close()
+        except (Fault, RunOver) as fault:  # there are too many, or the run ends
+            self.refuse(str(fault))
+
+    def refuse(self, why: str) -> None:
+        """Tells the client why, and nothing more. What still comes is dropped for a while, since it would else lose that."""
+        if self.is_refused or self.transport.is_closing():
+            return
+        self.pass_on()
+        self.flush()
+        self.is_refused, self.came = True, b""
+        self.transport.write(f"refused: {why}\n".encode())
+        self.transport.write_eof()
+        self.transport.resume_reading()
+        self.chat.loop.call_later(LINGER, self.transport.abort)
 
     def get_buffer(self, sizehint: int) -> bytearray:
         return self.buffer
 
     def buffer_updated(self, nbytes: int) -> None:
+        if self.is_refused:
+            return
         *lines, self.came = (self.came + self.buffer[:nbytes]).split(b"\n")
-        self.heard.extend(lines)
-        if len(self.came) > LONGEST:
-            self.close()
+        for line in [*lines, self.came]:
+            if len(line) > LONGEST:
+                self.refuse(f"a line is longer than {LONGEST} bytes")
+                return
+            if line is not self.came:
+                self.heard.append(line)
         self.go_on()
 
     def go_on(self) -> None:
@@ -193,27 +222,34 @@ class Connection(asyncio.BufferedProtocol):
             self.member.send(value)
 
     def connection_lost(self, _: Optional[Exception]) -> None:
+        self.chat.served.discard(self)
+        self.pass_on()
+
+    def pass_on(self) -> None:
+        """Passes on what came, and that no more comes."""
         while self.heard:
             self.say(Heard(self.heard.popleft()))
         self.say(None)
 
     def pause_writing(self) -> None:
-        """A client that does not read is hung up."""
-        self.transport.abort()
+        self.refuse(f"more than {UNREAD} bytes wait to be read")
 
     def write(self, line: bytes) -> None:
+        if self.is_refused:
+            return
         if not self.lines:
             self.chat.write_soon(self)
         self.lines.append(line)
 
     def flush(self) -> None:
-        if self.lines and not self.transport.is_closing():
-            self.transport.write(b"".join(self.lines))
-        self.lines.clear()
+        lines, self.lines = self.lines, []
+        if lines and not (self.is_refused or self.transport.is_closing()):
+            self.transport.write(b"".join(lines))
 
     def close(self) -> None:
-        self.flush()
-        self.transport.close()
+        if not self.is_refused:
+            self.flush()
+            self.transport.close()
 
 
 async def count_crashes(news: Mailbox, crashed: list[Pid]) -> None:

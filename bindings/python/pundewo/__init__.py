@@ -299,7 +299,8 @@ class Desk(_Held):
         """Sets whether what this desk loses from now on is kept until `next_loss` tells of it. It is not at first.
 
         A desk loses what waits in a mailbox as its process exits, and each message that comes to a process that is not
-        alive. What was not told takes memory. A resumed desk goes on as it was set, with all that was not told.
+        alive. Each exit is a loss, also if nothing waited: its `items` are empty then. What was not told takes memory. A
+        resumed desk goes on as it was set, with all that was not told.
         """
         self._must(lib.pt_keep_losses, flag("on", on))
 

@@ -109,6 +109,22 @@ class Tick(NamedTuple):
 TIMEOUT, PROCEED = Tick("timeout"), Tick("proceed")
 
 
+class Holder(NamedTuple):
+    """A process that holds up the run: for so many seconds its handler has not returned, or had not when it did."""
+
+    pid: Pid
+    name: str
+    seconds: float
+
+    def __str__(self) -> str:
+        return f"{self.pid} of {self.name}, in its handler for {self.seconds:.1f} s"
+
+
+def held_up(text: str, holder: Optional[Holder]) -> str:
+    """The text, with who holds up the run."""
+    return text if holder is None else f"{text}: the run is held up by {holder}"
+
+
 class CallFault(Exception):
     """Why a call has no answer."""
 
@@ -125,10 +141,26 @@ class ServerDown(CallFault):
 
 
 class CallTimeout(CallFault, TimeoutError):
-    """There was no answer in time."""
+    """There was no answer in time. `holder` is whose handler held up the run meanwhile, if one did."""
 
-    def __init__(self) -> None:
-        super().__init__("there was no answer in time")
+    def __init__(self, holder: Optional[Holder] = None) -> None:
+        self.holder = holder
+        super().__init__(held_up("there was no answer in time", holder))
+
+    def __reduce__(self) -> tuple[Any, ...]:
+        return type(self), (self.holder,)
+
+
+class SpawnTimeout(TimeoutError):
+    """The run took no process in from another thread in time, and none is spawned. `holder` is whose handler held up the run
+    meanwhile, if one did."""
+
+    def __init__(self, holder: Optional[Holder] = None) -> None:
+        self.holder = holder
+        super().__init__(held_up("the process was not spawned in time", holder))
+
+    def __reduce__(self) -> tuple[Any, ...]:
+        return type(self), (self.holder,)
 
 
 class Unanswered(CallFault):
@@ -137,12 +169,18 @@ class Unanswered(CallFault):
     def __init__(self) -> None:
         super().__init__("the request was dropped unanswered")
 
+    def __reduce__(self) -> tuple[Any, ...]:
+        return type(self), ()
+
 
 class RunOver(CallFault):
     """The run is over, or ends and takes nothing in any more."""
 
     def __init__(self) -> None:
         super().__init__("the run is over")
+
+    def __reduce__(self) -> tuple[Any, ...]:
+        return type(self), ()
 
 
 class Call:
@@ -217,7 +255,8 @@ class Behaviour(ABC):
     """What a process does with what it is told. Its state is the value itself.
 
     An exception in `started` or `handle` is a crash: the process exits with CRASH, its monitors and links hear of it,
-    and the run goes on. A handler should not wait: while it does, all processes do.
+    and the run goes on. A handler should not wait: while it does, all processes do. One that held up the run for a second is
+    named in a warning of `logging`.
     """
 
     # whether it ends the processes that it has spawned, when it is told to exit

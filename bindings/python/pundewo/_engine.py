@@ -6,6 +6,7 @@ import logging
 import traceback
 from collections import deque
 from threading import get_ident
+from time import monotonic
 from typing import Any, Callable, Deque, Optional
 
 from . import Code, Config, Crew, Fault, Gathered, Item, Settled, gather, open_node
@@ -16,7 +17,7 @@ from ._behaviour import (
 )
 from ._library import CAnswer, CJob, item_of, reader, reason_of
 from ._process import WAITS, Address, Porter, Seat, bytes_of
-from ._sending import Sending, Task, kind_of
+from ._sending import HOLDS, Sending, Task, kind_of
 from .values import ITEMS, JOBS, KILL, NORMAL, SHUTDOWN, U8, Pick, Pid, Reason, Ref, unchecked
 
 log = logging.getLogger("pundewo")
@@ -47,7 +48,6 @@ class Engine(Sending):
         self.every, self.sink, self.patience = every, sink, patience
         # the thread that runs the processes, once there is one
         self.thread: Optional[int] = None
-        self.running: Optional[Seat] = None
         self.seats: dict[int, Seat] = {}
         self.inbox: Deque[Task] = deque()
         # what each desk's processes are told in this round: as the library wrote it, and what was read of that
@@ -88,19 +88,25 @@ class Engine(Sending):
             return False
         return self.send(self.porters[to.pid.shard if to._engine is self else 0], to, value)
 
-    def ask(self, to: Address, value: Any, limit: float, done: Callable[[Answer], None]) -> Call:
-        """A call from outside."""
+    def ask(self, to: Address, value: Any, done: Callable[[Answer], None]) -> Call:
+        """A call from outside. Whoever makes it waits as long as it likes, and then takes `give_up`."""
         call = Call(done)
-        self.post(lambda: self._begin_ask(call, to, value, limit))
+        self.post(lambda: self._begin_ask(call, to, value))
         return call
 
-    def _begin_ask(self, call: Call, to: Address, value: Any, limit: float) -> None:
+    def give_up(self, call: Call) -> None:
+        """A call from outside has ended without its answer: from now on an answer is refused, as one that comes too late."""
+        call.is_open = False
+        self.post(lambda: self.close(call))
+
+    def _begin_ask(self, call: Call, to: Address, value: Any) -> None:
+        # (also a call that was given up: what was asked is asked, in order)
         if self.order == OVER:
             self._resolve(Answer(call, None, RunOver()))
-        elif call.is_open:
+        else:
             self._outside.add(call)
             try:
-                self.call(self.pids[self.porters[to.pid.shard].pid], to, value, limit, call)
+                self.call(self.pids[self.porters[to.pid.shard].pid], to, value, None, call)
             except Fault as fault:
                 self._resolve(Answer(call, None, CallFault(f"the server was not asked: {fault}")))
 
@@ -233,6 +239,7 @@ class Engine(Sending):
                 raise Fault(turned.stopped, "turn")
             if crew.refused():
                 raise Fault(Code.MEMORY, "crew_step")
+        self.since = monotonic()
         while jobs:
             place, job = jobs.popleft()
             self._tell(number, place, job)
@@ -295,7 +302,11 @@ class Engine(Sending):
             if isinstance(error, HALTS):
                 raise
         finally:
-            self.running = None
+            # (the next handler begins as this one has returned: so the clock is read once for each)
+            self.running, now = None, monotonic()
+            if now - self.since > HOLDS:
+                self.note_holder(seat, now)
+            self.since = now
 
     def _run(self, seat: Seat, code: int, job: CJob) -> bytes:
         """The same for what is told more rarely than a message."""
@@ -377,6 +388,7 @@ class Engine(Sending):
             self._untold = True
         for call in list(seat.calls.values()):
             self.close(call)
+        self.since, self.running = monotonic(), seat
         try:
             seat.behaviour.ended(why)
         except BaseException as error:
@@ -384,6 +396,10 @@ class Engine(Sending):
             if isinstance(error, HALTS):
                 raise
         finally:
+            self.running, now = None, monotonic()
+            if now - self.since > HOLDS:
+                self.note_holder(seat, now)
+            self.since = now
             # (a context refers to its seat, so what the behaviour has would else stay until Python looks for cycles)
             del seat.behaviour
 

@@ -127,7 +127,7 @@ class CHolder(c.Structure):
 
 class CCall(c.Structure):
     _fields_ = [("client", CPid), ("server", CPid), ("monitor", CRef), ("has_deadline", c.c_bool), ("waits", c.c_bool),
-                ("deadline", c.c_uint64)]
+                ("left_open", c.c_bool), ("deadline", c.c_uint64)]
 
 
 class CRequest(c.Structure):
@@ -203,6 +203,10 @@ lib = load()
 BUILD = build_of(lib)
 
 
+# The calls that do not begin with a handle.
+_BARE = ("open", "gather", "crews_go_on", "teams_go_on", "request_of", "is_call")
+
+
 def _declare() -> None:
     p, flag, size = c.POINTER, c.c_bool, c.c_size_t
     calls: dict[str, list[Any]] = {
@@ -255,6 +259,7 @@ def _declare() -> None:
         "names_name_of": [CPid, p(CName)], "names_len": [p(size)],
         "ask": [CPid, CPid, c.c_uint32, p(CCall)], "ask_until": [CPid, CPid, c.c_uint32, c.c_uint64, p(CCall)],
         "hear": [p(CCall), CItem, p(CHeard)], "expire": [p(CCall), c.c_uint64, p(flag)], "request_of": [CItem, p(CRequest)],
+        "is_call": [CPid, CItem, p(flag)],
         "reply": [CPid, CRequest, c.c_uint32], "letters_out": [p(c.c_uint64)], "has_letters": [p(flag)],
         "door_open": [p(CHandle), c.c_uint32], "door_give_up": [], "way_in_give_up": [], "door_post": [CPost],
         "way_in_take": [p(CPost)], "way_in_len": [p(size)],
@@ -264,7 +269,7 @@ def _declare() -> None:
         call = getattr(lib, "pt_" + name, None)
         if call is None:
             raise other(f"is {BUILD}, and has no call pt_{name}")
-        call.argtypes = words if name in ("open", "gather", "crews_go_on", "teams_go_on", "request_of") else [p(CHandle), *words]
+        call.argtypes = words if name in _BARE else [p(CHandle), *words]
         call.restype = c.c_uint32
 
 

@@ -4,13 +4,14 @@ from __future__ import annotations
 
 import asyncio
 from threading import get_ident
+from time import monotonic
 from typing import TYPE_CHECKING, Any, Optional, Union
 
 from . import Desk, Fault
 from . import Next as Does
 from ._library import CAnswer, CPid, c_next
 from ._behaviour import (
-    GO_ON, MESSAGE, OVER, Alarm, Answer, Behaviour, Call, Down, Event, Request, RunOver, seconds,
+    GO_ON, MESSAGE, OVER, Alarm, Answer, Behaviour, Call, CallTimeout, Down, Event, Request, RunOver, seconds,
 )
 from .values import ANY, NOPROC, SHUTDOWN, Pid, Reason, Ref, flag, number, of_type
 
@@ -59,9 +60,11 @@ class Address:
         """Asks the process from an asyncio program, and returns what it answers. It may be of any thread.
 
         CallFault: `CallTimeout` if there is no answer for so many seconds, `ServerDown` with its reason if the process has
-        exited, `Unanswered` if it dropped the request, `RunOver`.
+        exited, `Unanswered` if it dropped the request, `RunOver`. On another thread than that of the run the time is kept
+        whatever the handlers of the run do.
         """
-        loop = asyncio.get_running_loop()
+        engine, limit = self._engine, seconds("limit", limit)
+        loop, began = asyncio.get_running_loop(), monotonic()
         future: asyncio.Future[Answer] = loop.create_future()
 
         def resolve(answer: Answer) -> None:
@@ -74,21 +77,28 @@ class Address:
             except RuntimeError:  # that loop is closed
                 pass
 
-        call = self._engine.ask(self, value, seconds("limit", limit), done)
+        def late() -> None:
+            if not future.done():
+                engine.give_up(call)
+                future.set_result(Answer(call, None, CallTimeout(engine.blame(began))))
+
+        call = engine.ask(self, value, done)
+        alarm = loop.call_later(limit, late)
         try:
             return (await future).result()
         finally:
+            alarm.cancel()
             if call.is_open:
-                self._engine.post(lambda: self._engine.close(call))
+                engine.give_up(call)
 
 
 class Timer:
     """What is sent later, by which it is taken back."""
 
-    __slots__ = ("_alarm",)
+    __slots__ = ("_alarm", "_engine")
 
-    def __init__(self, alarm: Alarm):
-        self._alarm = alarm
+    def __init__(self, alarm: Alarm, engine: Engine):
+        self._alarm, self._engine = alarm, engine
 
     def __repr__(self) -> str:
         return f"<Timer {self._alarm}>"
@@ -161,11 +171,14 @@ class Context:
         return engine
 
     def _pid_of(self, field: str, target: Union[Address, Pid]) -> Pid:
-        if isinstance(target, Address):
-            if target._engine is not self._engine:
-                raise ValueError(f"{field} is {target} of another run, which can only be sent to")
-            return target.pid
-        return of_type(field, target, Pid)
+        return self._engine.own(field, target).pid if isinstance(target, Address) else of_type(field, target, Pid)
+
+    def _mortal(self, field: str, target: Union[Address, Pid]) -> Pid:
+        """The same of a process that may exit."""
+        pid = self._pid_of(field, target)
+        if self._engine.is_porter(pid):
+            raise ValueError(f"{field} is {pid}, which sends what comes from outside, and does not exit")
+        return pid
 
     def _desk(self) -> Desk:
         engine = self._here()
@@ -191,11 +204,13 @@ class Context:
         """Sends a message after so many seconds: Erlang's `send_after`. It comes also if this process has exited."""
         engine, time = self._here(), seconds("time", time)
         of_type("to", to, Address)
-        return Timer(engine.set_alarm(time, lambda: engine.send_from_outside(to, value)))
+        return Timer(engine.set_alarm(time, lambda: engine.send_from_outside(to, value)), engine)
 
     def cancel(self, timer: Timer) -> bool:
-        """Takes back what was to be sent later. It returns False if that was sent or taken back before."""
-        return self._here().cancel_alarm(of_type("timer", timer, Timer)._alarm)
+        """Takes back what was to be sent later. It returns False if that was sent or taken back before, or is another
+        run's."""
+        engine = self._here()
+        return of_type("timer", timer, Timer)._engine is engine and engine.cancel_alarm(timer._alarm)
 
     def spawn(self, behaviour: Behaviour, linked: bool = False) -> Address:
         """Spawns a child on the same desk, which is linked with this process from the first if `linked` is set.
@@ -228,7 +243,7 @@ class Context:
 
         Fault: NOPROC if that is known to have exited, UNKNOWN, WORN, MEMORY.
         """
-        self._desk().link(self.pid, self._pid_of("to", to))
+        self._desk().link(self.pid, self._mortal("to", to))
 
     def unlink(self, to: Union[Address, Pid]) -> None:
         """Takes the link with another process away: Erlang's `unlink/1`."""
@@ -239,10 +254,7 @@ class Context:
     def exit(self, to: Union[Address, Pid], reason: Reason = SHUTDOWN) -> None:
         """Sends an exit signal: Erlang's `exit/2`. KILL ends any process. Any other reason but NORMAL ends a process that
         does not trap exits. To end this process itself, return `Next.stop`."""
-        pid = self._pid_of("to", to)
-        if self._engine.is_porter(pid):
-            raise ValueError(f"{pid} sends what comes from outside, and does not exit")
-        self._desk().exit_signal(self.pid, pid, reason)
+        self._desk().exit_signal(self.pid, self._mortal("to", to), reason)
 
     def trap(self, on: bool = True) -> bool:
         """Sets whether this process traps exits, which it gets as `Exit`, and returns whether it did before."""
@@ -255,7 +267,7 @@ class Context:
         Fault: MYSELF, UNKNOWN, WORN, MEMORY.
         """
         engine, limit = self._here(), seconds("limit", limit)
-        self._pid_of("to", of_type("to", to, Address))
+        engine.own("to", to)
         return engine.call(self._seat, to, value, limit, Call())
 
     def reply(self, request: Request, value: Any) -> bool:

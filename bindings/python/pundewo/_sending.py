@@ -3,18 +3,25 @@
 from __future__ import annotations
 
 import heapq
-import time
+import logging
+from time import monotonic
 from typing import Any, Callable, Optional
 
 from . import Code, Desk, Fault
 from ._behaviour import (
-    ANSWER, GO_ON, MESSAGE, NEWS, OVER, REQUEST, Alarm, Answer, Call, CallTimeout, Event, Request, ServerDown, Unanswered,
+    ANSWER, GO_ON, MESSAGE, NEWS, OVER, REQUEST, Alarm, Answer, Call, CallTimeout, Event, Holder, Request, ServerDown,
+    Unanswered,
 )
 from ._library import CBody
 from ._process import Address, Seat
-from .values import NOPROC, U8, U32, Pid, Ref
+from .values import NOPROC, U8, U32, Pid, Ref, of_type
+
+log = logging.getLogger("pundewo")
 
 Task = Callable[[], object]
+
+# After how many seconds a handler holds up the run: it is named to those whose time is over, and it is logged.
+HOLDS, SLOW = 0.1, 1.0
 
 
 def kind_of(number: int) -> int:
@@ -41,7 +48,12 @@ class Sending:
         self._alarms: dict[Alarm, Task] = {}
         self._times: list[tuple[int, Alarm]] = []
         self._inside = False
-        self._began = time.monotonic()
+        # the process whose handler runs, and since when; the last one that held up the run, and until when
+        self.running: Optional[Seat] = None
+        self.since = self._began = monotonic()
+        self._held: Optional[tuple[Holder, float]] = None
+        # the handler of which was warned, by its beginning
+        self._warned = 0.0
         # what is sent next, as the library takes it
         self._body = CBody()
 
@@ -69,6 +81,12 @@ class Sending:
 
     def is_porter(self, pid: Pid) -> bool:
         return pid.shard < len(self.porters) and self.porters[pid.shard].pid == pid
+
+    def own(self, field: str, address: Address) -> Address:
+        """The address, which is one of this run."""
+        if of_type(field, address, Address)._engine is not self:
+            raise ValueError(f"{field} is {address} of another run, which can only be sent to")
+        return address
 
     def touch(self) -> None:
         """Something was done. If that was outside of a round, there has to be another."""
@@ -106,16 +124,23 @@ class Sending:
             self.desks[seat.pid.shard].demonitor(seat.pid, monitor, True)
         self.touch()
 
-    def call(self, seat: Seat, to: Address, value: Any, limit: float, call: Call) -> Call:
-        """Asks a process in the name of another. The call ends once."""
+    def call(self, seat: Seat, to: Address, value: Any, limit: Optional[float], call: Call) -> Call:
+        """Asks a process in the name of another. The call ends once. Without a limit its end is the client's own."""
         call.client, call.server = seat, to.pid
         monitor = self.monitor(seat, to.pid)
         if monitor is None:
             self.news(seat, lambda _: Answer(call, None, ServerDown(NOPROC)))
             return call
         call.monitor, seat.calls[monitor] = monitor, call
-        call.alarm = self.set_alarm(limit, lambda: self.answer(call, None, Answer(call, None, CallTimeout())))
-        self.carry(REQUEST, seat.cx.me, to, Request(self, call, seat.pid, value))
+        if limit is not None:
+            began = monotonic()
+            call.alarm = self.set_alarm(
+                limit, lambda: self.answer(call, None, Answer(call, None, CallTimeout(self.blame(began)))))
+        try:
+            self.carry(REQUEST, seat.cx.me, to, Request(self, call, seat.pid, value))
+        except BaseException:  # nothing was asked, so nothing comes of it
+            self.close(call)
+            raise
         return call
 
     def answer(self, call: Call, sender: Optional[Address], answer: Answer) -> bool:
@@ -149,11 +174,37 @@ class Sending:
             if seat.pid in self.pids and self.order != OVER:
                 self.demonitor(seat, monitor)
 
+    # Who holds up the run
+
+    def holder(self, least: float) -> Optional[Holder]:
+        """The process whose handler has run for so many seconds at least. (another thread may ask: then the process is read
+        before the time, which is later if another handler has begun meanwhile)"""
+        seat, since = self.running, self.since
+        seconds = monotonic() - since
+        return None if seat is None or seconds < least else Holder(seat.pid, seat.cx.me.name, seconds)
+
+    def note_holder(self, seat: Seat, now: float) -> None:
+        """A handler has returned that held up the run."""
+        holder = Holder(seat.pid, seat.cx.me.name, now - self.since)
+        self._held = holder, now
+        if holder.seconds > SLOW:
+            log.warning("the run was held up by %s", holder)
+
+    def blame(self, began: float) -> Optional[Holder]:
+        """Who holds up the run, or did since then, on any thread. A handler that still runs is warned of once."""
+        since, holder, held = self.since, self.holder(HOLDS), self._held
+        if holder is None:
+            return held[0] if held is not None and held[1] > began else None
+        if self._warned != since:
+            self._warned = since
+            log.warning("the run is held up by %s", holder)
+        return holder
+
     # Times
 
     def now(self) -> int:
         """The time, in millionths of a second since the run was made."""
-        return int((time.monotonic() - self._began) * 1e6)
+        return int((monotonic() - self._began) * 1e6)
 
     def _at(self, limit: float) -> int:
         return self.now() + int(limit * 1e6) + 1

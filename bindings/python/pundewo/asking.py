@@ -15,17 +15,17 @@
 from __future__ import annotations
 
 import ctypes as c
-from typing import NamedTuple, Optional
+from typing import Any, NamedTuple, Optional
 
-from . import Desk, _fault, _Held
+from . import Desk, Fault, _fault, _Held
 from ._library import (
     CCall, CHandle, CHeard, CItem, CPost, CRequest, body_of, c_body, c_item, c_pid, lib, pid_of, reason_of, ref_of,
 )
 from .values import I64, U32, U64, Body, Code, Item, Pid, Reason, Ref, number, of_type
 
 __all__ = [
-    "Call", "Door", "HEARD", "Heard", "Post", "Request", "WayIn", "ask", "has_letters", "letters_out", "reply", "request_of",
-    "way_in",
+    "AskFault", "Call", "Door", "HEARD", "Heard", "Post", "Request", "WayIn", "ask", "has_letters", "is_call", "letters_out",
+    "reply", "request_of", "way_in",
 ]
 
 # What an item means to a call.
@@ -47,6 +47,18 @@ class Heard(NamedTuple):
     name: str
     answer: Optional[int] = None
     reason: Optional[Reason] = None
+
+
+class AskFault(Fault):
+    """A request that was not sent. `left_open` is the monitor of the call, if cancelling it failed too. `Desk.demonitor`
+    cancels it."""
+
+    def __init__(self, code: Code, call: str = "", pids: tuple[Pid, ...] = (), left_open: Optional[Ref] = None):
+        super().__init__(code, call, pids)
+        self.left_open = None if left_open is None else of_type("left_open", left_open, Ref)
+
+    def __reduce__(self) -> tuple[Any, ...]:
+        return type(self), (self.code, self.call, self.pids, self.left_open)
 
 
 class Call:
@@ -87,9 +99,15 @@ class Call:
         """The moment at which its client has to call `expire`: the deadline, if it has one and is open."""
         return self._call.deadline if self._call.waits and self._call.has_deadline else None
 
+    @property
+    def left_open(self) -> Optional[Ref]:
+        """The monitor that could not be cancelled as the call ended, for want of memory or stamps: `Desk.demonitor` cancels
+        it. If it is left, its DOWN may arrive, which is late."""
+        return self.monitor if self._call.left_open else None
+
     def hear(self, desk: Desk, item: Item) -> Heard:
         """Reads an item that the client got, and returns what it means to this call. If the call ends by it, its monitor is
-        cancelled. Fault: EMPTY."""
+        cancelled, or `left_open` has it. Fault: EMPTY."""
         words = c_item("item", item)
         out = of_type("desk", desk, Desk)._give(lib.pt_hear, CHeard(), c.byref(self._call), words)
         name = HEARD[out.code]
@@ -97,7 +115,7 @@ class Call:
 
     def expire(self, desk: Desk, now: int) -> bool:
         """Reports the time, and returns whether the call ends by its deadline now: it is open, and the deadline is not above
-        `now`. Its monitor is cancelled then. Show the call first what waits in the mailbox. Fault: EMPTY."""
+        `now`. Its monitor is cancelled then, as by `hear`. Show the call first what waits in the mailbox. Fault: EMPTY."""
         moment = number("now", now, 0, U64)
         return of_type("desk", desk, Desk)._give(lib.pt_expire, c.c_bool(), c.byref(self._call), moment).value
 
@@ -105,14 +123,18 @@ class Call:
 def ask(desk: Desk, me: Pid, server: Pid, asks: int, until: Optional[int] = None) -> Call:
     """Asks a server: monitors it, and sends it the request. With `until` the call ends at that moment if it is open then.
 
-    Fault: as `Desk.monitor`, and nothing is asked then; WORN and MEMORY too if the request was not sent, and the monitor is
-    cancelled then.
+    AskFault: as `Desk.monitor`, and nothing is asked then; WORN and MEMORY too if the request was not sent. The monitor is
+    cancelled then, or `left_open` of the fault has it.
     """
-    words = c_pid("me", me), c_pid("server", server), number("asks", asks, 0, U32)
-    if until is None:
-        return Call(of_type("desk", desk, Desk)._give(lib.pt_ask, CCall(), *words))
-    moment = number("until", until, 0, U64)
-    return Call(of_type("desk", desk, Desk)._give(lib.pt_ask_until, CCall(), *words, moment))
+    words: tuple[Any, ...] = (c_pid("me", me), c_pid("server", server), number("asks", asks, 0, U32))
+    if until is not None:
+        words += (number("until", until, 0, U64),)
+    call = Call(CCall())
+    try:
+        of_type("desk", desk, Desk)._give(lib.pt_ask if until is None else lib.pt_ask_until, call._call, *words)
+    except Fault as fault:
+        raise AskFault(fault.code, fault.call, fault.pids, call.left_open) from None
+    return call
 
 
 def request_of(item: Item) -> Optional[Request]:
@@ -122,6 +144,20 @@ def request_of(item: Item) -> Optional[Request]:
     if code not in (Code.OK, Code.NOTHING):
         raise _fault(lib.pt_request_of, (), code)
     return Request(pid_of(out.sender), out.asks, out.number) if code == Code.OK else None
+
+
+def is_call(me: Pid, item: Item) -> bool:
+    """Whether an item that `me` got is a message of a call: a request, which names its own sender, or an answer, which names
+    `me`. The kind of such a message is what is asked, or the answer itself.
+
+    So ask this before you read a kind as one of your own. A message of your own is told too if its body names its sender or its
+    receiver, so send none that does. A DOWN is an item as any: `Call.hear` reads that of a call.
+    """
+    out = c.c_bool()
+    code = lib.pt_is_call(c_pid("me", me), c_item("item", item), c.byref(out))
+    if code:
+        raise _fault(lib.pt_is_call, (), code)
+    return out.value
 
 
 def reply(desk: Desk, me: Pid, request: Request, answer: int) -> None:
@@ -153,7 +189,7 @@ class Post(NamedTuple):
 
 class Door(_Held):
     """The end of a way in that a thread without a desk holds. What is taken out at the other end is what was handed in here,
-    in order, each message once. No call waits, and none wakes another thread."""
+    in order, each message once. No call waits, and none wakes another thread. Once the other end is closed, `post` fails."""
 
     _give_up = "pt_door_give_up"
 
@@ -162,7 +198,10 @@ class Door(_Held):
         self._handle.at = of_type("handle", handle, CHandle).at
 
     def post(self, post: Post) -> bool:
-        """Hands in a message, and returns whether the door knew of a free place. If not, nothing has changed. Fault: EMPTY."""
+        """Hands in a message, and returns whether the door knew of a free place. If not, nothing has changed.
+
+        Fault: GONE if the other end was closed, and nothing has changed; EMPTY.
+        """
         to, body = of_type("post", post, Post)
         code = self._call(lib.pt_door_post, CPost(c_pid("post.to", to), c_body("post.body", body)))
         if code not in (Code.OK, Code.FULL):
@@ -194,7 +233,7 @@ class WayIn(_Held):
 
 
 def way_in(places: int) -> tuple[Door, WayIn]:
-    """Makes a way in with so many places. Fault: MEMORY."""
+    """Makes a way in with so many places, at least one. Fault: BAD_PLACES if `places` is 0; MEMORY."""
     door, entry = CHandle(), CHandle()
     code = lib.pt_door_open(c.byref(door), c.byref(entry), number("places", places, 0, U32))
     if code:

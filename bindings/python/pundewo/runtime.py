@@ -37,13 +37,15 @@ import asyncio
 import concurrent.futures
 import threading
 from collections import deque
+from time import monotonic
 from typing import Any, Callable, Deque, NamedTuple, Optional, TypeVar
 
 from . import Config
 from ._archive import HistoryFile, Sink
 from ._behaviour import (
     ANSWER, CRASH, GO_ON, KILLS, MESSAGE, OVER, PROCEED, REQUEST, STOP, TIMEOUT, Answer, Behaviour, Call, CallFault,
-    CallTimeout, Down, Event, Exit, Message, Next, Request, RunOver, ServerDown, Tick, Unanswered, behaviour_of, seconds,
+    CallTimeout, Down, Event, Exit, Holder, Message, Next, Request, RunOver, ServerDown, SpawnTimeout, Tick, Unanswered,
+    behaviour_of, held_up, seconds,
 )
 from ._engine import Engine
 from ._process import Address, Context, Timer
@@ -55,14 +57,28 @@ from .values import NORMAL, U8, U64, Pid, Reason, flag, number, of_type
 __all__ = [
     "ANSWER", "BRUTAL_KILL", "CRASH", "INFINITY", "MESSAGE", "PROCEED", "REQUEST", "TIMEOUT", "WHICH_CHILDREN", "Address",
     "Answer", "Behaviour", "Call", "CallFault", "CallTimeout", "Child", "Context", "DeleteChild", "Down", "Event", "Exit",
-    "HistoryFile", "Mailbox", "Message", "Next", "NotEnded", "Request", "RestartChild", "RunOver", "Runtime", "ServerDown",
-    "Sink", "StartChild", "Summary", "Supervisor", "TerminateChild", "Tick", "Timer", "Unanswered",
+    "HistoryFile", "Holder", "Mailbox", "Message", "Next", "NotEnded", "Request", "RestartChild", "RunOver", "Runtime",
+    "ServerDown", "Sink", "SpawnTimeout", "StartChild", "Summary", "Supervisor", "TerminateChild", "Tick", "Timer",
+    "Unanswered",
 ]
 
 T = TypeVar("T")
 
 # For how many millionths of a second a run that is busy goes on before the rest of an asyncio program has its turn.
 SLICE = 2_000
+
+
+def is_late(future: concurrent.futures.Future[Any], limit: float) -> bool:
+    """Waits for what is to come for so many seconds at most, and returns whether it is late. Then, and if this thread is
+    interrupted, nobody waits for it any more: it is cancelled, unless it is coming just now."""
+    try:
+        future.exception(limit)
+        return False
+    except concurrent.futures.TimeoutError:
+        return future.cancel()
+    except BaseException:
+        future.cancel()
+        raise
 
 
 class Summary(NamedTuple):
@@ -77,11 +93,14 @@ class Summary(NamedTuple):
 
 
 class NotEnded(Exception):
-    """A run that is not over in time, with the process whose handler was running then, if one was."""
+    """A run that is not over in time. `holder` is the process whose handler was running then, if one was."""
 
-    def __init__(self, pid: Optional[Pid], name: str):
-        self.pid, self.name = pid, name
-        super().__init__("the run is not over" if pid is None else f"the run is not over: {pid} of {name} is in a handler")
+    def __init__(self, holder: Optional[Holder] = None):
+        self.holder = holder
+        super().__init__(held_up("the run is not over", holder))
+
+    def __reduce__(self) -> tuple[Any, ...]:
+        return type(self), (self.holder,)
 
 
 class Runtime:
@@ -110,13 +129,16 @@ class Runtime:
 
     # What those outside do
 
-    def spawn(self, behaviour: Behaviour, desk: Optional[int] = None) -> Address:
-        """Spawns a process from any thread, on this desk or on each in turn.
+    def spawn(self, behaviour: Behaviour, desk: Optional[int] = None, limit: float = 5.0) -> Address:
+        """Spawns a process from any thread, on this desk or on each in turn. Another thread than that of the run waits for it
+        for so many seconds at most.
 
-        Fault: FULL if no slot is free, WORN, MEMORY. RunOver if the run is stopped.
+        Fault: FULL if no slot is free, WORN, MEMORY. RunOver if the run is stopped. SpawnTimeout if the time is over, and then
+        nothing is spawned.
         """
         engine, count = self._engine, len(self._engine.crews)
         behaviour_of(behaviour)
+        limit = seconds("limit", limit)
         place = number("desk", self._next_desk if desk is None else desk, 0, count - 1)
         if desk is None:
             self._next_desk = (place + 1) % count
@@ -128,36 +150,55 @@ class Runtime:
             engine.touch()
             return address
 
-        return self._here(spawn)
+        return self._here(spawn, limit)
 
-    def _here(self, work: Callable[[], T]) -> T:
-        """What this returns on the thread of the run."""
+    def _here(self, work: Callable[[], T], limit: float) -> T:
+        """What this returns on the thread of the run. SpawnTimeout if it has not begun in time, and then it never does."""
         with self._lock:
             if self._engine.thread is None:
                 return work()
         if self._engine.is_here():
             return work()
         future: concurrent.futures.Future[T] = concurrent.futures.Future()
+        began = monotonic()
 
         def task() -> None:
-            try:
-                future.set_result(work())
-            except Exception as error:
-                future.set_exception(error)
+            if future.set_running_or_notify_cancel():
+                try:
+                    future.set_result(work())
+                except Exception as error:
+                    future.set_exception(error)
 
         self._engine.post(task)
+        if is_late(future, limit):
+            raise SpawnTimeout(self._engine.blame(began))
         return future.result()
 
     def call(self, to: Address, value: Any, limit: float = 5.0) -> Any:
-        """Asks a process from another thread, and waits for its answer; `Address.call` is for an asyncio program.
+        """Asks a process of the run from another thread, and waits for its answer for so many seconds at most, whatever the
+        handlers of the run do. `Address.call` is for an asyncio program, and fails in the same ways.
 
-        It fails as that does. RuntimeError on the thread of the run, which would wait for itself.
+        RuntimeError on the thread of the run, which would wait for itself.
         """
-        engine, limit = of_type("to", to, Address)._engine, seconds("limit", limit)
+        engine, limit = self._engine, seconds("limit", limit)
+        engine.own("to", to)
         if engine.is_here():
             raise RuntimeError("this thread runs the processes: await Address.call, or take Context.call in a behaviour")
         future: concurrent.futures.Future[Answer] = concurrent.futures.Future()
-        engine.ask(to, value, limit, future.set_result)
+        began = monotonic()
+
+        def done(answer: Answer) -> None:
+            if future.set_running_or_notify_cancel():
+                future.set_result(answer)
+
+        call = engine.ask(to, value, done)
+        try:
+            is_over = is_late(future, limit)
+        finally:
+            if future.cancelled():
+                engine.give_up(call)
+        if is_over:
+            raise CallTimeout(engine.blame(began))
         return future.result().result()
 
     def mailbox(self, desk: Optional[int] = None) -> Mailbox:
@@ -169,13 +210,13 @@ class Runtime:
         self._engine.post(lambda: self._engine.end(STOP))
 
     def wait(self, limit: Optional[float] = None) -> Summary:
-        """Waits on another thread until the run is over. NotEnded if it is not after so many seconds."""
+        """Waits on another thread until the run is over. NotEnded if it is not after so many seconds, with the process whose
+        handler is running then."""
         limit = None if limit is None else seconds("limit", limit)
         if self._engine.is_here():
             raise RuntimeError("this thread runs the processes, and would wait for itself")
         if not self._over.wait(limit):
-            seat = self._engine.running
-            raise NotEnded(None, "") if seat is None else NotEnded(seat.pid, seat.cx.me.name)
+            raise NotEnded(self._engine.holder(0.0))
         return self.summary()
 
     def waiting(self) -> int:
@@ -359,8 +400,7 @@ class Mailbox:
 
     def monitor(self, target: Address) -> None:
         """Monitors a process, of which the mailbox gets a `Down`."""
-        if of_type("target", target, Address)._engine is not self._engine:
-            raise ValueError(f"target is {target} of another run, which can only be sent to")
+        self._engine.own("target", target)
         self._post(lambda cx: cx.monitor(target))
 
     def close(self) -> None:

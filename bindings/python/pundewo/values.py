@@ -110,6 +110,7 @@ class Code(IntEnum):
     BAD_NAME = 19
     TAKEN = 20
     HAS_NAME = 21
+    BAD_PLACES = 22
 
 
 # A named tuple of checked fields without the checks, for fields that the library wrote.
@@ -350,7 +351,8 @@ class _Loss(NamedTuple):
 class Loss(_Checked, _Loss):
     """What a desk lost by one event: items that nobody will ever take.
 
-    `reason` is that of the exit of the process, and None if it was not alive as the message came.
+    `reason` is that of the exit of the process, and None if it was not alive as the message came. An exit is a loss also if
+    nothing waited: `items` is empty then.
     """
 
     __slots__ = ()

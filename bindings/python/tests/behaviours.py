@@ -15,14 +15,17 @@ import pundewo as p
 from pundewo import runtime as r
 
 log = logging.getLogger("pundewo")
-AUDIT = Path(__file__).resolve().parents[3] / "bin" / "pt_audit"
+ROOT = Path(__file__).resolve().parents[3]
+AUDIT = ROOT / "bin" / "pt_audit"
+# (ends it after 100 seconds of a processor)
+BOUNDED = [ROOT / ".ci" / "bounded", "100"]
 
 
 def audit(test: unittest.TestCase, file: Path) -> None:
     """Has the history judged, if the program that does is built."""
     if AUDIT.exists():
         with open(file, "rb") as history:
-            judged = subprocess.run([AUDIT], stdin=history, capture_output=True, timeout=100, check=False)
+            judged = subprocess.run([*BOUNDED, AUDIT], stdin=history, capture_output=True, check=False)
         test.assertTrue(judged.stdout.startswith(b"legal"), judged.stdout)
 
 

@@ -8,7 +8,7 @@ from collections.abc import Callable
 from typing import Any
 
 import pundewo as p
-from pundewo.asking import Call, Heard, Post, Request, ask, has_letters, letters_out, reply, request_of, way_in
+from pundewo.asking import Call, Heard, Post, Request, ask, has_letters, is_call, letters_out, reply, request_of, way_in
 
 
 class CallsTest(unittest.TestCase):
@@ -49,6 +49,26 @@ class CallsTest(unittest.TestCase):
             Heard("not-mine"), Heard("server-down", None, p.Reason("other", 7))))
         self.assertEqual(third.hear(desk, down), Heard("late"))
         self.assertEqual(repr(third), f"<Call of {client} to {server}, ended>")
+
+    def test_the_messages_of_calls_are_told(self) -> None:
+        """An answer is told from a message whose kind is the same number, also where nobody keeps its call."""
+        desk, client, server = self.desk, self.client, self.server
+        ask(desk, client, server, 3)
+        request = self.receive(server)
+        self.assertEqual((is_call(server, request), is_call(client, request)), (True, True))
+        words = request_of(request)
+        assert words is not None
+        reply(desk, server, words, 3)
+        desk.send(server, client, p.Body(3, 0))
+        answer, message = self.receive(client), self.receive(client)
+        kinds = [item.body.kind for item in (answer, message) if item.body is not None]
+        self.assertEqual(kinds, [3, 3])
+        self.assertEqual([is_call(client, item) for item in (answer, message)], [True, False])
+        self.assertFalse(is_call(server, answer))       # it names another process
+        desk.exit(server)
+        self.assertFalse(is_call(client, self.receive(client)))     # a DOWN is no message
+        self.assertRaises(TypeError, is_call, None, message)
+        self.assertRaises(TypeError, is_call, client, None)
 
     def test_refusals(self) -> None:
         desk, client, server = self.desk, self.client, self.server
@@ -114,6 +134,22 @@ class WayInTest(unittest.TestCase):
             with self.assertRaises(p.Fault) as caught:
                 call()
             self.assertEqual(caught.exception.code, p.Code.EMPTY)
+
+    def test_a_door_whose_way_in_was_closed_says_so(self) -> None:
+        for handed_in in (0, 1, 2):
+            door, entry = way_in(2)
+            post = Post(p.Pid(0, 1, 1), p.Body(3, 7))
+            self.assertEqual([door.post(post) for _ in range(handed_in)], [True] * handed_in)
+            entry.close()
+            for _ in range(3):
+                with self.assertRaises(p.Fault) as caught:
+                    door.post(post)
+                self.assertEqual((caught.exception.code, str(caught.exception)), (p.Code.GONE, "Door.post(): gone"))
+
+    def test_a_way_in_has_a_place_at_least(self) -> None:
+        with self.assertRaises(p.Fault) as caught:
+            way_in(0)
+        self.assertEqual((caught.exception.code, str(caught.exception)), (p.Code.BAD_PLACES, "way_in(): bad_places"))
 
 
 if __name__ == "__main__":

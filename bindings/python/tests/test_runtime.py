@@ -495,7 +495,9 @@ class Stops(unittest.TestCase):
         run.stop()
         with self.assertRaises(r.NotEnded) as caught:
             run.wait(0.1)
-        self.assertEqual((caught.exception.pid, caught.exception.name), (address.pid, "Stuck"))
+        holder = caught.exception.holder
+        self.assertEqual(None if holder is None else holder[:2], (address.pid, "Stuck"))
+        self.assertIn("the run is held up by <0.1.1> of Stuck, in its handler for ", str(caught.exception))
         leave.set()
         run.wait(5)
         thread.join()

@@ -109,7 +109,7 @@ CALLS: dict[str, dict[str, dict[str, Domain]]] = {
     "Runtime": {
         "": {"desks": Ints(0, 255), "slots": Ints(1, 65_535), "lane": WORD, "going_on_every": Ints(1, 2**64 - 1), "archive": SINK,
              "patience": SECONDS},
-        "spawn": {"behaviour": BEHAVIOUR, "desk": MAYBE_DESK}, "call": {**CALL, "to": ANY_ADDRESS},
+        "spawn": {"behaviour": BEHAVIOUR, "desk": MAYBE_DESK, "limit": SECONDS}, "call": CALL,
         "mailbox": {"desk": MAYBE_DESK}, "wait": {"limit": MAYBE_SECONDS}, "run": {"forever": FLAG},
         "stop": {}, "waiting": {}, "summary": {}, "close": {}, "ended": {},
     },
@@ -138,8 +138,8 @@ CALLS: dict[str, dict[str, dict[str, Domain]]] = {
     "HistoryFile": {"": {"path": PATH}}, "Request": {"reply": {"value": VALUE}}, "Answer": {"result": {}},
 }
 # What the run makes and a program reads, and what a program writes itself.
-READ = {"Call", "CallFault", "CallTimeout", "Child", "Down", "Exit", "Message", "NotEnded", "RunOver", "ServerDown", "Summary", "Tick",
-        "Timer", "Unanswered"}
+READ = {"Call", "CallFault", "CallTimeout", "Child", "Down", "Exit", "Holder", "Message", "NotEnded", "RunOver", "ServerDown",
+        "SpawnTimeout", "Summary", "Tick", "Timer", "Unanswered"}
 WRITTEN = {"Behaviour"}
 
 

@@ -198,7 +198,7 @@ class BadInput(unittest.TestCase):
             works: list[tuple[type[Exception], Callable[[], object]]] = [
                 (p.Fault, lambda: cx.monitor(cx.me)), (p.Fault, lambda: cx.monitor(p.Pid(9, 0, 1))),
                 (p.Fault, lambda: cx.call(cx.me, 1)), (p.Fault, lambda: cx.link(p.Pid(9, 0, 1))),
-                (ValueError, lambda: cx.exit(porter, p.KILL)),
+                (ValueError, lambda: cx.exit(porter, p.KILL)), (ValueError, lambda: cx.link(porter.pid)),
             ]
             for error, work in works:
                 with self.assertRaises(error):

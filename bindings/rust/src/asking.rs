@@ -4,6 +4,9 @@ use crate::raw::{self, Handle, RawCall, RawHeard, RawItem, RawPost, RawRequest};
 use crate::{Body, Desk, Fault, Held, Item, NONE, NOTHING, OK, Pid, Reason, Ref, fault_of, found, told};
 use std::fmt;
 
+/// What a door answers once its way in was given up.
+const GONE: u32 = Fault::Gone as u32;
+
 /// A request that arrived: who asks, what, and the number that its answer carries.
 #[derive(Clone, Copy, Debug, PartialEq, Eq, Hash)]
 pub struct Request {
@@ -22,6 +25,30 @@ impl Request {
         // SAFETY: the item is of plain numbers, and the reference is to a value of this call.
         let code = unsafe { raw::pt_request_of(item.into(), &mut out) };
         found(code, Request { from: out.from, asks: out.asks, number: out.number })
+    }
+}
+
+impl Item {
+    /// Whether this item, which `me` got, is a message of a call: a request, which names its own sender, or an answer, which
+    /// names `me`. The kind of such a message is what is asked, or the answer itself.
+    ///
+    /// So ask this before you read a kind as one of your own. A message of your own is told too if its body names its sender
+    /// or its receiver, so send none that does. A `DOWN` is an item as any: [`Call::hear`] reads that of a call.
+    ///
+    /// ```
+    /// use pundewo::{Body, Item, Pid};
+    ///
+    /// let [me, other] = [1, 2].map(|slot| Pid { shard: 0, slot, version: 1 });
+    /// let message = |who| Item::User(other, Body { kind: 3, num: 7, who });
+    /// assert!(message(Some(other)).is_call(me)); // a request
+    /// assert!(message(Some(me)).is_call(me)); // an answer, and 3 is what was answered
+    /// assert!(!message(None).is_call(me)); // a message of the kind 3
+    /// ```
+    pub fn is_call(self, me: Pid) -> bool {
+        let mut out = false;
+        // SAFETY: the item is of plain numbers, and the reference is to a value of this call.
+        unsafe { raw::pt_is_call(me, self.into(), &mut out) };
+        out
     }
 }
 
@@ -103,8 +130,14 @@ impl Call {
         (self.raw.waits && self.raw.has_deadline).then_some(self.raw.deadline)
     }
 
+    /// The monitor that could not be cancelled as the call ended, for want of memory or stamps: [`Desk::demonitor`] cancels
+    /// it. If it is left, its `DOWN` may arrive, which is [`Heard::Late`].
+    pub fn left_open(&self) -> Option<Ref> {
+        self.raw.left_open.then_some(self.raw.monitor.into())
+    }
+
     /// Reads an item that the client got, and returns what it means to this call. If the call ends by it, its monitor is
-    /// cancelled. The desk is that of the client.
+    /// cancelled, or [`left_open`](Call::left_open) returns it. The desk is that of the client.
     pub fn hear(&mut self, desk: &mut Desk, item: Item) -> Heard {
         let mut out = RawHeard::default();
         unsafe { raw::pt_hear(desk.handle.own(), &mut self.raw, item.into(), &mut out) };
@@ -112,12 +145,46 @@ impl Call {
     }
 
     /// Reports the time, and returns whether the call ends by its deadline now: it is open, and the deadline is not above
-    /// `now`. Its monitor is cancelled then. Show the call first what waits in the mailbox: an answer that arrives later is
-    /// [`Heard::Late`].
+    /// `now`. Its monitor is cancelled then, as in [`hear`](Call::hear). Show the call first what waits in the mailbox: an
+    /// answer that arrives later is [`Heard::Late`].
     pub fn expire(&mut self, desk: &mut Desk, now: u64) -> bool {
         let mut out = false;
         unsafe { raw::pt_expire(desk.handle.own(), &mut self.raw, now, &mut out) };
         out
+    }
+}
+
+/// Why a request was not sent.
+#[derive(Clone, Copy, Debug, PartialEq, Eq, Hash)]
+pub struct AskFault {
+    /// Why the request was not sent.
+    pub fault: Fault,
+    /// The monitor of the call, if cancelling it failed too: [`Desk::demonitor`] cancels it. If it is left, its `DOWN` may
+    /// arrive, and belongs to no call.
+    pub left_open: Option<Ref>,
+}
+
+impl fmt::Display for AskFault {
+    fn fmt(&self, f: &mut fmt::Formatter<'_>) -> fmt::Result {
+        self.fault.fmt(f)?;
+        if self.left_open.is_some() { f.write_str(", and its monitor is still open") } else { Ok(()) }
+    }
+}
+
+impl std::error::Error for AskFault {}
+
+impl From<AskFault> for Fault {
+    fn from(asked: AskFault) -> Fault {
+        asked.fault
+    }
+}
+
+/// The call that was asked, or why it was not.
+fn asked(code: u32, raw: RawCall) -> Result<Call, AskFault> {
+    let call = Call { raw };
+    match told(code) {
+        Ok(()) => Ok(call),
+        Err(fault) => Err(AskFault { fault, left_open: call.left_open() }),
     }
 }
 
@@ -127,11 +194,11 @@ impl Desk {
     /// # Errors
     ///
     /// As [`monitor`](Desk::monitor), and nothing is asked then; [`Fault::Worn`] and [`Fault::Memory`] too if the request
-    /// was not sent, and the monitor is cancelled then.
-    pub fn ask(&mut self, me: Pid, server: Pid, asks: u32) -> Result<Call, Fault> {
+    /// was not sent. The monitor is cancelled then, or [`AskFault::left_open`] has it.
+    pub fn ask(&mut self, me: Pid, server: Pid, asks: u32) -> Result<Call, AskFault> {
         let mut raw = RawCall::default();
-        told(unsafe { raw::pt_ask(self.handle.own(), me, server, asks, &mut raw) })?;
-        Ok(Call { raw })
+        let code = unsafe { raw::pt_ask(self.handle.own(), me, server, asks, &mut raw) };
+        asked(code, raw)
     }
 
     /// Asks a server, by a call that ends at a moment if it is open then. The moment is a time of the program's own clock,
@@ -140,10 +207,10 @@ impl Desk {
     /// # Errors
     ///
     /// As [`ask`](Desk::ask).
-    pub fn ask_until(&mut self, me: Pid, server: Pid, asks: u32, deadline: u64) -> Result<Call, Fault> {
+    pub fn ask_until(&mut self, me: Pid, server: Pid, asks: u32, deadline: u64) -> Result<Call, AskFault> {
         let mut raw = RawCall::default();
-        told(unsafe { raw::pt_ask_until(self.handle.own(), me, server, asks, deadline, &mut raw) })?;
-        Ok(Call { raw })
+        let code = unsafe { raw::pt_ask_until(self.handle.own(), me, server, asks, deadline, &mut raw) };
+        asked(code, raw)
     }
 
     /// Answers a request: Erlang's `gen_server:reply`, at once or later.
@@ -187,7 +254,7 @@ pub struct Post {
 /// The end of a way in that a thread without a desk holds, as a socket's reader.
 ///
 /// What is taken out at the [`WayIn`] is what was handed in here, in order, each message once. No call waits, and none wakes
-/// another thread.
+/// another thread. Once the [`WayIn`] is dropped, [`post`](Door::post) fails with [`PostError::Gone`].
 ///
 /// ```
 /// use pundewo::{Body, Post, Pid, way_in};
@@ -201,6 +268,35 @@ pub struct Post {
 pub struct Door {
     handle: Held,
 }
+
+/// Why a message was not handed in, with the message.
+#[derive(Clone, Copy, Debug, PartialEq, Eq, Hash)]
+pub enum PostError {
+    /// The door knows of no free place. The call may be made again.
+    Full(Post),
+    /// The [`WayIn`] was dropped: nobody takes anything out any more.
+    Gone(Post),
+}
+
+impl PostError {
+    /// The message that was not handed in.
+    pub fn into_post(self) -> Post {
+        match self {
+            PostError::Full(post) | PostError::Gone(post) => post,
+        }
+    }
+}
+
+impl fmt::Display for PostError {
+    fn fmt(&self, f: &mut fmt::Formatter<'_>) -> fmt::Result {
+        f.write_str(match self {
+            PostError::Full(_) => "the door knows of no free place",
+            PostError::Gone(_) => "the way in was given up",
+        })
+    }
+}
+
+impl std::error::Error for PostError {}
 
 /// The end of a way in that the thread of a desk holds.
 pub struct WayIn {
@@ -233,11 +329,11 @@ impl Drop for WayIn {
     }
 }
 
-/// Makes a way in with so many places.
+/// Makes a way in with so many places, at least one.
 ///
 /// # Errors
 ///
-/// [`Fault::Memory`], if there is none.
+/// [`Fault::BadPlaces`], if `places` is 0; [`Fault::Memory`], if there is none.
 pub fn way_in(places: u32) -> Result<(Door, WayIn), Fault> {
     let (mut door, mut way_in): (Handle, Handle) = (NONE, NONE);
     // SAFETY: both handles are empty.
@@ -247,16 +343,18 @@ pub fn way_in(places: u32) -> Result<(Door, WayIn), Fault> {
 
 // SAFETY of the calls below: the handle is the only one of what it has, and this call alone has it.
 impl Door {
-    /// Hands in a message.
+    /// Hands in a message. It waits in the way in then, and is dropped with it if nobody takes it out before.
     ///
     /// # Errors
     ///
-    /// The message, if the door knows of no free place. Nothing has changed then.
-    pub fn post(&mut self, post: Post) -> Result<(), Post> {
+    /// The message comes back, and nothing has changed: with [`PostError::Gone`] if the [`WayIn`] was dropped, and otherwise
+    /// with [`PostError::Full`] if the door knows of no free place.
+    pub fn post(&mut self, post: Post) -> Result<(), PostError> {
         let raw = RawPost { to: post.to, body: post.body.into() };
         match unsafe { raw::pt_door_post(self.handle.own(), raw) } {
             OK => Ok(()),
-            _ => Err(post),
+            GONE => Err(PostError::Gone(post)),
+            _ => Err(PostError::Full(post)),
         }
     }
 }
@@ -289,9 +387,7 @@ impl From<Item> for RawItem {
             Item::Down(monitor, pid, reason) => {
                 RawItem { code: 2, pid, reference: monitor.into(), reason: reason.into(), ..blank }
             }
-            Item::Alive(question, pid, alive) => {
-                RawItem { code: 3, alive, pid, reference: question.into(), ..blank }
-            }
+            Item::Alive(question, pid, alive) => RawItem { code: 3, alive, pid, reference: question.into(), ..blank },
         }
     }
 }

@@ -76,13 +76,14 @@ pub mod team;
 mod tools;
 mod values;
 
-pub use asking::{Call, Door, Heard, Post, Request, WayIn, way_in};
+pub use asking::{AskFault, Call, Door, Heard, Post, PostError, Request, WayIn, way_in};
 pub use crew::{Crew, Job, Next, Node, NodeBack, NotTaken, What, go_on};
 pub use iterators::{Events, Journal, LeftOvers, Links, Living, Monitors, Pids, Waiting, Watchers};
 pub use reading::NotRead;
 pub use tools::{Fired, Holder, NameFault, Names, Timer, Timers};
 pub use values::{
-    Account, Body, Config, Event, Fault, Happened, Ids, Item, LeftOver, LinkId, Loss, Pick, Pid, Reason, Ref, Signal, Turned,
+    Account, Body, Config, Event, Fault, Happened, Ids, Item, LeftOver, LinkId, Loss, Pick, Pid, Reason, Ref, Signal,
+    Turned,
 };
 
 use raw::{Handle, RawAccount, RawIds, RawItem, RawLoss, RawRef, RawTurned};
@@ -150,6 +151,7 @@ fn fault_of(code: u32) -> Fault {
         16 => Fault::BadCode,
         17 => Fault::NotRunning,
         18 => Fault::WrongDesk,
+        22 => Fault::BadPlaces,
         _ => unreachable!("the library answered {code}"),
     }
 }
@@ -433,7 +435,8 @@ impl Desk {
     /// Sets whether what this desk loses from now on is kept until [`Desk::next_loss`] tells of it. It is not at first.
     ///
     /// A desk loses what waits in a mailbox as its process exits, and each message that comes to a process that is not
-    /// alive. What was not told takes memory. A resumed desk goes on as it was set, with all that was not told.
+    /// alive. Each exit is a loss, also if nothing waited: its `items` are empty then. What was not told takes memory. A
+    /// resumed desk goes on as it was set, with all that was not told.
     #[inline]
     pub fn keep_losses(&mut self, on: bool) {
         unsafe { raw::pt_keep_losses(self.handle.own(), on) };
@@ -451,11 +454,7 @@ impl Desk {
             items.push(item.into());
         }
         unsafe { raw::pt_next_loss(self.handle.own()) };
-        Some(Loss {
-            pid: out.pid,
-            reason: out.has_exited.then(|| out.reason.into()),
-            items,
-        })
+        Some(Loss { pid: out.pid, reason: out.has_exited.then(|| out.reason.into()), items })
     }
 
     /// Takes the first item that matches out of the mailbox of p, and `None` if none does: Erlang's `receive .. after 0`.

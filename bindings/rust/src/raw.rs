@@ -191,6 +191,7 @@ pub struct RawCall {
     pub monitor: RawRef,
     pub has_deadline: bool,
     pub waits: bool,
+    pub left_open: bool,
     pub deadline: u64,
 }
 
@@ -303,10 +304,21 @@ unsafe extern "C" {
     pub fn pt_crew_give_up(crew: &mut Handle) -> u32;
     pub fn pt_crew_spawn(crew: &mut Handle, h: &mut Handle, tag: u64, first: RawNext, out: &mut Pid) -> u32;
     pub fn pt_crew_spawn_child(
-        crew: &mut Handle, h: &mut Handle, parent: Pid, linked: bool, tag: u64, first: RawNext, out: &mut Pid,
+        crew: &mut Handle,
+        h: &mut Handle,
+        parent: Pid,
+        linked: bool,
+        tag: u64,
+        first: RawNext,
+        out: &mut Pid,
     ) -> u32;
     pub fn pt_crew_step(
-        crew: &mut Handle, h: &mut Handle, budget: u32, jobs: *mut RawJob, most: usize, count: &mut usize,
+        crew: &mut Handle,
+        h: &mut Handle,
+        budget: u32,
+        jobs: *mut RawJob,
+        most: usize,
+        count: &mut usize,
         turned: &mut RawTurned,
     ) -> u32;
     pub fn pt_crew_answer(crew: &mut Handle, answers: *const RawAnswer, count: usize, taken: &mut usize) -> u32;
@@ -314,8 +326,13 @@ unsafe extern "C" {
     pub fn pt_crew_set_time(crew: &mut Handle, now: u64) -> u32;
     pub fn pt_crew_begin_again(crew: &mut Handle) -> u32;
     pub fn pt_crews_go_on(
-        crews: *mut Handle, crew_count: usize, desks: *mut Handle, desk_count: usize, gathered: &mut Handle,
-        settled: &mut Handle, history: &mut Handle,
+        crews: *mut Handle,
+        crew_count: usize,
+        desks: *mut Handle,
+        desk_count: usize,
+        gathered: &mut Handle,
+        settled: &mut Handle,
+        history: &mut Handle,
     ) -> u32;
     pub fn pt_crew_next_time(crew: &mut Handle, out: &mut u64) -> u32;
     pub fn pt_crew_tag(crew: &mut Handle, p: Pid, out: &mut u64) -> u32;
@@ -347,6 +364,7 @@ unsafe extern "C" {
     pub fn pt_hear(h: &mut Handle, call: &mut RawCall, item: RawItem, out: &mut RawHeard) -> u32;
     pub fn pt_expire(h: &mut Handle, call: &mut RawCall, now: u64, out: &mut bool) -> u32;
     pub fn pt_request_of(item: RawItem, out: &mut RawRequest) -> u32;
+    pub fn pt_is_call(me: Pid, item: RawItem, out: &mut bool) -> u32;
     pub fn pt_reply(h: &mut Handle, me: Pid, request: RawRequest, answer: u32) -> u32;
     pub fn pt_letters_out(h: &mut Handle, out: &mut u64) -> u32;
     pub fn pt_has_letters(h: &mut Handle, out: &mut bool) -> u32;
@@ -431,17 +449,37 @@ unsafe extern "C" {
     pub fn pt_team_give_up(team: &mut Handle) -> u32;
     pub fn pt_team_spawn(team: &mut Handle, h: &mut Handle, tag: u64, first: RawNext, out: &mut Pid) -> u32;
     pub fn pt_team_spawn_child(
-        team: &mut Handle, h: &mut Handle, parent: Pid, linked: bool, tag: u64, first: RawNext, out: &mut Pid,
+        team: &mut Handle,
+        h: &mut Handle,
+        parent: Pid,
+        linked: bool,
+        tag: u64,
+        first: RawNext,
+        out: &mut Pid,
     ) -> u32;
     pub fn pt_team_spawn_supervisor(
-        team: &mut Handle, h: &mut Handle, tag: u64, spec: RawSupervisorSpec, children: *const RawChildSpec, count: usize,
+        team: &mut Handle,
+        h: &mut Handle,
+        tag: u64,
+        spec: RawSupervisorSpec,
+        children: *const RawChildSpec,
+        count: usize,
         out: &mut Pid,
     ) -> u32;
     pub fn pt_team_supervise(
-        team: &mut Handle, p: Pid, spec: RawSupervisorSpec, children: *const RawChildSpec, count: usize,
+        team: &mut Handle,
+        p: Pid,
+        spec: RawSupervisorSpec,
+        children: *const RawChildSpec,
+        count: usize,
     ) -> u32;
     pub fn pt_team_step(
-        team: &mut Handle, h: &mut Handle, budget: u32, notices: *mut RawNotice, most: usize, count: &mut usize,
+        team: &mut Handle,
+        h: &mut Handle,
+        budget: u32,
+        notices: *mut RawNotice,
+        most: usize,
+        count: &mut usize,
         turned: &mut RawTurned,
     ) -> u32;
     pub fn pt_team_answer(team: &mut Handle, answers: *const RawAnswer, count: usize, taken: &mut usize) -> u32;
@@ -450,8 +488,13 @@ unsafe extern "C" {
     pub fn pt_team_begin_again(team: &mut Handle) -> u32;
     pub fn pt_team_go_on(team: &mut Handle, history: &mut Handle) -> u32;
     pub fn pt_teams_go_on(
-        teams: *mut Handle, team_count: usize, desks: *mut Handle, desk_count: usize, gathered: &mut Handle,
-        settled: &mut Handle, history: &mut Handle,
+        teams: *mut Handle,
+        team_count: usize,
+        desks: *mut Handle,
+        desk_count: usize,
+        gathered: &mut Handle,
+        settled: &mut Handle,
+        history: &mut Handle,
     ) -> u32;
     pub fn pt_team_next_time(team: &mut Handle, out: &mut u64) -> u32;
     pub fn pt_team_tag(team: &mut Handle, p: Pid, out: &mut u64) -> u32;

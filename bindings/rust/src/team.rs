@@ -32,7 +32,8 @@ pub use crate::runtime::Restart;
 use crate::crew::{GoOn, GoesOn};
 use crate::raw::{self, Handle, RawAnswer, RawChild, RawChildSpec, RawNext, RawNotice, RawSupervisorSpec, RawTurned};
 use crate::{
-    Desk, Fault, Held, History, Item, Job, Loss, NONE, Next, Node, NodeBack, NotTaken, OK, Pid, Reason, Turned, What, fault_of, found, told,
+    Desk, Fault, Held, History, Item, Job, Loss, NONE, Next, Node, NodeBack, NotTaken, OK, Pid, Reason, Turned, What,
+    fault_of, found, told,
 };
 use std::fmt;
 

@@ -119,10 +119,7 @@ fn a_desk_tells_what_it_lost_once() {
     let desk = &mut quiet.resume().unwrap()[0];
     let items = |nums: &[i64]| nums.iter().map(|num| pundewo::Item::User(a, body(*num))).collect::<Vec<_>>();
     let told = std::iter::from_fn(|| desk.next_loss()).map(|loss| (loss.pid, loss.reason, loss.items));
-    let wanted = [
-        (b, Some(Reason::Shutdown), items(&[1, 2])),
-        (b, None, items(&[3])),
-        (a, Some(Reason::Other(7)), items(&[])),
-    ];
+    let wanted =
+        [(b, Some(Reason::Shutdown), items(&[1, 2])), (b, None, items(&[3])), (a, Some(Reason::Other(7)), items(&[]))];
     assert_eq!(told.collect::<Vec<_>>(), wanted);
 }

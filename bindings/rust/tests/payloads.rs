@@ -175,7 +175,11 @@ fn storm(runtime: &Runtime, ledger: &Arc<Ledger>, lives: &Arc<AtomicU64>, epochs
         assert!(Instant::now() < until);
         match runtime.spawn(Chaotic::new(draw, ledger, lives)) {
             Ok(process) => peers.push(process),
-            Err(_) => peers.iter().step_by(7).for_each(|peer| runtime.exit(peer, Reason::Kill)),
+            Err(_) => {
+                for peer in peers.iter().step_by(7) {
+                    runtime.exit(peer, Reason::Kill).expect("a process of this run");
+                }
+            }
         }
         peers.drain(..peers.len().saturating_sub(40));
         for (peer, other) in peers.iter().zip(peers.iter().rev()) {

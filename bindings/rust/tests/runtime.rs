@@ -9,7 +9,7 @@ use std::sync::mpsc::{Receiver, Sender, channel};
 use std::sync::{Arc, Mutex};
 use std::time::{Duration, Instant};
 
-const LONG: Duration = Duration::from_secs(20);
+const LONG: Duration = Duration::from_secs(120);
 
 type Error = Box<dyn std::error::Error>;
 
@@ -573,8 +573,139 @@ fn nothing_comes_in_once_a_run_is_over() -> Result<(), Error> {
     assert!(!listener.send(7) && heard.recv().is_err());
     assert_eq!(handle.spawn(acts::<(), _>(|_, _| Next::DONE)).err(), Some(SpawnFault::Over));
     assert_eq!(handle.call(&listener, LONG, |_: Reply<u8>| 7), Err(CallFault::Dropped));
-    handle.exit(&listener, Reason::Kill);
+    assert_eq!(handle.exit(&listener, Reason::Kill), Ok(()));
     assert!(handle.is_over());
+    Ok(())
+}
+
+/// A desk whose handler does not return, and what is asked of it from outside.
+#[test]
+fn what_is_asked_of_a_desk_that_is_held_up_ends_in_time() -> Result<(), Error> {
+    const SHORT: Duration = Duration::from_millis(30);
+    let runtime = start(2);
+    let (enter, entered) = channel();
+    let (leave, left) = channel::<()>();
+    let stuck = runtime.spawn_on(
+        0,
+        acts(move |_, event| {
+            if event.is_some() {
+                enter.send(()).expect("a test");
+                let _ = left.recv();
+            }
+            Next::Wait
+        }),
+    )?;
+    let server = runtime.spawn_on(0, server())?;
+    stuck.send(());
+    got(&entered);
+    let (dropped, drops) = channel();
+    for _ in 0..3 {
+        let held = Held(dropped.clone());
+        let spawns = acts::<(), _>(move |_, _| {
+            let _of = &held;
+            Next::Wait
+        });
+        let fault = runtime.spawn_within(SHORT, 0, spawns).expect_err("a desk that is held up");
+        let SpawnFault::Timeout(Some((pid, name))) = fault else { panic!("{fault}") };
+        assert!(
+            pid == stuck.pid() && name.contains("Acts<") && fault.to_string().contains("is held up by <0.1.1>, a ")
+        );
+        assert_eq!(runtime.call(&server, SHORT, |reply| Asked::Double(21, reply)), Err(CallFault::Timeout));
+    }
+    assert!(runtime.spawn_within(LONG, 1, acts::<(), _>(|_, _| Next::DONE)).is_ok() && drops.try_recv().is_err());
+    leave.send(())?;
+    assert_eq!(runtime.call(&server, LONG, |reply| Asked::Double(21, reply)), Ok(42));
+    (0..3).for_each(|_| got(&drops));
+    assert!(runtime.spawn_within(LONG, 0, acts::<(), _>(|_, _| Next::DONE)).is_ok());
+    assert_eq!(runtime.stop()?.spawned, 4);
+    Ok(())
+}
+
+/// Threads spawn with times that are about as long as it takes: each process that is spawned has its address.
+#[test]
+fn spawns_that_end_in_time_and_others_are_counted() -> Result<(), Error> {
+    let runtime = start(2);
+    let naps = runtime.spawn_on(
+        0,
+        acts::<u64, _>(|_, event| {
+            if let Some(Event::Message(micros)) = event {
+                std::thread::sleep(Duration::from_micros(micros));
+            }
+            Next::Wait
+        }),
+    )?;
+    let (mut spawned, mut late) = (1, 0);
+    std::thread::scope(|threads| {
+        let spawners: Vec<_> = (0..4_u64)
+            .map(|seed| {
+                let (handle, naps) = (runtime.handle(), naps.clone());
+                threads.spawn(move || {
+                    (0..300_u64)
+                        .filter(|turn| {
+                            naps.send((turn * 37 + seed * 101) % 400);
+                            let short = Duration::from_micros((turn * 53 + seed * 11) % 700);
+                            let limit = if turn % 10 == 9 { LONG } else { short };
+                            match handle.spawn_within(limit, 0, acts::<(), _>(|_, _| Next::DONE)) {
+                                Ok(_) => true,
+                                Err(SpawnFault::Timeout(_)) => false,
+                                Err(fault) => panic!("{fault}"),
+                            }
+                        })
+                        .count() as u64
+                })
+            })
+            .collect();
+        for spawner in spawners {
+            let count = spawner.join().expect("a count");
+            (spawned, late) = (spawned + count, late + 300 - count);
+        }
+    });
+    assert!(spawned > 1 && late > 0, "{spawned} spawned, and {late} late");
+    assert_eq!(runtime.stop_within(LONG)?.spawned, spawned);
+    Ok(())
+}
+
+/// Tells as it is dropped.
+struct Held(Sender<()>);
+
+impl Drop for Held {
+    fn drop(&mut self) {
+        let _ = self.0.send(());
+    }
+}
+
+/// A thread that has only a handle ends the run, for which another waits.
+#[test]
+fn a_handle_stops_a_run() -> Result<(), Error> {
+    let runtime = start(2);
+    let (give, told) = channel();
+    for desk in [0, 1] {
+        let give = give.clone();
+        let traps = acts::<(), _>(move |cx, event| match event {
+            None => {
+                cx.trap_exits(true).expect("a flag");
+                Next::Wait
+            }
+            Some(Event::Exit(exit)) => {
+                give.send(exit.reason).expect("a test");
+                Next::Stop(exit.reason)
+            }
+            Some(_) => Next::Wait,
+        });
+        runtime.spawn_on(desk, traps)?;
+    }
+    let handle = runtime.handle();
+    let stops = std::thread::spawn(move || {
+        handle.stop();
+        handle.stop();
+        handle
+    });
+    assert_eq!(runtime.wait()?.spawned, 2);
+    assert_eq!((got(&told), got(&told)), (Reason::Shutdown, Reason::Shutdown));
+    let handle = stops.join().expect("a handle");
+    // (a run that is over is told nothing)
+    handle.stop();
+    assert!(handle.is_over() && told.try_recv().is_err());
     Ok(())
 }
 

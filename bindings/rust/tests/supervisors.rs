@@ -3,7 +3,7 @@
 
 use pundewo::runtime::{
     Address, Behaviour, Call, Child, ChildFault, ChildInfo, Context, Event, Name, Next, PANIC, Pid, Reason, Restart,
-    Runtime, Shutdown, StopFault, Supervisor, ToSupervisor,
+    Runtime, Shutdown, StopFault, Supervisor, Target, ToSupervisor,
 };
 use pundewo::{Fault, History};
 use std::sync::atomic::{AtomicI64, AtomicU64, Ordering::SeqCst};
@@ -11,7 +11,7 @@ use std::sync::mpsc::{Receiver, Sender, channel};
 use std::sync::{Arc, Once};
 use std::time::{Duration, Instant};
 
-const LONG: Duration = Duration::from_secs(20);
+const LONG: Duration = Duration::from_secs(120);
 
 type Error = Box<dyn std::error::Error>;
 
@@ -153,7 +153,7 @@ impl Scene {
     }
 
     /// Why a process exits.
-    fn watch(&self, process: impl Into<Pid>) -> Receiver<Reason> {
+    fn watch(&self, process: impl Into<Target>) -> Receiver<Reason> {
         let (give, get) = channel();
         let (ready, watched) = channel();
         self.runtime.spawn(Watcher { process: process.into(), give, ready }).expect("a watcher");
@@ -170,7 +170,7 @@ impl Scene {
 
 /// Tells why a process exits.
 struct Watcher {
-    process: Pid,
+    process: Target,
     give: Sender<Reason>,
     ready: Sender<()>,
 }
@@ -301,7 +301,7 @@ fn a_child_is_started_again_as_its_restart_type_says() {
     scene.hears(&["-q other:1", "+q"]);
     awaited(&names[1]).send(Do::Crash);
     scene.hears(&["-q crash", "+q"]);
-    scene.runtime.exit(&awaited(&names[1]), Reason::Kill);
+    scene.runtime.exit(&awaited(&names[1]), Reason::Kill).expect("a signal");
     scene.hears(&["-q killed", "+q"]);
     awaited(&names[2]).send(Do::Crash);
     scene.hears(&["-t crash"]);
@@ -388,7 +388,7 @@ fn no_restart_is_made_if_the_limit_is_none() {
     let supervisor = scene.spawn(scene.three(Supervisor::one_for_one().limit(0, LONG)));
     scene.hears(&["+a", "+b", "+c"]);
     let exits = scene.watch(&supervisor);
-    scene.runtime.exit(scene.pids(&supervisor)[0].expect("a child"), Reason::Kill);
+    scene.runtime.exit(scene.pids(&supervisor)[0].expect("a child"), Reason::Kill).expect("a signal");
     scene.hears(&["-a killed", "-c shutdown", "-b shutdown"]);
     assert_eq!(got(&exits), Reason::Shutdown);
     scene.stop();
@@ -446,7 +446,7 @@ fn an_exit_signal_of_its_parent_ends_it_and_one_of_another_does_not() {
     got(&get);
     scene.hears(&["+o"]);
     assert!(scene.pids(&supervisor).iter().all(Option::is_some));
-    scene.runtime.exit(&supervisor, Reason::Other(7));
+    scene.runtime.exit(&supervisor, Reason::Other(7)).expect("a signal");
     scene.hears(&["-c shutdown", "-b shutdown", "-a shutdown"]);
     assert_eq!(got(&exits), Reason::Other(7));
     scene.stop();
@@ -482,7 +482,7 @@ fn a_child_that_does_not_exit_in_time_is_killed() {
     let supervisor = scene.spawn(supervisor);
     scene.hears(&["+a", "+s", "+k", "+w", "+f"]);
     let (begun, exits) = (Instant::now(), scene.watch(&supervisor));
-    scene.runtime.exit(&supervisor, Reason::Shutdown);
+    scene.runtime.exit(&supervisor, Reason::Shutdown).expect("a signal");
     scene.hears(&["?f shutdown", "-f shutdown", "?w shutdown", "-w shutdown", "-k killed", "?s shutdown", "-s killed"]);
     scene.hears(&["-a shutdown"]);
     assert_eq!(got(&exits), Reason::Shutdown);
@@ -518,7 +518,7 @@ fn a_sibling_that_does_not_exit_is_killed_and_started_again() {
         awaited(&a).send(Do::Crash);
         scene.hears(&["-a crash", "?s shutdown", "-s killed", "+a", "+s"]);
     }
-    scene.runtime.exit(&supervisor, Reason::Kill);
+    scene.runtime.exit(&supervisor, Reason::Kill).expect("a signal");
     // (a process that traps exits outlives its supervisor, which was killed)
     scene.hears(&["-a killed", "?s killed"]);
     let fault = scene.runtime.stop_within(Duration::from_millis(100)).expect_err("a process that stays");
@@ -827,7 +827,7 @@ fn a_killed_supervisor_takes_its_children_along() {
     let scene = Scene::new();
     let supervisor = scene.spawn(scene.three(Supervisor::one_for_one()));
     scene.hears(&["+a", "+b", "+c"]);
-    scene.runtime.exit(&supervisor, Reason::Kill);
+    scene.runtime.exit(&supervisor, Reason::Kill).expect("a signal");
     scene.hears(&["-a killed", "-b killed", "-c killed"]);
     scene.stop();
 }
@@ -880,7 +880,7 @@ fn a_child_whose_supervisor_is_killed_as_the_run_stops_is_told_by_the_run() {
     let (handle, Scene { runtime, notes, give }) = (scene.runtime.handle(), scene);
     let kills = std::thread::spawn(move || {
         let first = got(&notes);
-        handle.exit(&supervisor, Reason::Kill);
+        handle.exit(&supervisor, Reason::Kill).expect("a signal");
         let others = [got(&notes), got(&notes)];
         (first, others)
     });

@@ -60,7 +60,10 @@ fn children_are_started_again() -> Result<(), Fault> {
     let told = run(&mut team, desk);
     let first = pids(&team, boss);
     assert_eq!(told, [starts(first[0], 10, boss, false), starts(first[1], 11, boss, false)]);
-    assert_eq!((team.len(), team.tag(boss), team.tag(first[1]), team.next(first[0])), (3, Some(5), Some(11), Some(ANY)));
+    assert_eq!(
+        (team.len(), team.tag(boss), team.tag(first[1]), team.next(first[0])),
+        (3, Some(5), Some(11), Some(ANY))
+    );
     desk.exit(first[0], CRASH)?;
     let told = run(&mut team, desk);
     let second = pids(&team, boss);
@@ -82,7 +85,8 @@ fn strategies_end_others() -> Result<(), Fault> {
         let mut desks = open(1, Config::default())?;
         let desk = &mut desks[0];
         let mut team = Team::new(desk)?;
-        let boss = team.spawn_supervisor(desk, 0, SupervisorSpec { strategy, ..spec() }, &[1, 2, 3].map(ChildSpec::new))?;
+        let boss =
+            team.spawn_supervisor(desk, 0, SupervisorSpec { strategy, ..spec() }, &[1, 2, 3].map(ChildSpec::new))?;
         run(&mut team, desk);
         let before = pids(&team, boss);
         desk.exit(before[1], CRASH)?;
@@ -245,7 +249,8 @@ fn structs_and_codes_are_the_librarys() {
     }
     let pid = |first: u8| Pid { shard: first, slot: u32::from(first) + 1, version: u32::from(first) + 2 };
     assert_eq!([codes.strategies, codes.restarts, codes.shutdowns], [[0, 1, 2]; 3]);
-    let sizes = [size_of::<RawSupervisorSpec>(), size_of::<RawChildSpec>(), size_of::<RawChild>(), size_of::<RawNotice>()];
+    let sizes =
+        [size_of::<RawSupervisorSpec>(), size_of::<RawChildSpec>(), size_of::<RawChild>(), size_of::<RawNotice>()];
     assert_eq!([codes.supervisor_spec, codes.child_spec, codes.child, codes.notice], sizes);
     assert_eq!((spec.strategy, spec.timed, spec.has_parent), (1, true, true));
     assert_eq!((spec.parent, spec.most, spec.span), (pid(4), 7, 8));

@@ -1,9 +1,7 @@
 //! Printed texts read back: random values of each type, and each text with a random slip in it, which is refused or is
 //! the printed text of another value.
 
-use pundewo::{
-    Body, Event, Happened, Ids, Item, LeftOver, LinkId, NotRead, Pick, Pid, Reason, Ref, Signal,
-};
+use pundewo::{Body, Event, Happened, Ids, Item, LeftOver, LinkId, NotRead, Pick, Pid, Reason, Ref, Signal};
 use std::fmt::{Debug, Display};
 use std::str::FromStr;
 
@@ -251,7 +249,12 @@ fn random_values_read_back_and_slips_are_refused() {
 #[test]
 fn an_error_says_what_the_text_is_not() {
     let why = |text: &str| text.parse::<Event>().unwrap_err().to_string();
-    assert_eq!(why("5@0 gone <0.0.1>"), "the text is not an event: its stamp, its desk and what happened, as 5@0 left <0.1.1> normal");
-    assert_eq!("any 1".parse::<Pick>().unwrap_err().to_string(),
-        "the text is not a pick: any, or kind, from, exit-of, down-of or alive-of with its word, as kind 1");
+    assert_eq!(
+        why("5@0 gone <0.0.1>"),
+        "the text is not an event: its stamp, its desk and what happened, as 5@0 left <0.1.1> normal"
+    );
+    assert_eq!(
+        "any 1".parse::<Pick>().unwrap_err().to_string(),
+        "the text is not a pick: any, or kind, from, exit-of, down-of or alive-of with its word, as kind 1"
+    );
 }

@@ -14,7 +14,10 @@ fn timers_fire_in_order_and_once() -> Result<(), Fault> {
     assert_eq!((timers.pop_due(9), timers.peek_due(9)), (None, None));
     let fired = Some(Fired { timer: poll, body: 101 });
     assert_eq!((timers.peek_due(12), timers.pop_due(12), timers.pop_due(12)), (fired, fired, None));
-    assert_eq!((timers.get(poll), timers.cancel(poll), timers.cancel(Timer { at: 1, number: 1 })), (None, false, false));
+    assert_eq!(
+        (timers.get(poll), timers.cancel(poll), timers.cancel(Timer { at: 1, number: 1 })),
+        (None, false, false)
+    );
     assert_eq!(timers.pop_due(30), Some(Fired { timer: ring, body: 100 }));
     assert_eq!((timers.cancel(late), timers.cancel(late), timers.pop_due(u64::MAX)), (true, false, None));
     assert_eq!((timers.len(), timers.start(u64::MAX, u64::MAX)?.number), (0, 3));

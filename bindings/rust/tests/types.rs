@@ -78,6 +78,8 @@ fn values_are_keys() {
     key::<NotTaken>();
     key::<runtime::Restart>();
     key::<runtime::Shutdown>();
+    key::<runtime::Target>();
+    key::<runtime::Timer>();
     in_order::<Pid>();
     in_order::<Ref>();
     in_order::<LinkId>();

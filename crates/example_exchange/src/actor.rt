@@ -28,7 +28,7 @@ pub enum Actor {
 impl Behaviour for Actor {
     ghost use Rattle.std.specs.Prelude.{⊤};
 
-    ghost answers = { λ _ _ _ _ _ _ _ _. ⊤ };
+    ghost answers = { λ _ _ _ _ _ _ _ _ _. ⊤ };
 
     #[tactic(auto, using(pt_workers::proofs::GoingOn::stays))]
     fn handle(

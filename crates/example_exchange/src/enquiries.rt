@@ -6,9 +6,10 @@ ghost use Rattle.pt_crew.specs.Visiting.{takes};
 
 use crate::facts;
 use crate::words::{LINES, NAMED, NOT_NAMED, WHEREIS, message, tell};
-use pt_crew::{Next, Request, reply, request_of};
+use pt_crew::Next;
 use pt_names::Name;
 use pt_node::{Body, Desk, Item, Pick, Pid};
+use pt_pending::{Request, reply, request_of};
 use pt_registry::Registry;
 use std::alloc::Global;
 

@@ -9,8 +9,9 @@ use crate::words::{
     BUSY, CRASH, HANG_UP, NAMED, NO_ANSWER, NOISE, Office, PICK_UP, PICKED_UP, REFUSED, RING,
     message, tell,
 };
-use pt_crew::{Alarms, Heard, Next, Pending, Request, demonitor, monitor, reply, request_of};
+use pt_crew::{Next, demonitor, monitor};
 use pt_node::{Body, Desk, Item, Pick, Pid, Ref};
+use pt_pending::{Alarms, Heard, Pending, Request, reply, request_of};
 use pt_timers::Timer;
 use std::alloc::Global;
 

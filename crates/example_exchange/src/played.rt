@@ -1,7 +1,7 @@
 //! A day of the exchange, and what is printed of it.
 
 ghost use Rattle.std.specs.Prelude.{◌≡◌};
-ghost use Rattle.pt_crew.specs.Ending.{EndsFirst};
+ghost use Rattle.pt_pending.specs.Ending.{EndsFirst};
 ghost use Rattle.pt_registry.specs.Past.{KeepMonitors};
 
 use crate::actor::Actor;
@@ -12,10 +12,10 @@ use crate::exchange::Exchange;
 use crate::report::{Report, is_of_line};
 use crate::words::LINES;
 use anyhow::{Result, bail};
-use pt_crew::calls_end_once;
 use pt_events::{Event, Stamped};
 use pt_judge::replay;
 use pt_node::{Config, FreeGate, Node, Standing, Task};
+use pt_pending::calls_end_once;
 use pt_registry::names_keep_their_monitors;
 use pt_supervisor::Child;
 use std::alloc::{AllocError, Global};

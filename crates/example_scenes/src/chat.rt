@@ -145,7 +145,7 @@ fn join(desk: &mut Desk, me: Pid)
 impl<'a> Behaviour for Talker<'a> {
     ghost use Rattle.std.specs.Prelude.{⊤};
 
-    ghost answers = { λ _ _ _ _ _ _ _ _. ⊤ };
+    ghost answers = { λ _ _ _ _ _ _ _ _ _. ⊤ };
 
     #[tactic(auto, using(pt_workers::proofs::GoingOn::stays))]
     fn handle(

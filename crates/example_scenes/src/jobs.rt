@@ -10,18 +10,16 @@
 
 ghost use Rattle.std.specs.Prelude.{◌≡◌};
 ghost use Rattle.pt_desk.specs.DeskState.{GoesOn};
-ghost use Rattle.pt_crew.specs.Ending.{EndsOnce};
+ghost use Rattle.pt_pending.specs.Ending.{EndsOnce};
 ghost use Rattle.pt_crew.specs.Visiting.{takes};
 ghost use Rattle.pt_supervisor.specs.Supervising.{PermanentLive, StaysWanted};
 
 use crate::stage;
 use crate::stage::{Curtain, DESKS, Stage, first_of};
 use anyhow::Result;
-use pt_crew::{
-    Behaviour, Births, Heard, Next, Pending, Request, calls_end_once, demonitor, monitor, reply,
-    request_of, send,
-};
+use pt_crew::{Behaviour, Births, Next, demonitor, monitor, send};
 use pt_node::{Body, Desk, Fault, Item, Pick, Pid, Reason, Ref};
+use pt_pending::{Heard, Pending, Request, calls_end_once, reply, request_of};
 use pt_supervisor::{Child, Limit, Restart, Start, Strategy, Supervisor, permanent_children_live};
 use std::alloc::{AllocError, Global};
 use std::collections::VecDeque;
@@ -372,7 +370,7 @@ enum Actor<'a> {
 impl<'a> Behaviour for Actor<'a> {
     ghost use Rattle.std.specs.Prelude.{⊤};
 
-    ghost answers = { λ _ _ _ _ _ _ _ _. ⊤ };
+    ghost answers = { λ _ _ _ _ _ _ _ _ _. ⊤ };
 
     #[tactic(auto, using(pt_workers::proofs::GoingOn::stays))]
     fn handle(

@@ -125,7 +125,7 @@ impl<'a> Runner<'a> {
 impl<'a> Behaviour for Runner<'a> {
     ghost use Rattle.std.specs.Prelude.{⊤};
 
-    ghost answers = { λ _ _ _ _ _ _ _ _. ⊤ };
+    ghost answers = { λ _ _ _ _ _ _ _ _ _. ⊤ };
 
     #[tactic(auto, using(pt_workers::proofs::GoingOn::stays))]
     fn handle(

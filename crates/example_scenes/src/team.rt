@@ -7,12 +7,11 @@ ghost use Rattle.pt_crew.specs.declared.behaviour.Next.{Next};
 ghost use Rattle.pt_desk.specs.DeskState.{GoesOn};
 ghost use Rattle.pt_events.specs.History.{Past};
 ghost use Rattle.pt_gathered.specs.Gathered.{IsGathered};
-ghost use Rattle.pt_gathered.specs.Lawful.{LinksStand};
 ghost use Rattle.pt_workers.specs.Desks.{all_shards};
 ghost use Rattle.pt_workers.specs.Stillness.{AreStill};
 ghost use Rattle.pt_node.specs.Pasts.{GoOnFrom};
 ghost use Rattle.pt_crew.specs.Running.{AllUphold, AreIdle, UpholdsOn};
-ghost use Rattle.pt_supervisor.specs.Keeping.{AnswerAs, SupervisorBegins, Keeps};
+ghost use Rattle.pt_supervisor.specs.Keeping.{AnswerAs, IsStillNode, SupervisorBegins, Keeps};
 ghost use Rattle.pt_supervisor.specs.Gathering.{AllChildrenLive};
 ghost use Rattle.pt_supervisor.specs.Stopping.{StoppedChildrenEnded};
 ghost use Rattle.example_scenes.specs.declared.team.Member.{Member};
@@ -90,7 +89,7 @@ impl<'a> Behaviour for Member<'a> {
 impl<'a> Supervised for Member<'a> {
     ghost supervisor = { boss_of };
 
-    ghost supervises = { λ b d me item next now e births h. h };
+    ghost supervises = { λ time b d me item next now e births h. h };
 }
 
 /// A supervisor of three permanent children, which starts each again by itself, at most a hundred times.
@@ -192,7 +191,7 @@ fn come_to_rest<'a>(node: &mut Node, crews: &mut Vec<Crew<Member<'a>>>) -> Resul
 /// Gathers and settles a node that is still, which leaves it as it is.
 fn settled(node: Node) -> Result<Quiet>
     ensures desks { AreStill node → IfOk result (λ q. q.gathered.shards ≡ all_shards node) }
-    ensures lawful { IfOk result (λ q. IsGathered q.gathered × LinksStand q.gathered) }
+    ensures lawful { IfOk result (λ q. IsGathered q.gathered × IsStillNode q.gathered) }
 {
     let quiet = node.gather()?.settle()?;
     // read for the proof alone: it says what holds of every gathered node

@@ -1,1 +1,2 @@
--- The crate needs no lemmas of its own.
+-- The lemmas that the functions use.
+mod Telling

@@ -13,7 +13,8 @@ sample_call = record {
   monitor = record { desk = 7; number = 8 };
   has_deadline = true;
   waits = true;
-  deadline = 11;
+  left_open = true;
+  deadline = 12;
 }
 
 abbrev pub sample_request : PtRequest

@@ -1,18 +1,23 @@
 -- Calls that are answered, as C keeps them: what is asked, heard and replied.
-use Rattle.std.specs.Prelude.{◌≡◌, ℕ, pos, cond, ◌&&◌, not, Bool, true, false, is_some, List, [], MatchOption}
+use Rattle.std.specs.Prelude.{◌≡◌, ℕ, pos, cond, ◌&&◌, ◌||◌, not, Bool, true, false, is_some, List, [], MatchOption}
 use Rattle.std.specs.Prelude.{Option, Some, None, Result, Ok, Err}
 use Rattle.pt_signal.specs.declared.pid.Pid.{Pid}
 use Rattle.pt_signal.specs.declared.ids.Ref.{Ref}
+use Rattle.pt_signal.specs.declared.item.Body.{Body}
 use Rattle.pt_signal.specs.declared.item.Item.{Item}
+use Rattle.pt_signal.specs.declared.item.Item.TheVariants.{User}
 use Rattle.pt_desk.specs.DeskState.{DeskState, GoesOn}
 use Rattle.pt_crew.specs.declared.call_fault.CallFault.{CallFault}
 use Rattle.pt_crew.specs.declared.call_fault.CallFault.TheVariants.{Unknown, Refused}
-use Rattle.pt_crew.specs.declared.pending.Pending.{Pending}
-use Rattle.pt_crew.specs.declared.pending.Heard.{Heard}
-use Rattle.pt_crew.specs.declared.request.Request.{Request}
-use Rattle.pt_crew.specs.Asking.{Asks, SendsTo, answer, request_of}
-use Rattle.pt_crew.specs.Ending.{CallEvent, Closes, Expires, ends_reported, first_call_end, heard_by_call, is_due}
-use Rattle.pt_crew.specs.Ending.{is_expired, says_to_call}
+use Rattle.pt_pending.specs.declared.ask_fault.AskFault.{AskFault}
+use Rattle.pt_pending.specs.declared.ask_fault.AskFault.TheVariants.{Unasked, LeftOpen}
+use Rattle.pt_pending.specs.declared.pending.Pending.{Pending}
+use Rattle.pt_pending.specs.declared.pending.Heard.{Heard}
+use Rattle.pt_pending.specs.declared.request.Request.{Request}
+use Rattle.pt_pending.specs.Asking.{Asks, answer, request_message, request_of, speaks_of}
+use Rattle.pt_crew.specs.Telling.{SendsTo}
+use Rattle.pt_pending.specs.Ending.{CallEvent, Closes, Expires, ends_reported, first_call_end, heard_by_call, is_due}
+use Rattle.pt_pending.specs.Ending.{is_expired, says_to_call}
 use Rattle.pt_places.specs.Places.{ShowsCode}
 use Rattle.pt_structs.specs.declared.types.PtItem.{PtItem}
 use Rattle.pt_structs.specs.Codes.{bad_code, code_of, unknown}
@@ -37,16 +42,18 @@ pending_of c = record {
   number = pos c.monitor.number;
   deadline = deadline_of c.has_deadline c.deadline;
   waits = c.waits;
+  left_open = c.left_open;
 }
 
--- the struct of a call that was made
-abbrev pub call_made : Pid → Pid → Ref → Bool → ℕ → PtCall
-call_made client server monitor has_deadline deadline = record {
+-- the struct of a call under this reference, which waits, or has ended with its monitor left open
+abbrev pub call_under : Pid → Pid → Ref → Bool → Bool → ℕ → PtCall
+call_under client server monitor waits has_deadline deadline = record {
   client = pid_out client;
   server = pid_out server;
   monitor = ref_out monitor;
   has_deadline = has_deadline;
-  waits = true;
+  waits = waits;
+  left_open = not waits;
   deadline = deadline;
 }
 
@@ -75,7 +82,7 @@ told_code (Err f) = fault_code f
 -- asking -----------------------------------------------------------------------------
 
 -- the call that was made under this reference, or the fault for which none was
-abbrev pub pending_asked : Pid → Pid → Option ℕ → Result Ref CallFault → Result Pending CallFault
+abbrev pub pending_asked : Pid → Pid → Option ℕ → Result Ref AskFault → Result Pending AskFault
 pending_asked client server deadline (Ok m) = Ok (record {
   client = client;
   server = server;
@@ -83,18 +90,27 @@ pending_asked client server deadline (Ok m) = Ok (record {
   number = pos m.number;
   deadline = deadline;
   waits = true;
+  left_open = false;
 })
 pending_asked client server deadline (Err f) = Err f
 
--- the struct of the call, and what was there where none was made
-abbrev pub call_or : PtCall → Pid → Pid → Bool → ℕ → Result Ref CallFault → PtCall
-call_or before client server has_deadline deadline (Ok m) = call_made client server m has_deadline deadline
-call_or before client server has_deadline deadline (Err f) = before
+-- the struct of the call; where none was made, what was there, unless its monitor was left open
+abbrev pub call_or : PtCall → Pid → Pid → Bool → ℕ → Result Ref AskFault → PtCall
+call_or before client server has_deadline deadline (Ok m) = call_under client server m true has_deadline deadline
+call_or before client server has_deadline deadline (Err (Unasked f)) = before
+call_or before client server has_deadline deadline (Err (LeftOpen f m)) =
+    call_under client server m false has_deadline deadline
+
+-- it says why a call was not made, whether or not its monitor was left open
+abbrev pub asked_code : Result Ref AskFault → ℕ
+asked_code (Ok m) = 0
+asked_code (Err (Unasked f)) = fault_code f
+asked_code (Err (LeftOpen f m)) = fault_code f
 
 -- a call is asked as a behaviour's; the code says whether it was made, and so the struct
 unfoldable pub AsksServer : Pid → Pid → ℕ → Bool → ℕ → ℕ → PtCall → PtCall → DeskState → DeskState → Type 0
 AsksServer me server asks has_deadline deadline code before after old new =
-    (r : Result Ref CallFault) × (code ≡ told_code r) × (after ≡ call_or before me server has_deadline deadline r)
+    (r : Result Ref AskFault) × (code ≡ asked_code r) × (after ≡ call_or before me server has_deadline deadline r)
     × Asks me server asks (deadline_of has_deadline deadline) old (pending_asked me server (deadline_of has_deadline deadline) r) new
     × GoesOn old new
 
@@ -104,11 +120,15 @@ AsksServer me server asks has_deadline deadline code before after old new =
 abbrev pub call_after : PtCall → Item → PtCall
 call_after c item = record c { waits = c.waits && not (is_some (says_to_call (pending_of c) item)) }
 
+-- the call, of which it is known whether its monitor was left open
+abbrev pub call_noting : Bool → PtCall → PtCall
+call_noting left_open c = record c { left_open = left_open }
+
 -- the item means to the call what it means to that of a behaviour
 abbrev pub HearsOne : Item → ℕ → PtCall → PtCall → PtHeard → DeskState → DeskState → Type 0
 HearsOne item code call left after old new =
-    (code ≡ 0) × (after ≡ heard_out (heard_by_call (pending_of call) item)) × (left ≡ call_after call item)
-    × Closes (pending_of call) item old new × GoesOn old new
+    (code ≡ 0) × (after ≡ heard_out (heard_by_call (pending_of call) item)) × (left ≡ call_noting left.left_open (call_after call item))
+    × Closes (pending_of call) item old left.left_open new × GoesOn old new
 
 -- if its code means nothing, the code says so, and nothing has changed
 unfoldable pub HearsItem : PtItem → ℕ → PtCall → PtCall → PtHeard → PtHeard → DeskState → DeskState → Type 0
@@ -116,12 +136,12 @@ HearsItem item code call left before after old new =
     MatchOption (item_in item) ((code ≡ bad_code) × (left ≡ call) × (after ≡ before) × (new ≡ old))
     (λ i. HearsOne i code call left after old new)
 
--- whether it ends by its deadline, and then its monitor is given up
+-- whether it ends by its deadline, and then its monitor is given up, or left open
 unfoldable pub ExpiresCode : ℕ → ℕ → PtCall → PtCall → Bool → DeskState → DeskState → Type 0
 ExpiresCode now code call left is old new =
     (code ≡ 0) × (is ≡ is_expired (pending_of call) now)
-    × (left ≡ record call { waits = call.waits && not (is_due (pending_of call) now) })
-    × Expires (pending_of call) now old new × GoesOn old new
+    × (left ≡ call_noting left.left_open (record call { waits = call.waits && not (is_due (pending_of call) now) }))
+    × Expires (pending_of call) now old left.left_open new × GoesOn old new
 
 -- an open call reports one end, by the first event that is one
 abbrev pub CallsEndOnce : Type 0
@@ -141,3 +161,24 @@ unfoldable pub RepliesCode : Pid → PtRequest → ℕ → ℕ → DeskState →
 RepliesCode me request n code old new =
     (r : Result (Unit {0}) CallFault) × (code ≡ told_code r)
     × SendsTo me (pid_crossed request.from) (answer (request_in request) n) old r new × GoesOn old new
+
+-- telling ----------------------------------------------------------------------------
+
+-- the message is of a call: a request, which names its sender, or an answer, which names the process that got it
+abbrev pub is_of_call : Pid → Item → Bool
+is_of_call me (User from body) = speaks_of body from || speaks_of body me
+is_of_call me _ = false
+
+-- whether the item that the process got is of a call; if its code means nothing, the code says so
+unfoldable pub TellsIfCall : Pid → PtItem → ℕ → Bool → Bool → Type 0
+TellsIfCall me item code before after =
+    MatchOption (item_in item) ((code ≡ bad_code) × (after ≡ before)) (λ i. (code ≡ 0) × (after ≡ is_of_call me i))
+
+-- requests and answers are told; and what is told to be neither is no request, and no answer to a call of its receiver
+pub record CallsAreTold : Type 0 where
+  pub requests : (me client : Pid) (m : Ref) (asks : ℕ)
+      → is_of_call me (User client (request_message client m asks)) ≡ true
+  pub answers : (server : Pid) (r : Request) (n : ℕ) → is_of_call r.from (User server (answer r n)) ≡ true
+  pub no_request : (me : Pid) (i : Item) → is_of_call me i ≡ false → request_of i ≡ None
+  pub no_answer : (c : PtCall) (from : Pid) (body : Body) → is_of_call (pid_crossed c.client) (User from body) ≡ false
+      → says_to_call (pending_of c) (User from body) ≡ None

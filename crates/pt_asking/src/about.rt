@@ -51,7 +51,8 @@ fn sample_call() -> PtCall
         monitor: PtRef { desk: 7, number: 8 },
         has_deadline: true,
         waits: true,
-        deadline: 11,
+        left_open: true,
+        deadline: 12,
     }
 }
 

@@ -2,11 +2,12 @@
 
 ghost use Rattle.std.specs.Prelude.{◌≡◌, ◌<◌, ◌^◌, pos, true, false, Option, ℕ};
 ghost use Rattle.pt_desk.specs.DeskState.{GoesOn};
-ghost use Rattle.pt_crew.specs.Asking.{Asks, refusal};
-ghost use Rattle.pt_asking.specs.Calls.{AsksServer, pending_asked, call_made, fault_code};
+ghost use Rattle.pt_pending.specs.Asking.{Asks, refusal, unsent_fault};
+ghost use Rattle.pt_asking.specs.Calls.{AsksServer, asked_code, call_or, call_under, fault_code, pending_asked};
 
 use crate::types::PtCall;
 use pt_crew::{CallFault, demonitor, monitor, send};
+use pt_pending::AskFault;
 use pt_structs::codes::{DONE, UNKNOWN, code_of};
 use pt_structs::crossing::{pid_out, ref_out};
 use pt_workers::{Body, Desk, Fault, Pid, Ref};
@@ -26,13 +27,9 @@ pub(crate) fn fault_code(fault: CallFault) -> u32
 pub fn ask(desk: &mut Desk, me: Pid, server: Pid, asks: u32, out: &mut PtCall) -> u32
     ensures { AsksServer me server asks false 0 result out.old out.new desk.old desk.new }
 {
-    match begin(desk, me, server, asks) {
-        Ok(reference) => {
-            *out = made(me, server, reference, false, 0);
-            DONE
-        }
-        Err(fault) => fault_code(fault),
-    }
+    let asked = begin(desk, me, server, asks);
+    write_call(asked, me, server, false, 0, out);
+    asked_code(asked)
 }
 
 /// Asks a server until a moment, as `Pending::ask_until` does, and writes the call.
@@ -47,31 +44,66 @@ pub fn ask_until(
 ) -> u32
     ensures { AsksServer me server asks true deadline result out.old out.new desk.old desk.new }
 {
-    match begin(desk, me, server, asks) {
-        Ok(reference) => {
-            *out = made(me, server, reference, true, deadline);
-            DONE
+    let asked = begin(desk, me, server, asks);
+    write_call(asked, me, server, true, deadline, out);
+    asked_code(asked)
+}
+
+/// Writes the call that was made. Of one that was not, whose monitor is still open, it writes that it has ended.
+fn write_call(
+    asked: Result<Ref, AskFault>,
+    me: Pid,
+    server: Pid,
+    has_deadline: bool,
+    deadline: u64,
+    out: &mut PtCall,
+)
+    ensures { out.new ≡ call_or out.old me server has_deadline deadline asked }
+{
+    match asked {
+        Ok(reference) => *out = made(me, server, reference, true, has_deadline, deadline),
+        Err(AskFault::LeftOpen(_, reference)) => {
+            *out = made(me, server, reference, false, has_deadline, deadline);
         }
-        Err(fault) => fault_code(fault),
+        Err(AskFault::Unasked(_)) => {}
     }
 }
 
-/// The call that was made, under this reference.
-fn made(me: Pid, server: Pid, reference: Ref, has_deadline: bool, deadline: u64) -> PtCall
-    ensures { result ≡ call_made me server reference has_deadline deadline }
+/// The code of a call that was asked, or was not.
+fn asked_code(asked: Result<Ref, AskFault>) -> u32
+    ensures { result ≡ asked_code asked }
+{
+    match asked {
+        Ok(_) => DONE,
+        Err(AskFault::Unasked(fault)) => fault_code(fault),
+        Err(AskFault::LeftOpen(fault, _)) => fault_code(fault),
+    }
+}
+
+/// The call under this reference. It waits, or it has ended and its monitor is still open.
+fn made(
+    me: Pid,
+    server: Pid,
+    reference: Ref,
+    waits: bool,
+    has_deadline: bool,
+    deadline: u64,
+) -> PtCall
+    ensures { result ≡ call_under me server reference waits has_deadline deadline }
 {
     PtCall {
         client: pid_out(me),
         server: pid_out(server),
         monitor: ref_out(reference),
         has_deadline,
-        waits: true,
+        waits,
+        left_open: !waits,
         deadline,
     }
 }
 
 /// Makes the monitor, and sends the request under its number. It returns the monitor's reference.
-fn begin(desk: &mut Desk, me: Pid, server: Pid, asks: u32) -> Result<Ref, CallFault>
+fn begin(desk: &mut Desk, me: Pid, server: Pid, asks: u32) -> Result<Ref, AskFault>
     ensures does { (deadline : Option ℕ)
         → Asks me server asks deadline desk.old (pending_asked me server deadline result) desk.new }
     ensures goes_on { GoesOn desk.old desk.new }
@@ -83,8 +115,7 @@ fn begin(desk: &mut Desk, me: Pid, server: Pid, asks: u32) -> Result<Ref, CallFa
         who: Some(me),
     };
     if let Some(fault) = refusal(send(desk, me, server, body)) {
-        let _ = demonitor(desk, me, reference);
-        return Err(fault);
+        return Err(unsent(fault, reference, demonitor(desk, me, reference)));
     }
     Ok(reference)
 }
@@ -95,6 +126,16 @@ fn number_of(monitor: Ref) -> i64
     ensures { result ≡ pos monitor.number }
 {
     monitor.number as i64
+}
+
+/// What the client learns of a request that was not sent for this fault, once its monitor was to be cancelled.
+fn unsent(fault: CallFault, reference: Ref, cancelled: Result<bool, Fault>) -> AskFault
+    ensures { result ≡ unsent_fault fault reference cancelled }
+{
+    match cancelled {
+        Ok(_) => AskFault::Unasked(fault),
+        Err(_) => AskFault::LeftOpen(fault, reference),
+    }
 }
 
 /// The fault for which a request was not sent. That the server is seen to have exited is none: its `DOWN` arrives.

@@ -3,13 +3,14 @@
 ghost use Rattle.std.specs.Prelude.{◌≡◌, pos, false};
 ghost use Rattle.std.specs.Ordering.{int_eq};
 ghost use Rattle.pt_desk.specs.DeskState.{GoesOn};
-ghost use Rattle.pt_crew.specs.Asking.{speaks_of};
-ghost use Rattle.pt_crew.specs.Ending.{Closes, IsGivenUp, heard_by_call, is_answer_to_call, is_due, says_to_call};
-ghost use Rattle.pt_asking.specs.Calls.{CallsEndOnce, ExpiresCode, HearsItem, call_after, pending_of, heard_out};
+ghost use Rattle.pt_pending.specs.Asking.{speaks_of};
+ghost use Rattle.pt_pending.specs.Ending.{Closes, IsGivenUp, heard_by_call, is_answer_to_call, is_due, says_to_call};
+ghost use Rattle.pt_asking.specs.Calls.{CallsEndOnce, ExpiresCode, HearsItem, call_after, call_noting, pending_of, heard_out};
 
 use crate::items::item_in;
 use crate::types::{PtCall, PtHeard};
-use pt_crew::{Heard, demonitor};
+use pt_crew::demonitor;
+use pt_pending::Heard;
 use pt_structs::codes::{BAD_CODE, DONE};
 use pt_structs::crossing::{no_reason, pid_in, reason_out, ref_in};
 use pt_structs::types::PtItem;
@@ -54,11 +55,11 @@ pub fn hear(desk: &mut Desk, call: &mut PtCall, item: PtItem, out: &mut PtHeard)
     DONE
 }
 
-/// What the item means to the call. If it ends by it, its monitor is cancelled.
+/// What the item means to the call. If it ends by it, its monitor is cancelled, or left open.
 fn heard(desk: &mut Desk, call: &mut PtCall, item: Item) -> Heard
     ensures heard { result ≡ heard_by_call (pending_of call.old) item }
-    ensures after { call.new ≡ call_after call.old item }
-    ensures closes { Closes (pending_of call.old) item desk.old desk.new }
+    ensures after { call.new ≡ call_noting call.new.left_open (call_after call.old item) }
+    ensures closes { Closes (pending_of call.old) item desk.old call.new.left_open desk.new }
     ensures goes_on { GoesOn desk.old desk.new }
 {
     let Some(said) = says(*call, item) else {
@@ -83,14 +84,14 @@ pub fn expire(desk: &mut Desk, call: &mut PtCall, now: u64, out: &mut bool) -> u
     DONE
 }
 
-/// Ends the call, and cancels its monitor. If that fails, the failure is ignored.
+/// Ends the call, and cancels its monitor, or notes that this failed.
 fn close(desk: &mut Desk, call: &mut PtCall)
-    ensures after { call.new ≡ record call.old { waits = false } }
-    ensures closes { IsGivenUp (pending_of call.old) desk.old desk.new }
+    ensures after { call.new ≡ call_noting call.new.left_open (record call.old { waits = false }) }
+    ensures closes { IsGivenUp (pending_of call.old) desk.old call.new.left_open desk.new }
     ensures goes_on { GoesOn desk.old desk.new }
 {
     call.waits = false;
-    let _ = demonitor(desk, pid_in(call.client), ref_in(call.monitor));
+    call.left_open = demonitor(desk, pid_in(call.client), ref_in(call.monitor)).is_err();
 }
 
 /// Whether the deadline has come, if there is one.
@@ -125,7 +126,7 @@ fn is_answer(call: PtCall, from: Pid, body: Body) -> bool
 }
 
 /// Whether the message names this process.
-fn speaks_of(body: Body, pid: Pid) -> bool
+pub(crate) fn speaks_of(body: Body, pid: Pid) -> bool
     ensures { result ≡ speaks_of body pid }
 {
     match body.who {

@@ -6,7 +6,8 @@ ghost use Rattle.pt_asking.specs.Calls.{ReadsRequest, RepliesCode, request_in, r
 use crate::asking::fault_code;
 use crate::items::item_in;
 use crate::types::PtRequest;
-use pt_crew::{CallFault, Request, reply as reply_to, request_of as read_request};
+use pt_crew::CallFault;
+use pt_pending::{Request, reply as reply_to, request_of as read_request};
 use pt_structs::codes::{BAD_CODE, DONE, NOTHING};
 use pt_structs::crossing::{pid_in, pid_out};
 use pt_structs::types::PtItem;

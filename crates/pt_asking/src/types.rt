@@ -5,7 +5,8 @@ use pt_structs::types::{PtPid, PtReason, PtRef};
 /// A call that was made: the server that it waits for, until when (`deadline`, if `has_deadline`), and whether it still
 /// does.
 ///
-/// The answer carries the number of the reference of its monitor.
+/// The answer carries the number of the reference of its monitor. With `left_open` the monitor could not be cancelled as the
+/// call ended.
 #[repr(C)]
 #[derive(Clone, Copy)]
 pub struct PtCall {
@@ -14,6 +15,7 @@ pub struct PtCall {
     pub monitor: PtRef,
     pub has_deadline: bool,
     pub waits: bool,
+    pub left_open: bool,
     pub deadline: u64,
 }
 

@@ -27,7 +27,7 @@ use Rattle.pt_auditor.specs.declared.foreign.Foreign.{Foreign}
 use Rattle.pt_auditor.specs.declared.foreign.NoNode.{NoNode}
 use Rattle.pt_auditor.specs.Objecting.{contradiction}
 use Rattle.pt_auditor.specs.Lanes.{letters_laid, is_lane, stamp_noted, letters_flying, letters_still, lane, clock_of}
-use Rattle.pt_auditor.specs.Foreigners.{IsOrigin, ComesInOrder, MayBegin, Decides, IsFromNode, IsJudgedForeign, IsLeftByNode, IsJudgedLeft, AllFromNode, IsCarried, first_foreign, no_node, no_left}
+use Rattle.pt_auditor.specs.Foreigners.{last_lane, IsOrigin, ComesInOrder, MayBegin, Decides, IsFromNode, IsJudgedForeign, IsLeftByNode, IsJudgedLeft, AllFromNode, IsCarried, first_foreign, no_node, no_left}
 use Rattle.pt_auditor.specs.Hearings.{Heard, IsHeard, IsObjection, IsMisfit, IsOldest, IsOfItsDesks, IsSunk, IsWithout, AllTold, newest, is_above, still, left_flying, with_letter, IsVerdict, MayHear, LettersAreTold, with_event}
 use Rattle.pt_events.specs.Counting.{capped}
 use Rattle.pt_auditor.specs.Hearings.{IsNodeAfter, TellsBegin, IsAfterEvent, IsAfterRest, is_late, follows, strange}
@@ -144,6 +144,7 @@ module _ (t : Heard) (h : Hearing) (k : IsHeard t h) where
         lanes = carried (letters_flying t.events) s.stamp s.event (sent_by [] past s.event) h.node.lanes m.lanes node.lanes (order_of t.events s.event from.order)
             (subst (λ z. IsCarried s.stamp s.event z h.node.lanes m.lanes) (sends_are past s.event h.state new w.step before.flies (after_next t.since past h.state new before s.event w.step).flies) moved.lanes);
         clocks = λ d. moved.clocks d ∙ ap (λ z. cond (s.desk == d) s.stamp z) (node.clocks d) ∙ clock_next t.events s d;
+        turn = moved.left ∙ node.turn;
         newest = moved.newest;
         begun = subst (λ b. Decides b (MayBegin t.events s.stamp)) (sym moved.begun_is)
             (begin_told t.events h.node h.state s node (all_of_node e none.0) k.stands.rising a from.named.stamp.0 before.flies);
@@ -220,12 +221,13 @@ module _ (t : Heard) (h : Hearing) (k : IsHeard t h) where
       let letters = letters_still (letters_flying t.events) t.left in
       let a = l.letter.from in
       let b = l.letter.to in
-      let of_node : IsLeftByNode letters l = subst (IsJudgedLeft letters l) none.1 (left_judged letters h.node l node.lanes) in
+      let of_node : IsLeftByNode letters (last_lane t.left) l = subst (IsJudgedLeft letters (last_lane t.left) l) none.1 (left_judged letters h.node (last_lane t.left) l node.lanes node.turn) in
       record {
         lanes = λ d e. w.lanes d e ∙ ap (λ z. cond (is_lane a.shard b.shard (d, e)) (drop 1 z) (letters_laid h.node.lanes d e)) (node.lanes a.shard b.shard)
             ∙ ap (λ z. cond (is_lane a.shard b.shard (d, e)) (drop 1 (lane a.shard b.shard letters)) z) (node.lanes d e)
             ∙ sym (landed_lane a b letters of_node.order.first of_node.order.there of_node.order.between d e);
         clocks = λ d. ap (λ z. stamp_noted z.clocks d) w.node ∙ node.clocks d;
+        turn = ap (λ z. z.left) w.node;
         newest = ap (λ z. z.newest) w.node ∙ node.newest;
         begun = subst (TellsBegin t.events) (sym (ap (λ z. z.begun) w.node)) node.begun;
       }
@@ -249,7 +251,7 @@ module _ (t : Heard) (h : Hearing) (k : IsHeard t h) where
     letters = omega (arith, w.letters, k.letters);
     origin = subst (IsOrigin t.events (l ∷ t.left)) (sym w.foreign)
         (left_more t.events t.left l (min (min (h.events + h.letters) (2 ^ 64 - 1) + 1) (2 ^ 64 - 1)) h.foreign (no_left h.node l) (omega (arith, k.count, k.letters)) k.origin
-        (λ n. left_judged (letters_still (letters_flying t.events) t.left) h.node l (k.node n).lanes));
+        (λ n. left_judged (letters_still (letters_flying t.events) t.left) h.node (last_lane t.left) l (k.node n).lanes (k.node n).turn));
     node = node_left l new w;
     since = w.since ∙ k.since;
     late = k.late;

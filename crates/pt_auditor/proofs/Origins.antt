@@ -19,10 +19,10 @@ use Rattle.pt_signal.specs.declared.letter.LeftOver.{LeftOver}
 use Rattle.pt_auditor.specs.declared.desks.Desks.{Desks}
 use Rattle.pt_auditor.specs.declared.foreign.Foreign.{Foreign}
 use Rattle.pt_auditor.specs.declared.foreign.NoNode.{NoNode}
-use Rattle.pt_auditor.specs.declared.foreign.NoNode.TheVariants.{Desk, Stamp, Slot, OtherDesk, OtherId, Version, Unborn, Overtakes, OtherStamp}
+use Rattle.pt_auditor.specs.declared.foreign.NoNode.TheVariants.{Desk, Stamp, Slot, NoVersion, OtherDesk, OtherId, Version, Unborn, Ended, Overtakes, OtherStamp, OtherTurn}
 use Rattle.pt_auditor.specs.Lanes.{letters_laid, stamp_noted, goes_between, letters_flying, letters_still, lane, IsFirstInLane, clock_of}
-use Rattle.pt_auditor.specs.Foreigners.{IsToDesk, IsNodeDesk, IsNodeStamp, IsNodeSlot, top_of, ComesInOrder, IsNextStamp, IsStillBelow, MayBegin, IsInTime, IsNamedByNode, IsNoNode, IsJudgedForeign, HasItsStamp, IsJudgedLeft, AllFromNode, IsOrigin}
-use Rattle.pt_auditor.specs.Foreigners.{Decides, is_to_desk, is_node_desk, is_node_stamp, is_node_slot, is_home, is_link_at, is_new_at, has_ended, is_next_version, was_born, is_known, is_in_turn, first_laid, is_between_them, is_in_order, is_begin, may_begin, is_above_both, is_in_time, no_place, no_name, first_reason, no_node, has_its_stamp, no_left, first_foreign}
+use Rattle.pt_auditor.specs.Foreigners.{IsToDesk, IsNodeDesk, IsNodeStamp, IsNodeSlot, IsNodeVersion, top_of, reaches, GoesToNoEnded, ComesInOrder, IsNextStamp, IsStillBelow, MayBegin, IsInTime, IsNamedByNode, IsNoNode, IsJudgedForeign, last_lane, IsInTurnOf, HasItsStamp, IsJudgedLeft, AllFromNode, IsOrigin}
+use Rattle.pt_auditor.specs.Foreigners.{Decides, is_to_desk, is_node_desk, is_node_stamp, is_node_slot, is_node_version, is_home, is_link_at, is_new_at, has_ended, is_next_version, was_born, is_known, goes_to_no_ended, is_in_turn, first_laid, is_between_them, is_in_order, is_begin, may_begin, is_above_both, is_in_time, no_place, no_name, first_reason, no_node, has_its_stamp, is_in_turn_of, no_left, first_foreign}
 use Rattle.pt_auditor.specs.Hearings.{follows, newest, is_above, EventsAreRising, IsNodeAfter, IsAfterRest}
 use Rattle.pt_auditor.proofs.Rested.{same_ended, same_unborn}
 
@@ -66,12 +66,21 @@ node_stamp n = both (nat_lt 0 n) (nat_le n MAX_STAMP) (0 < n) (n ≤ MAX_STAMP) 
 
 node_slot : (e : Event) → Decides (is_node_slot e) (IsNodeSlot e)
 node_slot (Born p parent link) = below p.slot MAX_SLOTS
-node_slot (Said a b x) = tt
+node_slot (Said a b x) = below b.slot MAX_SLOTS
 node_slot (Came a b x) = tt
 node_slot (Took p k i) = tt
 node_slot (Flag p on) = tt
 node_slot (Left p r) = tt
 node_slot (Refused a b) = tt
+
+node_version : (e : Event) → Decides (is_node_version e) (IsNodeVersion e)
+node_version (Born p parent link) = tt
+node_version (Said a b x) = below 0 b.version
+node_version (Came a b x) = tt
+node_version (Took p k i) = tt
+node_version (Flag p on) = tt
+node_version (Left p r) = tt
+node_version (Refused a b) = tt
 
 alone : (b : Bool) (P : Type 0) → Decides b P → Decides b (P × Unit {0})
 alone true P p = (p, tt)
@@ -136,6 +145,16 @@ said_of here d born lost e = go (here == d) refl lost (sym e)
     go true h true k = subst (λ c. Decides c (here ≡ d → true ≡ false)) k (λ f. absurd (both_ways true (f (eqb-true here d h)) refl))
     go true h false k = subst (λ c. Decides c (here ≡ d → false ≡ false)) k (λ z. refl)
 
+-- what is said to a process that has ended
+ended_of : (r : Bool) (here d : ℕ) (over : Bool) → Decides (not (r && (here == d) && over)) (r ≡ true → here ≡ d → over ≡ false)
+ended_of r here d over = go r (here == d) refl over
+  where
+    go : (r b : Bool) → (here == d) ≡ b → (over : Bool) → Decides (not (r && b && over)) (r ≡ true → here ≡ d → over ≡ false)
+    go false b h over = λ z. absurd (cc)
+    go true false h over = λ z y. absurd (eqb-false here d h y)
+    go true true h false = λ z y. refl
+    go true true h true = λ f. absurd (both_ways true (f refl (eqb-true here d h)) refl)
+
 -- all tests together ------------------------------------------------------------------------
 
 -- the version of a newborn, and the receiver of what is said, are as they have to be; or which of the two is not
@@ -149,27 +168,31 @@ abbrev pub IsJudgedName : List Stamped → Stamped → Option NoNode → Type 0
 IsJudgedName past s None = IsNamedByNode s
 IsJudgedName past s (Some why) = IsNoNode past s why
 
-name : (past : List Stamped) (s : Stamped) (a b c d e : Bool) → Decides a (IsNodeDesk s) → Decides b (IsNodeStamp s.stamp) → Decides c (IsNodeSlot s.event) → Decides d (IsHome s.desk s.event) → Decides e (IsNewAt s.desk s.stamp s.event)
-    → IsJudgedName past s (cond a (cond b (cond c (cond d (cond e None (Some OtherId)) (Some OtherDesk)) (Some Slot)) (Some Stamp)) (Some Desk))
-name past s false b c d e ta tb tc td te = ta
-name past s true false c d e ta tb tc td te = (ta, tb)
-name past s true true false d e ta tb tc td te = (ta, tb, tc)
-name past s true true true false e ta tb tc td te = (ta, tb, tc, td)
-name past s true true true true false ta tb tc td te = (ta, tb, tc, td, te)
-name past s true true true true true ta tb tc td te = record { desk = ta; stamp = tb; slot = tc; home = td; new_at = te }
+name : (past : List Stamped) (s : Stamped) (a b c v d e : Bool) → Decides a (IsNodeDesk s) → Decides b (IsNodeStamp s.stamp) → Decides c (IsNodeSlot s.event) → Decides v (IsNodeVersion s.event) → Decides d (IsHome s.desk s.event)
+    → Decides e (IsNewAt s.desk s.stamp s.event)
+    → IsJudgedName past s (cond a (cond b (cond c (cond v (cond d (cond e None (Some OtherId)) (Some OtherDesk)) (Some NoVersion)) (Some Slot)) (Some Stamp)) (Some Desk))
+name past s false b c v d e ta tb tc tv td te = ta
+name past s true false c v d e ta tb tc tv td te = (ta, tb)
+name past s true true false v d e ta tb tc tv td te = (ta, tb, tc)
+name past s true true true false d e ta tb tc tv td te = (ta, tb, tc, tv)
+name past s true true true true false e ta tb tc tv td te = (ta, tb, tc, tv, td)
+name past s true true true true true false ta tb tc tv td te = (ta, tb, tc, tv, td, te)
+name past s true true true true true true ta tb tc tv td te = record { desk = ta; stamp = tb; slot = tc; version = tv; home = td; new_at = te }
 
 named : (past : List Stamped) (s : Stamped) → IsJudgedName past s (no_name s)
 named past s =
-    name past s (is_node_desk s) (is_node_stamp s.stamp) (is_node_slot s.event) (is_home s.desk s.event) (is_new_at s.desk s.stamp s.event)
-    (node_desk s) (node_stamp s.stamp) (node_slot s.event) (home s.desk s.event) (new_at s.desk s.stamp s.event)
+    name past s (is_node_desk s) (is_node_stamp s.stamp) (is_node_slot s.event) (is_node_version s.event) (is_home s.desk s.event) (is_new_at s.desk s.stamp s.event)
+    (node_desk s) (node_stamp s.stamp) (node_slot s.event) (node_version s.event) (home s.desk s.event) (new_at s.desk s.stamp s.event)
 
-place : (past : List Stamped) (s : Stamped) → IsNamedByNode s → (e f g h : Bool) → Turn s.desk (events past) s.event e f → Decides g (ComesInOrder past s.event) → Decides h (IsInTime past s.desk s.stamp s.event)
-    → IsJudgedForeign past s (cond e (cond f (cond g (cond h None (Some OtherStamp)) (Some Overtakes)) (Some Unborn)) (Some Version))
-place past s n false f g h t o i = (n, t.0, t.1)
-place past s n true false g h t o i = (n, t.0, t.1)
-place past s n true true false h t o i = (n, t, o)
-place past s n true true true false t o i = (n, t, o, i)
-place past s n true true true true t o i = record { named = n; known = t; order = o; time = i }
+place : (past : List Stamped) (s : Stamped) → IsNamedByNode s → (e f u g h : Bool) → Turn s.desk (events past) s.event e f → Decides u (GoesToNoEnded (events past) s.desk s.event)
+    → Decides g (ComesInOrder past s.event) → Decides h (IsInTime past s.desk s.stamp s.event)
+    → IsJudgedForeign past s (cond e (cond f (cond u (cond g (cond h None (Some OtherStamp)) (Some Overtakes)) (Some Ended)) (Some Unborn)) (Some Version))
+place past s n false f u g h t a o i = (n, t.0, t.1)
+place past s n true false u g h t a o i = (n, t.0, t.1)
+place past s n true true false g h t a o i = (n, t, a)
+place past s n true true true false h t a o i = (n, t, a, o)
+place past s n true true true true false t a o i = (n, t, a, o, i)
+place past s n true true true true true t a o i = record { named = n; known = t; alive = a; order = o; time = i }
 
 module _ (since : Option Stamped) (k : JudgeState) (past : Past) (after : IsAfterRest since past k) where
   next_version : (p : Pid) → Decides (is_next_version k p) ((0 < p.version) × (p.version ≤ p.version) × (1 < p.version → is_ended (life [] past (record p { version = pred p.version })) ≡ true))
@@ -183,6 +206,17 @@ module _ (since : Option Stamped) (k : JudgeState) (past : Past) (after : IsAfte
 
   said_known : (d : ℕ) (b : Pid) → Decides (not (b.shard == d) || was_born k b) (b.shard ≡ d → is_unborn (life [] past b) ≡ false)
   said_known d b = said_of b.shard d (was_born k b) (is_unborn (life [] past b)) (born_is (now_is k b) ∙ ap not (same_unborn (now_is k b) (life [] past b) (after.alike b)))
+
+  ended_told : (d : ℕ) (e : Event) → Decides (goes_to_no_ended k d e) (GoesToNoEnded past d e)
+  ended_told d (Said a b x) =
+      let over : has_ended k b ≡ is_ended (life [] past b) = ended_is (now_is k b) ∙ same_ended (now_is k b) (life [] past b) (after.alike b) in
+      subst (λ c. Decides (not (reaches x && (b.shard == d) && has_ended k b)) (reaches x ≡ true → b.shard ≡ d → c ≡ false)) over (ended_of (reaches x) b.shard d (has_ended k b))
+  ended_told d (Born p parent link) = tt
+  ended_told d (Came a b x) = tt
+  ended_told d (Took p j i) = tt
+  ended_told d (Flag p on) = tt
+  ended_told d (Left p r) = tt
+  ended_told d (Refused a b) = tt
 
   turn_of : (d : ℕ) (e : Event) → Turn d past e (is_in_turn k e) (is_known k d e)
   turn_of d (Born p parent link) = go (is_next_version k p) (next_version p)
@@ -236,18 +270,28 @@ module _ (letters : List Letter) (a b : Pid) where
   stamp_told n None e = none_told front e (λ z. n ≡ z)
   stamp_told n (Some m) e = some_told front m e (λ z. n ≡ z) (n == m.stamp) (same n m.stamp)
 
--- a letter left over, where these are the letters on their way
-pub left_judged : (letters : List Letter) (k : Desks) (l : LeftOver) → ((d e : ℕ) → letters_laid k.lanes d e ≡ lane d e letters) → IsJudgedLeft letters l (no_left k l)
-left_judged letters k l are =
+in_turn_of : (before : ℕ × ℕ) (l : LeftOver) → Decides (is_in_turn_of before l) (IsInTurnOf before l)
+in_turn_of before l =
+    let d = l.letter.from.shard in
+    let e = l.letter.to.shard in
+    either (nat_lt before.0 d) ((before.0 == d) && nat_le before.1 e) (before.0 < d) ((before.0 ≡ d) × (before.1 ≤ e)) (below before.0 d)
+    (both (before.0 == d) (nat_le before.1 e) (before.0 ≡ d) (before.1 ≤ e) (same before.0 d) (upto before.1 e))
+
+-- a letter left over, where these are the letters on their way, and those the desks of the letter before it
+pub left_judged : (letters : List Letter) (k : Desks) (before : ℕ × ℕ) (l : LeftOver) → ((d e : ℕ) → letters_laid k.lanes d e ≡ lane d e letters) → k.left ≡ before → IsJudgedLeft letters before l (no_left k l)
+left_judged letters k before l are last =
     let a = l.letter.from in
     let b = l.letter.to in
     let e : first_laid k a b ≡ slice_get (lane a.shard b.shard letters) 0 = ap (λ z. slice_get z 0) (are a.shard b.shard) in
-    go (is_between_them a b (first_laid k a b)) (has_its_stamp l.letter.stamp (first_laid k a b)) (first_told letters a b (first_laid k a b) e) (stamp_told letters a b l.letter.stamp (first_laid k a b) e)
+    go (is_between_them a b (first_laid k a b)) (has_its_stamp l.letter.stamp (first_laid k a b)) (is_in_turn_of k.left l) (first_told letters a b (first_laid k a b) e)
+    (stamp_told letters a b l.letter.stamp (first_laid k a b) e) (subst (λ z. Decides (is_in_turn_of k.left l) (IsInTurnOf z l)) last (in_turn_of k.left l))
   where
-    go : (c d : Bool) → Decides c (IsFirstInLane l.letter.from l.letter.to letters) → Decides d (HasItsStamp letters l) → IsJudgedLeft letters l (cond c (cond d None (Some OtherStamp)) (Some Overtakes))
-    go false d p q = p
-    go true false p q = (p, q)
-    go true true p q = record { order = p; stamp = q }
+    go : (c d t : Bool) → Decides c (IsFirstInLane l.letter.from l.letter.to letters) → Decides d (HasItsStamp letters l) → Decides t (IsInTurnOf before l)
+        → IsJudgedLeft letters before l (cond c (cond d (cond t None (Some OtherTurn)) (Some OtherStamp)) (Some Overtakes))
+    go false d t p q r = p
+    go true false t p q r = (p, q)
+    go true true false p q r = (p, q, r)
+    go true true true p q r = record { order = p; stamp = q; turn = r }
 
 -- stamps of events ------------------------------------------------------------------------------
 
@@ -346,8 +390,8 @@ module _ (past : List Stamped) (k : Desks) (j : JudgeState) (s : Stamped) (node 
 
   place_judged : IsNamedByNode s → IsJudgedForeign past s (no_place k j s)
   place_judged n =
-      place past s n (is_in_turn j s.event) (is_known j s.desk s.event) (is_in_order k s.event) (is_in_time k j s.desk s.stamp s.event) (turn_of since j (events past) after s.desk s.event)
-      (order_told s.event) (time_told n.stamp.0 s.event)
+      place past s n (is_in_turn j s.event) (is_known j s.desk s.event) (goes_to_no_ended j s.desk s.event) (is_in_order k s.event) (is_in_time k j s.desk s.stamp s.event)
+      (turn_of since j (events past) after s.desk s.event) (ended_told since j (events past) after s.desk s.event) (order_told s.event) (time_told n.stamp.0 s.event)
 
   pub judged : IsJudgedForeign past s (no_node k j s)
   judged = go (no_name s) (named past s)
@@ -366,7 +410,7 @@ origin_more past s n None (Some why) e g j = inl (inr (g.0, e, j refl))
 origin_more past s n None None e g j = ((j refl, g.0), tt)
 
 pub left_more : (past : List Stamped) (left : List LeftOver) (l : LeftOver) (n : ℕ) (o : Option Foreign) (why : Option NoNode) → n ≡ min (length past + length left + 1) (2 ^ 64 - 1) → IsOrigin past left o
-    → (o ≡ None → IsJudgedLeft (letters_still (letters_flying past) left) l why) → IsOrigin past (l ∷ left) (first_foreign o why n)
+    → (o ≡ None → IsJudgedLeft (letters_still (letters_flying past) left) (last_lane left) l why) → IsOrigin past (l ∷ left) (first_foreign o why n)
 left_more past left l n (Some f) why e (inl g) j = inl g
 left_more past left l n (Some f) why e (inr g) j = inr (g.0, inl g.1)
 left_more past left l n None (Some why) e g j = inr (g.0, inr (g.1, e, j refl))

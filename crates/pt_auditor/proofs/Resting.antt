@@ -590,14 +590,14 @@ abbrev state_over : Rest → JudgeState
 state_over r = record { links = []; refs = []; lives = lives_in r.residents.items; flights = [] }
 
 abbrev node_over : Rest → Desks
-node_over r = record { lanes = []; clocks = r.clocks; newest = stamp_of r.last; begun = r.begun }
+node_over r = record { lanes = []; clocks = r.clocks; left = (0, 0); newest = stamp_of r.last; begun = r.begun }
 
 abbrev hearing_over : Rest → JudgeState → Desks → Hearing
 hearing_over r s n = record { state = s; last = r.last; events = r.events; desks = r.desks; letters = 0; node = n; foreign = None; since = r.last }
 
 -- a hearing over the rest has heard the history
 pub heard_over : (past : List Stamped) (r : Rest) (h : Hearing) (state : JudgeState) (node : Desks) → IsRestOf past r → state ≡ record { links = []; refs = []; lives = lives_in r.residents.items; flights = [] }
-    → node ≡ record { lanes = []; clocks = r.clocks; newest = stamp_of r.last; begun = r.begun }
+    → node ≡ record { lanes = []; clocks = r.clocks; left = (0, 0); newest = stamp_of r.last; begun = r.begun }
     → h ≡ hearing_over r state node
     → IsHeard (record { events = past; left = []; since = r.last }) h
 heard_over past r h state node k s n e = subst (IsHeard (record { events = past; left = []; since = r.last })) (sym (e ∙ ap₂ (hearing_over r) s n)) heard
@@ -625,6 +625,7 @@ heard_over past r h state node k s n e = subst (IsHeard (record { events = past;
       node = λ z. record {
         lanes = λ d e. ap (lane d e) (sym (none_flying past k.still));
         clocks = k.clocks;
+        turn = refl;
         newest = ap stamp_of k.last ∙ newest_clock past;
         begun = k.begun;
       };

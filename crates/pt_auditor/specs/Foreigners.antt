@@ -1,18 +1,20 @@
 -- Histories that a node can have: each event is of its desk's own processes and has the stamp that its desk gives next,
--- and letters from desk to desk come in order, over the whole printed history.
+-- letters from desk to desk come in order, and no call goes to a process of the same desk that has exited, over the whole
+-- printed history.
 use Rattle.std.specs.Prelude.{◌≡◌, ℕ, ◌+◌, ◌-◌, ◌^◌, ◌<◌, ◌≤◌, ◌==◌, min, max, nat_lt, nat_le, Bool, true, false, cond}
 use Rattle.std.specs.Prelude.{not, ◌&&◌, ◌||◌, ◌⊎◌, Option, Some, None, is_some, List, [], ◌∷◌, ◌++◌, drop, length, map}
 use Rattle.std.specs.Prelude.{slice_get, ⊤}
 use Rattle.pt_signal.specs.declared.pid.Pid.{Pid}
 use Rattle.pt_signal.specs.declared.ids.LinkId.{LinkId}
 use Rattle.pt_signal.specs.declared.letter.Letter.{Letter}
-use Rattle.pt_signal.specs.declared.signal.Signal.TheVariants.{Link, Monitor, AliveAsk}
+use Rattle.pt_signal.specs.declared.signal.Signal.{Signal}
+use Rattle.pt_signal.specs.declared.signal.Signal.TheVariants.{Message, Link, Monitor, AliveAsk}
 use Rattle.pt_signal.specs.Process.{Sent}
 use Rattle.pt_events.specs.declared.event.Event.{Event}
 use Rattle.pt_events.specs.declared.event.Event.TheVariants.{Born, Said, Came, Took, Flag, Left, Refused}
 use Rattle.pt_events.specs.declared.event.Stamped.{Stamped}
 use Rattle.pt_signal.specs.declared.config.TheConstants.{MAX_SLOTS, MAX_STAMP}
-use Rattle.pt_events.specs.History.{Past, flying, is_living, reason_of, is_born}
+use Rattle.pt_events.specs.History.{Past, flying, is_living, is_ended, life, reason_of, is_born}
 use Rattle.pt_events.specs.Journal.{events, letter, IsHome, IsNewAt, IsKnown}
 use Rattle.pt_events.specs.Refusals.{stamped_below}
 use Rattle.pt_judge.specs.Judging.{JudgeState, now_is, judge_sends}
@@ -20,8 +22,9 @@ use Rattle.pt_signal.specs.declared.letter.LeftOver.{LeftOver}
 use Rattle.pt_auditor.specs.declared.desks.Desks.{Desks}
 use Rattle.pt_auditor.specs.declared.foreign.Foreign.{Foreign}
 use Rattle.pt_auditor.specs.declared.foreign.NoNode.{NoNode}
-use Rattle.pt_auditor.specs.declared.foreign.NoNode.TheVariants.{Desk, Stamp, Slot, OtherDesk, OtherId, Version, Unborn}
-use Rattle.pt_auditor.specs.declared.foreign.NoNode.TheVariants.{Overtakes, OtherStamp}
+use Rattle.pt_auditor.specs.declared.foreign.NoNode.TheVariants.{Desk, Stamp, Slot, NoVersion, OtherDesk, OtherId}
+use Rattle.pt_auditor.specs.declared.foreign.NoNode.TheVariants.{Version, Unborn, Ended, Overtakes, OtherStamp}
+use Rattle.pt_auditor.specs.declared.foreign.NoNode.TheVariants.{OtherTurn}
 use Rattle.pt_auditor.specs.Lanes.{Laid, letters_laid, is_lane, stamp_noted, goes_between, letters_flying}
 use Rattle.pt_auditor.specs.Lanes.{letters_still, lane, IsFirstInLane, clock_of}
 
@@ -41,7 +44,13 @@ IsNodeStamp n = (0 < n) × (n ≤ MAX_STAMP)
 -- a node's slots are from 0 on
 abbrev pub IsNodeSlot : Event → Type 0
 IsNodeSlot (Born p parent link) = p.slot < MAX_SLOTS
+IsNodeSlot (Said a b x) = b.slot < MAX_SLOTS
 IsNodeSlot _ = ⊤
+
+-- no signal is sent to a version 0; how a newborn's version follows others is said below
+abbrev pub IsNodeVersion : Event → Type 0
+IsNodeVersion (Said a b x) = 0 < b.version
+IsNodeVersion _ = ⊤
 
 -- how many versions a slot may have is not printed: a newborn's own is not too high
 abbrev pub top_of : Event → ℕ
@@ -51,6 +60,18 @@ top_of _ = 0
 -- what is said to a pid of the desk comes after that pid's birth; a slot's versions follow one another
 abbrev pub IsKnownHere : Past → Stamped → Type 0
 IsKnownHere past s = IsKnown [] s.desk (top_of s.event) past s.event
+
+-- a signal whose call a desk refuses, if it sees that the receiver has exited
+abbrev pub reaches : Signal → Bool
+reaches (Message body) = true
+reaches (Link i) = true
+reaches (Monitor m) = true
+reaches _ = false
+
+-- a desk sees each exit of its own processes: so none of those signals goes to one that has exited
+abbrev pub GoesToNoEnded : Past → ℕ → Event → Type 0
+GoesToNoEnded past d (Said a b x) = reaches x ≡ true → b.shard ≡ d → is_ended (life [] past b) ≡ false
+GoesToNoEnded past d _ = ⊤
 
 -- letters come from desk to desk in the order of their sending
 abbrev pub ComesInOrder : List Stamped → Event → Type 0
@@ -85,6 +106,7 @@ pub record IsNamedByNode (s : Stamped) : Type 0 where
   pub desk : IsNodeDesk s
   pub stamp : IsNodeStamp s.stamp
   pub slot : IsNodeSlot s.event
+  pub version : IsNodeVersion s.event
   pub home : IsHome s.desk s.event
   pub new_at : IsNewAt s.desk s.stamp s.event
 
@@ -92,6 +114,7 @@ pub record IsNamedByNode (s : Stamped) : Type 0 where
 pub record IsFromNode (past : List Stamped) (s : Stamped) : Type 0 where
   pub named : IsNamedByNode s
   pub known : IsKnownHere (events past) s
+  pub alive : GoesToNoEnded (events past) s.desk s.event
   pub order : ComesInOrder past s.event
   pub time : IsInTime past s.desk s.stamp s.event
 
@@ -100,20 +123,38 @@ abbrev pub IsNoNode : List Stamped → Stamped → NoNode → Type 0
 IsNoNode past s Desk = ¬ IsNodeDesk s
 IsNoNode past s Stamp = IsNodeDesk s × ¬ IsNodeStamp s.stamp
 IsNoNode past s Slot = IsNodeDesk s × IsNodeStamp s.stamp × ¬ IsNodeSlot s.event
-IsNoNode past s OtherDesk = IsNodeDesk s × IsNodeStamp s.stamp × IsNodeSlot s.event × ¬ IsHome s.desk s.event
+IsNoNode past s NoVersion = IsNodeDesk s × IsNodeStamp s.stamp × IsNodeSlot s.event × ¬ IsNodeVersion s.event
+IsNoNode past s OtherDesk =
+    IsNodeDesk s × IsNodeStamp s.stamp × IsNodeSlot s.event × IsNodeVersion s.event × ¬ IsHome s.desk s.event
 IsNoNode past s OtherId =
-    IsNodeDesk s × IsNodeStamp s.stamp × IsNodeSlot s.event × IsHome s.desk s.event
+    IsNodeDesk s × IsNodeStamp s.stamp × IsNodeSlot s.event × IsNodeVersion s.event × IsHome s.desk s.event
     × ¬ IsNewAt s.desk s.stamp s.event
 IsNoNode past s Version = IsNamedByNode s × (is_born s.event ≡ true) × ¬ IsKnownHere (events past) s
 IsNoNode past s Unborn = IsNamedByNode s × (is_born s.event ≡ false) × ¬ IsKnownHere (events past) s
-IsNoNode past s Overtakes = IsNamedByNode s × IsKnownHere (events past) s × ¬ ComesInOrder past s.event
+IsNoNode past s Ended =
+    IsNamedByNode s × IsKnownHere (events past) s × ¬ GoesToNoEnded (events past) s.desk s.event
+IsNoNode past s Overtakes =
+    IsNamedByNode s × IsKnownHere (events past) s × GoesToNoEnded (events past) s.desk s.event
+    × ¬ ComesInOrder past s.event
 IsNoNode past s OtherStamp =
-    IsNamedByNode s × IsKnownHere (events past) s × ComesInOrder past s.event
-    × ¬ IsInTime past s.desk s.stamp s.event
+    IsNamedByNode s × IsKnownHere (events past) s × GoesToNoEnded (events past) s.desk s.event
+    × ComesInOrder past s.event × ¬ IsInTime past s.desk s.stamp s.event
+-- letters left over alone come in a turn
+IsNoNode past s OtherTurn = ⊥
 
 abbrev pub IsJudgedForeign : List Stamped → Stamped → Option NoNode → Type 0
 IsJudgedForeign past s None = IsFromNode past s
 IsJudgedForeign past s (Some why) = IsNoNode past s why
+
+-- the desks of the letter left over that was told of last; where there is none, the lowest
+abbrev pub last_lane : List LeftOver → ℕ × ℕ
+last_lane [] = (0, 0)
+last_lane (l ∷ left) = (l.letter.from.shard, l.letter.to.shard)
+
+-- letters are left over by the desk of the sender, and of one by that of the receiver
+abbrev pub IsInTurnOf : ℕ × ℕ → LeftOver → Type 0
+IsInTurnOf before l =
+    (before.0 < l.letter.from.shard) ⊎ ((before.0 ≡ l.letter.from.shard) × (before.1 ≤ l.letter.to.shard))
 
 -- a letter left over has the stamp of its sending, and is the oldest of those from its one desk to the other
 abbrev pub HasItsStamp : List Letter → LeftOver → Type 0
@@ -121,18 +162,21 @@ HasItsStamp letters l =
     (m : Letter) → slice_get (lane l.letter.from.shard l.letter.to.shard letters) 0 ≡ Some m
     → l.letter.stamp ≡ m.stamp
 
-pub record IsLeftByNode (letters : List Letter) (l : LeftOver) : Type 0 where
+pub record IsLeftByNode (letters : List Letter) (before : ℕ × ℕ) (l : LeftOver) : Type 0 where
   pub order : IsFirstInLane l.letter.from l.letter.to letters
   pub stamp : HasItsStamp letters l
+  pub turn : IsInTurnOf before l
 
-abbrev pub IsNoLeft : List Letter → LeftOver → NoNode → Type 0
-IsNoLeft letters l Overtakes = ¬ IsFirstInLane l.letter.from l.letter.to letters
-IsNoLeft letters l OtherStamp = IsFirstInLane l.letter.from l.letter.to letters × ¬ HasItsStamp letters l
-IsNoLeft letters l _ = ⊥
+abbrev pub IsNoLeft : List Letter → ℕ × ℕ → LeftOver → NoNode → Type 0
+IsNoLeft letters before l Overtakes = ¬ IsFirstInLane l.letter.from l.letter.to letters
+IsNoLeft letters before l OtherStamp = IsFirstInLane l.letter.from l.letter.to letters × ¬ HasItsStamp letters l
+IsNoLeft letters before l OtherTurn =
+    IsFirstInLane l.letter.from l.letter.to letters × HasItsStamp letters l × ¬ IsInTurnOf before l
+IsNoLeft letters before l _ = ⊥
 
-abbrev pub IsJudgedLeft : List Letter → LeftOver → Option NoNode → Type 0
-IsJudgedLeft letters l None = IsLeftByNode letters l
-IsJudgedLeft letters l (Some why) = IsNoLeft letters l why
+abbrev pub IsJudgedLeft : List Letter → ℕ × ℕ → LeftOver → Option NoNode → Type 0
+IsJudgedLeft letters before l None = IsLeftByNode letters before l
+IsJudgedLeft letters before l (Some why) = IsNoLeft letters before l why
 
 -- of a whole history, the newest event and the last letter first ------------------------------
 
@@ -142,7 +186,8 @@ AllFromNode (s ∷ past) = IsFromNode past s × AllFromNode past
 
 abbrev pub AllLeftByNode : List Letter → List LeftOver → Type 0
 AllLeftByNode letters [] = ⊤
-AllLeftByNode letters (l ∷ left) = IsLeftByNode (letters_still letters left) l × AllLeftByNode letters left
+AllLeftByNode letters (l ∷ left) =
+    IsLeftByNode (letters_still letters left) (last_lane left) l × AllLeftByNode letters left
 
 -- this is its first event that no node prints
 abbrev pub IsFirstForeign : List Stamped → Foreign → Type 0
@@ -156,7 +201,7 @@ IsFirstLeft past [] f = ⊥
 IsFirstLeft past (l ∷ left) f =
     IsFirstLeft past left f
     ⊎ (AllLeftByNode (letters_flying past) left × (f.line ≡ min (length past + length left + 1) (2 ^ 64 - 1))
-    × IsNoLeft (letters_still (letters_flying past) left) l f.why)
+    × IsNoLeft (letters_still (letters_flying past) left) (last_lane left) l f.why)
 
 -- a node can have printed the history, or the first line is named that none prints
 abbrev pub IsOrigin : List Stamped → List LeftOver → Option Foreign → Type 0
@@ -182,7 +227,12 @@ is_node_stamp n = nat_lt 0 n && nat_le n MAX_STAMP
 
 abbrev pub is_node_slot : Event → Bool
 is_node_slot (Born p parent link) = nat_lt p.slot MAX_SLOTS
+is_node_slot (Said a b x) = nat_lt b.slot MAX_SLOTS
 is_node_slot _ = true
+
+abbrev pub is_node_version : Event → Bool
+is_node_version (Said a b x) = nat_lt 0 b.version
+is_node_version _ = true
 
 abbrev pub is_home : ℕ → Event → Bool
 is_home d (Born p None link) = p.shard == d
@@ -218,6 +268,10 @@ was_born s p = is_living (now_is s p) || has_ended s p
 abbrev pub is_known : JudgeState → ℕ → Event → Bool
 is_known s d (Said a b x) = not (b.shard == d) || was_born s b
 is_known s d _ = true
+
+abbrev pub goes_to_no_ended : JudgeState → ℕ → Event → Bool
+goes_to_no_ended s d (Said a b x) = not (reaches x && (b.shard == d) && has_ended s b)
+goes_to_no_ended s d _ = true
 
 abbrev pub is_in_turn : JudgeState → Event → Bool
 is_in_turn s (Born p parent link) = is_next_version s p
@@ -260,8 +314,10 @@ abbrev pub no_place : Desks → JudgeState → Stamped → Option NoNode
 no_place k j s =
     cond (is_in_turn j s.event)
     (cond (is_known j s.desk s.event)
+    (cond (goes_to_no_ended j s.desk s.event)
     (cond (is_in_order k s.event)
     (cond (is_in_time k j s.desk s.stamp s.event) None (Some OtherStamp)) (Some Overtakes))
+    (Some Ended))
     (Some Unborn))
     (Some Version)
 
@@ -270,7 +326,9 @@ no_name s =
     cond (is_node_desk s)
     (cond (is_node_stamp s.stamp)
     (cond (is_node_slot s.event)
+    (cond (is_node_version s.event)
     (cond (is_home s.desk s.event) (cond (is_new_at s.desk s.stamp s.event) None (Some OtherId)) (Some OtherDesk))
+    (Some NoVersion))
     (Some Slot))
     (Some Stamp))
     (Some Desk)
@@ -286,10 +344,16 @@ abbrev pub has_its_stamp : ℕ → Option Letter → Bool
 has_its_stamp n None = true
 has_its_stamp n (Some l) = n == l.stamp
 
+abbrev pub is_in_turn_of : ℕ × ℕ → LeftOver → Bool
+is_in_turn_of before l =
+    nat_lt before.0 l.letter.from.shard
+    || ((before.0 == l.letter.from.shard) && nat_le before.1 l.letter.to.shard)
+
 abbrev pub no_left : Desks → LeftOver → Option NoNode
 no_left k l =
     cond (is_between_them l.letter.from l.letter.to (first_laid k l.letter.from l.letter.to))
-    (cond (has_its_stamp l.letter.stamp (first_laid k l.letter.from l.letter.to)) None (Some OtherStamp))
+    (cond (has_its_stamp l.letter.stamp (first_laid k l.letter.from l.letter.to))
+    (cond (is_in_turn_of k.left l) None (Some OtherTurn)) (Some OtherStamp))
     (Some Overtakes)
 
 -- what the desks have after one event more ------------------------------------------------------
@@ -307,5 +371,6 @@ IsCarried n event sent old new =
 pub record IsMovedOn (j : JudgeState) (lived begun : Bool) (s : Stamped) (old new : Desks) : Type 0 where
   pub lanes : IsCarried s.stamp s.event (judge_sends j.lives lived s.event) old.lanes new.lanes
   pub clocks : (d : ℕ) → stamp_noted new.clocks d ≡ cond (s.desk == d) s.stamp (stamp_noted old.clocks d)
+  pub left : new.left ≡ old.left
   pub newest : new.newest ≡ s.stamp
   pub begun_is : new.begun ≡ begun

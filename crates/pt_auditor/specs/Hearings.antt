@@ -25,6 +25,7 @@ use Rattle.pt_auditor.specs.declared.desks.Desks.{Desks}
 use Rattle.pt_auditor.specs.declared.foreign.NoNode.{NoNode}
 use Rattle.pt_auditor.specs.Lanes.{IsLaid, letters_laid, letters_flying, letters_still, lane, clock_of, stamp_noted}
 use Rattle.pt_auditor.specs.Foreigners.{IsOrigin, IsNoNode, MayBegin, Decides, IsMovedOn, first_foreign, no_node, no_left, may_begin}
+use Rattle.pt_auditor.specs.Foreigners.{last_lane}
 use Rattle.pt_events.specs.Counting.{capped}
 
 -- the events, the newest first, and the letters left over, the last told first; and the last event of the rest from
@@ -93,6 +94,7 @@ TellsBegin (s ∷ past) b = Decides b (MayBegin past s.stamp)
 pub record IsNodeAfter (past : List Stamped) (left : List LeftOver) (k : Desks) : Type 0 where
   pub lanes : (d e : ℕ) → letters_laid k.lanes d e ≡ lane d e (letters_still (letters_flying past) left)
   pub clocks : (d : ℕ) → stamp_noted k.clocks d ≡ clock_of d past
+  pub turn : k.left ≡ last_lane left
   pub newest : k.newest ≡ clock 0 past
   pub begun : TellsBegin past k.begun
 
@@ -212,7 +214,7 @@ pub record IsWithout (l : LeftOver) (old new : Hearing) : Type 0 where
   pub letters : new.letters ≡ min (old.letters + 1) (2 ^ 64 - 1)
   pub lanes : IsLaid l.letter.from.shard l.letter.to.shard
       (drop 1 (letters_laid old.node.lanes l.letter.from.shard l.letter.to.shard)) old.node.lanes new.node.lanes
-  pub node : new.node ≡ record old.node { lanes = new.node.lanes }
+  pub node : new.node ≡ record old.node { lanes = new.node.lanes; left = (l.letter.from.shard, l.letter.to.shard) }
   pub foreign : new.foreign
       ≡ first_foreign old.foreign (no_left old.node l) (min (min (old.events + old.letters) (2 ^ 64 - 1) + 1) (2 ^ 64 - 1))
 

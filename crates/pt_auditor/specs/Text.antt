@@ -26,12 +26,15 @@ unfoldable pub no_node_text : NoNode → List ℕ
 no_node_text alien.Desk = codes "a node has desks 0 to 63"
 no_node_text alien.Stamp = codes "a node's stamps are from 1 to 4611686018427387904"
 no_node_text alien.Slot = codes "a node has slots 0 to 65535"
+no_node_text alien.NoVersion = codes "a node has versions from 1 on"
 no_node_text alien.OtherDesk = codes "the process is of another desk"
 no_node_text alien.OtherId = codes "what is new is not named by the desk and the stamp"
 no_node_text alien.Version = codes "the version before it in the slot has not ended"
 no_node_text alien.Unborn = codes "the receiver is of the same desk, and was not born"
+no_node_text alien.Ended = codes "the receiver is of the same desk, and has ended"
 no_node_text alien.Overtakes = codes "an older letter between the two desks is on its way"
 no_node_text alien.OtherStamp = codes "the stamp is not the one that a node gives"
+no_node_text alien.OtherTurn = codes "letters left over are in the order of their desks"
 
 unfoldable pub foreign_text : Foreign → List ℕ
 foreign_text f = codes "line " ++ decimal f.line ++ codes ": " ++ no_node_text f.why

@@ -17,6 +17,8 @@ use std::alloc::{AllocError, Global};
 pub(crate) struct Desks {
     lanes: Lanes,
     clocks: Clocks,
+    /// The desks of the letter left over that was read last. They are 0 and 0 before the first.
+    left: (u8, u8),
     /// The stamp of the newest event, or 0.
     newest: u64,
     /// Whether all clocks may have stood just below that stamp before its first event.
@@ -29,6 +31,7 @@ impl Drop for Desks {
         let Desks {
             lanes: _,
             clocks: _,
+            left: _,
             newest: _,
             begun: _,
         } = self;
@@ -38,11 +41,12 @@ impl Drop for Desks {
 impl Desks {
     /// Nothing happened.
     pub(crate) fn new(alloc: Global) -> Desks
-        ensures { result ≡ record { lanes = []; clocks = []; newest = 0; begun = false } }
+        ensures { result ≡ record { lanes = []; clocks = []; left = (0, 0); newest = 0; begun = false } }
     {
         Desks {
             lanes: Lanes::new(alloc),
             clocks: Clocks::new(alloc),
+            left: (0, 0),
             newest: 0,
             begun: false,
         }
@@ -51,11 +55,12 @@ impl Desks {
     /// Nothing is on its way, and the clocks are these; the newest stamp, and whether all clocks may have stood just below
     /// it.
     pub(crate) fn over(alloc: Global, clocks: Clocks, newest: u64, begun: bool) -> Desks
-        ensures { result ≡ record { lanes = []; clocks = clocks; newest = newest; begun = begun } }
+        ensures { result ≡ record { lanes = []; clocks = clocks; left = (0, 0); newest = newest; begun = begun } }
     {
         Desks {
             lanes: Lanes::new(alloc),
             clocks,
+            left: (0, 0),
             newest,
             begun,
         }
@@ -68,6 +73,7 @@ impl Desks {
         let Desks {
             lanes: _,
             clocks,
+            left: _,
             newest: _,
             begun,
         } = self;
@@ -88,6 +94,13 @@ impl Desks {
         self.clocks.of(desk)
     }
 
+    /// The desks of the letter left over that was read last, or 0 and 0.
+    pub(crate) fn left(&self) -> (u8, u8)
+        ensures { result ≡ self.now.left }
+    {
+        self.left
+    }
+
     /// Whether all clocks may stand just below the stamp: no clock is above it, and the node was opened or resumed there
     /// if nothing was on its way.
     pub(crate) fn may_begin(&self, state: &State, stamp: u64) -> bool
@@ -100,12 +113,13 @@ impl Desks {
             && (self.newest == 0 || (self.newest < stamp && stamp - self.newest == 1))
     }
 
-    /// The oldest letter from the desk of the one process to that of the other is on its way no more.
+    /// The oldest letter from the desk of the one process to that of the other is on its way no more: it is left over.
     pub(crate) fn drop_first(&mut self, from: Pid, to: Pid)
         ensures lanes { IsLaid from.shard to.shard (drop 1 (letters_laid self.old.lanes from.shard to.shard)) self.old.lanes self.new.lanes }
-        ensures kept { self.new ≡ record self.old { lanes = self.new.lanes } }
+        ensures kept { self.new ≡ record self.old { lanes = self.new.lanes; left = (from.shard, to.shard) } }
     {
         self.lanes.pop(from.shard, to.shard);
+        self.left = (from.shard, to.shard);
     }
 
     /// After an event, where the state is that after it, its process lived before it or did not, and all clocks may have
@@ -123,6 +137,7 @@ impl Desks {
         let Desks {
             mut lanes,
             mut clocks,
+            left,
             newest: _,
             begun: _,
         } = self;
@@ -131,6 +146,7 @@ impl Desks {
         Ok(Desks {
             lanes,
             clocks,
+            left,
             newest: stamped.stamp,
             begun,
         })

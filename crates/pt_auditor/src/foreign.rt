@@ -4,6 +4,7 @@ ghost use Rattle.std.specs.Prelude.{◌≡◌, ◌+◌, ◌==◌};
 ghost use Rattle.pt_auditor.specs.Foreigners.{is_node_desk, is_node_stamp, is_node_slot, is_home, is_new_at};
 ghost use Rattle.pt_auditor.specs.Foreigners.{is_next_version, is_in_turn, is_known, no_node, was_born, no_name, no_place};
 ghost use Rattle.pt_auditor.specs.Foreigners.{is_between_them, is_in_order, is_above_both, is_in_time, has_its_stamp, no_left};
+ghost use Rattle.pt_auditor.specs.Foreigners.{is_node_version, reaches, goes_to_no_ended, is_in_turn_of};
 
 use crate::desks::Desks;
 use pt_events::{Event, MAX_STAMP, Stamped};
@@ -13,15 +14,17 @@ use pt_texts::LeftOver;
 
 /// Why no node prints an event that may come next, or a letter left over. A node's desks write only the events of their
 /// own processes, with ids and references that are their desk and their stamp. Letters from one desk to another come in
-/// order.
+/// order. A desk sends no message, link or monitor to a process of its own that has exited.
 #[derive(Clone, Copy, Debug, PartialEq, Eq)]
 pub enum NoNode {
     /// The desk of the event, or of a receiver, is above 63.
     Desk,
     /// The stamp is 0, or above [`MAX_STAMP`].
     Stamp,
-    /// The slot of the new process is above 65,535.
+    /// The slot of the new process, or of a receiver, is above 65,535.
     Slot,
+    /// The version of a receiver is 0.
+    NoVersion,
     /// The process of the event, or its parent, is of another desk than the event.
     OtherDesk,
     /// The new id of a link, or the new reference, is not the desk and the stamp of the event.
@@ -30,10 +33,14 @@ pub enum NoNode {
     Version,
     /// The receiver is of the sender's desk, and was never spawned.
     Unborn,
+    /// The receiver of the message, link or monitor is of the sender's desk, and has exited.
+    Ended,
     /// The letter is not the oldest in flight from its sender's desk to its receiver's.
     Overtakes,
     /// The event has another stamp than its desk gives next, or the letter left over has another one than its sending.
     OtherStamp,
+    /// The desks of the letter left over come before those of the letter before it.
+    OtherTurn,
 }
 
 /// The first line that no node prints.
@@ -61,12 +68,23 @@ fn is_node_stamp(stamp: u64) -> bool
     0 < stamp && stamp <= MAX_STAMP
 }
 
-/// Whether the new process's slot is among those that a node may have.
+/// Whether the slot of the new process, or of the receiver, is among those that a node may have.
 fn is_node_slot(event: Event) -> bool
     ensures { result ≡ is_node_slot event }
 {
     match event {
         Event::Born(pid, _, _) => pid.slot < MAX_SLOTS,
+        Event::Said(_, to, _) => to.slot < MAX_SLOTS,
+        _ => true,
+    }
+}
+
+/// Whether the receiver has a version.
+fn is_node_version(event: Event) -> bool
+    ensures { result ≡ is_node_version event }
+{
+    match event {
+        Event::Said(_, to, _) => to.version > 0,
         _ => true,
     }
 }
@@ -140,6 +158,30 @@ fn is_in_turn(state: &State, event: Event) -> bool
     }
 }
 
+/// Whether it is the signal of a call that is refused if its desk sees that the receiver has exited.
+fn reaches(signal: Signal) -> bool
+    ensures { result ≡ reaches signal }
+{
+    match signal {
+        Signal::Message(_) => true,
+        Signal::Link(_) => true,
+        Signal::Monitor(_) => true,
+        _ => false,
+    }
+}
+
+/// Whether no such call goes to a process of the desk that has exited.
+fn goes_to_no_ended(state: &State, desk: u8, event: Event) -> bool
+    ensures { result ≡ goes_to_no_ended state.now desk event }
+{
+    match event {
+        Event::Said(_, to, signal) => {
+            !(reaches(signal) && to.shard == desk && state.ended(to).is_some())
+        }
+        _ => true,
+    }
+}
+
 /// Whether the letter is from the one to the other.
 fn is_between_them(from: Pid, to: Pid, letter: Option<Letter>) -> bool
     ensures { result ≡ is_between_them from to letter }
@@ -205,6 +247,9 @@ fn no_name(stamped: Stamped) -> Option<NoNode>
     if !is_node_slot(event) {
         return Some(NoNode::Slot);
     }
+    if !is_node_version(event) {
+        return Some(NoNode::NoVersion);
+    }
     if !is_home(desk, event) {
         return Some(NoNode::OtherDesk);
     }
@@ -224,6 +269,9 @@ fn no_place(desks: &Desks, state: &State, stamped: Stamped) -> Option<NoNode>
     }
     if !is_known(state, desk, event) {
         return Some(NoNode::Unborn);
+    }
+    if !goes_to_no_ended(state, desk, event) {
+        return Some(NoNode::Ended);
     }
     if !is_in_order(desks, event) {
         return Some(NoNode::Overtakes);
@@ -254,6 +302,14 @@ fn has_its_stamp(stamp: u64, letter: Option<Letter>) -> bool
     }
 }
 
+/// Whether the desks of the letter are not below those of the letter before it.
+fn is_in_turn_of(before: (u8, u8), left: LeftOver) -> bool
+    ensures { result ≡ is_in_turn_of before left }
+{
+    let Letter { from, to, .. } = left.letter;
+    before.0 < from.shard || (before.0 == from.shard && before.1 <= to.shard)
+}
+
 /// Why no node prints the letter left over next, if none does: the first reason that holds.
 pub(crate) fn no_left(desks: &Desks, left: LeftOver) -> Option<NoNode>
     ensures { result ≡ no_left desks.now left }
@@ -265,6 +321,9 @@ pub(crate) fn no_left(desks: &Desks, left: LeftOver) -> Option<NoNode>
     }
     if !has_its_stamp(letter.stamp, first) {
         return Some(NoNode::OtherStamp);
+    }
+    if !is_in_turn_of(desks.left(), left) {
+        return Some(NoNode::OtherTurn);
     }
     None
 }

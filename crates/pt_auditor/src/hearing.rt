@@ -242,7 +242,7 @@ impl Hearing {
     /// - [`Objection::Behind`]: a letter left over was read before.
     /// - [`Objection::Sinks`]: it does not follow the event before by stamp and desk.
     /// - [`Objection::MayNot`]: it may not come next.
-    /// - [`Objection::OfNoNode`]: the hearing went on from a rest, and no node prints the event.
+    /// - [`Objection::OfNoNode`]: the hearing went on from a rest of at least one event, and no node prints this one.
     /// - [`Objection::Memory`]: there is no memory.
     ///
     /// If it fails, the hearing is dropped.

@@ -23,12 +23,14 @@
 //!   read before. (`Hearing::tell`)
 //! - **The verdict.** At the end each letter in flight was read, or the oldest that was not is returned.
 //!   (`Hearing::end`)
-//! - **Of a node.** A verdict names the first line that no node prints. Without such a line it names none.
-//!   (`Hearing::foreign`, `end`)
+//! - **Of a node.** A verdict names the first line that is not as a node prints it, and why. Without such a line it names
+//!   none. (`Hearing::foreign`, `end`; what is compared is `IsOrigin`)
 //! - **Events of a node.** A node prints an event on the desk of its process, with a new id that is its desk and stamp,
 //!   with a slot's versions in turn, and with the stamp that the desk gives next.
+//! - **Receivers of a node.** A signal goes to a slot and a version that a node may have. No message, link or monitor goes
+//!   to a process of the same desk that has exited.
 //! - **Letters of a node.** Letters from one desk to another come, and are left over, in the order of their sending.
-//!   Each letter left over has the stamp of its sending.
+//!   Each letter left over has the stamp of its sending. They are left over by the sender's desk, then the receiver's.
 //! - **Epoch by epoch.** An audit over the rest of a history has the verdict of both together, or an event is at fault
 //!   that no node prints. (`Audit::rest`, `over`, `Hearing::rest`, `over`)
 //! - **A rest.** It has the clocks of the desks, each process that lives with all that it holds, and why each other one

@@ -34,8 +34,8 @@ pub enum Objection {
     OtherLetter(Option<Signal>),
     /// A signal is in flight, from the first to the second, and no line names it.
     Untold(Pid, Pid, Signal),
-    /// A hearing that went on from a rest reads an event that no node prints, and knows no older ids and references. This says why
-    /// none prints it.
+    /// A hearing that went on from a rest of at least one event reads an event that no node prints, and knows no older ids
+    /// and references. This says why none prints it.
     OfNoNode(NoNode),
     /// There was no memory to judge an event that may come next.
     Memory,

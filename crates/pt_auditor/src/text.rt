@@ -90,12 +90,15 @@ impl fmt::Display for NoNode {
             NoNode::Desk => "a node has desks 0 to 63",
             NoNode::Stamp => "a node's stamps are from 1 to 4611686018427387904",
             NoNode::Slot => "a node has slots 0 to 65535",
+            NoNode::NoVersion => "a node has versions from 1 on",
             NoNode::OtherDesk => "the process is of another desk",
             NoNode::OtherId => "what is new is not named by the desk and the stamp",
             NoNode::Version => "the version before it in the slot has not ended",
             NoNode::Unborn => "the receiver is of the same desk, and was not born",
+            NoNode::Ended => "the receiver is of the same desk, and has ended",
             NoNode::Overtakes => "an older letter between the two desks is on its way",
             NoNode::OtherStamp => "the stamp is not the one that a node gives",
+            NoNode::OtherTurn => "letters left over are in the order of their desks",
         })
     }
 }

@@ -6,11 +6,12 @@
 ghost use Rattle.std.specs.Prelude.{◌≡◌, true, false};
 ghost use Rattle.pt_table.specs.Answers.{CallsThrough};
 ghost use Rattle.pt_structs.specs.Crossing.{pid_crossed};
-ghost use Rattle.pt_asking.specs.Calls.{AsksServer, ExpiresCode, HearsItem, ReadsRequest, RepliesCode};
+ghost use Rattle.pt_asking.specs.Calls.{AsksServer, ExpiresCode, HearsItem, ReadsRequest, RepliesCode, TellsIfCall};
 ghost use Rattle.pt_asking.specs.About.{asking_about};
 
 use pt_asking::about::{PtAskingAbout, about};
 use pt_asking::replying::request_of;
+use pt_asking::telling::is_call;
 use pt_asking::types::{PtCall, PtHeard, PtRequest};
 use pt_calls::asking;
 use pt_structs::types::{PtItem, PtPid};
@@ -88,6 +89,14 @@ pub extern "C" fn pt_request_of(item: PtItem, out: &mut PtRequest) -> u32
     ensures { ReadsRequest item result out.old out.new }
 {
     request_of(item, out)
+}
+
+/// Writes to `out` whether an item that `me` got is a message of a call: a request, or an answer.
+#[unsafe(no_mangle)]
+pub extern "C" fn pt_is_call(me: PtPid, item: PtItem, out: &mut bool) -> u32
+    ensures { TellsIfCall (pid_crossed me) item result out.old out.new }
+{
+    is_call(me, item, out)
 }
 
 /// Answers a request, as `reply` does.

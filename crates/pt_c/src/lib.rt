@@ -27,9 +27,10 @@
 //!   `SpawnsBossInTeam`)
 //! - **Timers and names.** Each call is that of `Timers` and of `Names`, with bytes for a name. (`StartsTimer`,
 //!   `RegistersName`)
-//! - **Calls.** Asking, hearing and replying are those of `pt_crew`, and a call ends once. (`AsksServer`, `HearsItem`)
+//! - **Calls.** Asking, hearing and replying are those of `pt_crew`, and a call ends once. The messages of calls are told
+//!   from others. (`AsksServer`, `HearsItem`, `TellsIfCall`)
 //! - **Letters and doors.** The next turn posts to no other desks than those told. What is taken out of a way in is what was
-//!   handed in, in order. (`PostsWhereLettersWait`, `TakesCode`)
+//!   handed in, in order, each message once. (`PostsWhereLettersWait`, `TakesCode`, `meet` of `pt_doors`)
 //! - **Nodes.** Opening, gathering, settling and resuming leave in the handles what `open`, `gather`, `settle` and
 //!   `resume` promise, or `settle_unlisted` and `resume_settled`.
 //! - **Going on.** A node and its crews, or its teams, go through the stages of a pause in one call. Whichever is refused,

@@ -6,7 +6,8 @@
 ghost use Rattle.std.specs.Prelude.{◌≡◌};
 ghost use Rattle.pt_table.specs.Answers.{CallsThrough, ReadsThrough, ShowsCode};
 ghost use Rattle.pt_structs.specs.Crossing.{item_out};
-ghost use Rattle.pt_table.specs.Losing.{KeepsLosses, PassesLoss, item_lost, loss_numbered, loss_out};
+ghost use Rattle.pt_structs.specs.Crossing.{loss_numbered};
+ghost use Rattle.pt_table.specs.Losing.{KeepsLosses, PassesLoss, item_lost, loss_out};
 
 use pt_calls::losses;
 use pt_structs::types::{PtItem, PtLoss};

@@ -9,7 +9,7 @@ ghost use Rattle.pt_table.specs.Answers.{CallsThrough, ReadsThrough, ShowsCode};
 ghost use Rattle.pt_structs.specs.Crossing.{pid_crossed, pid_out, ref_in};
 ghost use Rattle.pt_calls.specs.Naming.{ChecksName, ForgetsHolder, IfIsName, RegistersName, UnregistersName};
 ghost use Rattle.pt_calls.specs.Naming.{name_crossed, name_out};
-ghost use Rattle.pt_handles.specs.Handles.{GivesUp};
+ghost use Rattle.pt_places.specs.Filling.{GivesUp};
 ghost use Rattle.pt_calls.specs.Naming.{OpensNames};
 
 use pt_calls::names;

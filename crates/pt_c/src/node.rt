@@ -4,7 +4,7 @@ ghost use Rattle.std.specs.Prelude.{◌≡◌, map};
 ghost use Rattle.pt_workers.specs.Desks.{AreDesks};
 ghost use Rattle.pt_table.specs.Answers.{value_behind, values};
 ghost use Rattle.pt_nodes.specs.Nodes.{OpensAs, IsWholeNode, GathersAs, SettlesAs, HandleTells};
-ghost use Rattle.pt_handles.specs.Handles.{GivesUp};
+ghost use Rattle.pt_places.specs.Filling.{GivesUp};
 ghost use Rattle.pt_nodes.specs.Nodes.{IsHistoryOf, IsQuietHistoryOf};
 
 use pt_nodes::gathered_handle::GatheredHandle;

@@ -3,7 +3,7 @@
 ghost use Rattle.std.specs.Prelude.{◌≡◌, length, map};
 ghost use Rattle.pt_table.specs.Answers.{ReadsThrough, value_behind};
 ghost use Rattle.pt_nodes.specs.Nodes.{SettlesAs, ListsAs, ResumesAs, HandleTells, IsQuietHistoryOf};
-ghost use Rattle.pt_handles.specs.Handles.{GivesUp};
+ghost use Rattle.pt_places.specs.Filling.{GivesUp};
 
 use pt_nodes::gathered_handle::GatheredHandle;
 use pt_nodes::settled;

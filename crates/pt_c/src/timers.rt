@@ -7,7 +7,7 @@ ghost use Rattle.std.specs.Prelude.{◌≡◌, length};
 ghost use Rattle.pt_timers.specs.State.{body_of};
 ghost use Rattle.pt_table.specs.Answers.{CallsThrough, ReadsThrough, ShowsCode};
 ghost use Rattle.pt_tools.specs.Timing.{CancelsTimer, FiresTimer, ShowsDue, ShowsNextTimer, StartsTimer, timer_in};
-ghost use Rattle.pt_handles.specs.Handles.{GivesUp};
+ghost use Rattle.pt_places.specs.Filling.{GivesUp};
 ghost use Rattle.pt_tools.specs.Opening.{OpensTimers};
 
 use pt_tools::timers;

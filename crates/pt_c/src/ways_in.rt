@@ -5,7 +5,7 @@
 
 ghost use Rattle.std.specs.Prelude.{◌≡◌};
 ghost use Rattle.pt_table.specs.Answers.{CallsThrough};
-ghost use Rattle.pt_handles.specs.Handles.{GivesUp};
+ghost use Rattle.pt_places.specs.Filling.{GivesUp};
 ghost use Rattle.pt_doors.specs.Crossing.{LooksInCode, OpensWayIn, PostsCode, TakesCode, post_in, sample_post};
 
 use pt_calls::doors;
@@ -17,7 +17,7 @@ use std::alloc::Global;
 use std::mem::size_of;
 
 /// Makes a way in with so many places: a door for a thread without a desk, and the other end for that of a desk. The
-/// handles must be empty: it returns 10 if one is not.
+/// handles must be empty: it returns 10 if one is not. It returns 22 if no place is asked for.
 #[unsafe(no_mangle)]
 pub extern "C" fn pt_door_open(
     alloc: Global,
@@ -46,7 +46,8 @@ pub extern "C" fn pt_way_in_give_up(alloc: Global, w: &mut WayInHandle) -> u32
     doors::give_up_way_in(alloc, w)
 }
 
-/// Hands in a message, as `Door::post` does. It returns 1 if the door knows of no free place, and nothing has changed then.
+/// Hands in a message, as `Door::post` does. It returns 4 if the door is told that its way in was given up, and otherwise 1
+/// if it knows of no free place. Nothing has changed then.
 #[unsafe(no_mangle)]
 pub extern "C" fn pt_door_post(alloc: Global, d: &mut DoorHandle, post: PtPost) -> u32
     ensures { CallsThrough d.old.state d.new.state result (Unit {0}) (λ old new. PostsCode (post_in post) result old new) }

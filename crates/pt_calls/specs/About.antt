@@ -48,6 +48,7 @@ all_codes = record {
   bad_name = 19;
   taken = 20;
   has_name = 21;
+  bad_places = 22;
   reason_normal = 0;
   reason_kill = 1;
   reason_killed = 2;
@@ -118,6 +119,7 @@ with_answers c = record c {
   bad_name = 19;
   taken = 20;
   has_name = 21;
+  bad_places = 22;
 }
 
 -- of which these are of reasons, of items and of picks
@@ -215,7 +217,7 @@ all_sizes = record {
   fired = 24;
   name = 32;
   holder = 32;
-  codes = 260;
+  codes = 264;
 }
 
 -- a value whose fields have the numbers from this one on

@@ -11,7 +11,7 @@ use Rattle.pt_structs.specs.declared.types.PtAnswer.{PtAnswer}
 use Rattle.pt_table.specs.Answers.{HandlePlace, full}
 use Rattle.pt_structs.specs.Codes.{filled}
 use Rattle.pt_table.specs.Crewing.{TakesAnswers}
-use Rattle.pt_handles.specs.Handles.{IfEmpty}
+use Rattle.pt_places.specs.Filling.{IfEmpty}
 
 -- with no process, for whichever desk
 pub record IsNewCrew (h : Hands) : Type 0 where

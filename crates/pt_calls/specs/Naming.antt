@@ -9,7 +9,7 @@ use Rattle.pt_names.specs.declared.names.RegisterError.TheVariants.{Taken, HasNa
 use Rattle.pt_names.specs.Letters.{is_name_text, padded}
 use Rattle.pt_names.specs.State.{NamesState}
 use Rattle.pt_names.specs.Calls.{Checks, Forgets, IsNone, Registers, Unregisters}
-use Rattle.pt_handles.specs.Handles.{IfEmpty}
+use Rattle.pt_places.specs.Filling.{IfEmpty}
 use Rattle.pt_table.specs.Answers.{HandlePlace, ShowsCode, full}
 use Rattle.pt_structs.specs.Codes.{filled}
 use Rattle.pt_structs.specs.Crossing.{pid_out, ref_out}

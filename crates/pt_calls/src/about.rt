@@ -9,6 +9,7 @@ ghost use Rattle.pt_calls.specs.About.{with_answers, with_values, with_signals, 
 
 use crate::naming::{BAD_NAME, HAS_NAME, PtHolder, PtName, TAKEN};
 use pt_crew::Next;
+use pt_doors::through::BAD_PLACES;
 use pt_hands::{Job, What};
 use pt_node::{
     Body, Event, Fault, Ids, Item, LinkId, OpenError, Pick, Pid, Reason, Ref, Setting, Signal,
@@ -52,6 +53,7 @@ pub struct PtCodes {
     pub bad_name: u32,
     pub taken: u32,
     pub has_name: u32,
+    pub bad_places: u32,
     pub reason_normal: u32,
     pub reason_kill: u32,
     pub reason_killed: u32,
@@ -176,6 +178,7 @@ fn with_answers(codes: PtCodes) -> PtCodes
         bad_name: BAD_NAME,
         taken: TAKEN,
         has_name: HAS_NAME,
+        bad_places: BAD_PLACES,
         ..codes
     }
 }

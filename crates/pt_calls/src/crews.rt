@@ -11,12 +11,13 @@ ghost use Rattle.pt_table.specs.Answers.{CallsThrough, ReadsThrough, ShowsCode};
 ghost use Rattle.pt_table.specs.Crewing.{CrewBeginsAgain, CrewSteps, CrewTells, NotesIfOwn, SpawnsChildInCrew, SpawnsInCrew, TellsTime};
 ghost use Rattle.pt_structs.specs.Crossing.{pid_crossed};
 ghost use Rattle.pt_structs.specs.Jobs.{next_out};
-ghost use Rattle.pt_table.specs.Owning.{IfOwn, is_own};
+ghost use Rattle.pt_structs.specs.Codes.{IfOwn};
+ghost use Rattle.pt_table.specs.Owning.{is_own};
 ghost use Rattle.pt_calls.specs.Crews.{AnswersInOrder, OpensCrew, SetsCrewTime};
-ghost use Rattle.pt_handles.specs.Handles.{GivesUp};
+ghost use Rattle.pt_places.specs.Filling.{GivesUp};
 
-use pt_handles::ending::end_code;
 use pt_hands::Hands;
+use pt_places::ending::end_code;
 use pt_structs::codes::{DONE, EMPTY, FILLED, MEMORY};
 use pt_structs::crossing::pid_in;
 use pt_structs::types::{PtAnswer, PtJob, PtNext, PtPid, PtTurned};

@@ -1,10 +1,10 @@
 //! Giving up the two ends of a way in.
 
-ghost use Rattle.pt_handles.specs.Handles.{GivesUp};
+ghost use Rattle.pt_places.specs.Filling.{GivesUp};
 
 use pt_doors::door_handle::{DoorHandle, claim as claim_door};
 use pt_doors::way_in_handle::{WayInHandle, claim as claim_way_in};
-use pt_handles::ending::end_code;
+use pt_places::ending::end_code;
 use pt_structs::codes::EMPTY;
 use std::alloc::Global;
 

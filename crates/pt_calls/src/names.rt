@@ -9,12 +9,12 @@ ghost use Rattle.pt_table.specs.Answers.{CallsThrough, ReadsThrough, ShowsCode};
 ghost use Rattle.pt_structs.specs.Crossing.{pid_crossed, pid_out, ref_in};
 ghost use Rattle.pt_calls.specs.Naming.{ChecksName, ForgetsHolder, IfIsName, RegistersName, UnregistersName};
 ghost use Rattle.pt_calls.specs.Naming.{name_crossed, name_out};
-ghost use Rattle.pt_handles.specs.Handles.{GivesUp};
+ghost use Rattle.pt_places.specs.Filling.{GivesUp};
 ghost use Rattle.pt_calls.specs.Naming.{OpensNames};
 
 use crate::naming::{self, PtHolder, PtName};
-use pt_handles::ending::end_code;
 use pt_names::Names;
+use pt_places::ending::end_code;
 use pt_structs::codes::{DONE, EMPTY, FILLED, MEMORY};
 use pt_structs::crossing::{pid_in, ref_in};
 use pt_structs::types::{PtPid, PtRef};

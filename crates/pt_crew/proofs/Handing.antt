@@ -94,7 +94,7 @@ module _ {B : Type 0} (answers : Answers B) (time : ℕ) where
     stood mid as_is t role was same h = stays role was h.1 (ap (λ (x : ShardState). takes x.journal) h.2 ∙ same)
 
     one : (b : B) (before : Next) (item : Option Item) (mid : ShardState) (t : Tended) → old p ≡ Some (b, before) → MayBeHanded time before item → takes mid.journal ≡ items_handed ((p, item) ∷ []) ++ takes d.journal
-        → HandsTo answers p b item mid t (new p) e births → Handed answers time old d new e
+        → HandsTo (answers time) p b item mid t (new p) e births → Handed answers time old d new e
     one b before item mid t was may same h = record {
       handed = (p, item) ∷ [];
       hands = (
@@ -129,12 +129,12 @@ module _ {B : Type 0} (answers : Answers B) (time : ℕ) where
     ended b r t (Err NoProc) was calls ends = absurd calls
 
     none_left : (b : B) (n : Next) (over : Bool) (mid : ShardState) (t : Tended) → old p ≡ Some (b, n) → takes mid.journal ≡ takes d.journal
-        → (over ≡ true → MayBeHanded time n None) → MatchBool over (HandsTo answers p b None mid t (new p) e births) (StaysAs Idle (b, n) mid t (new p) e) → Handed answers time old d new e
+        → (over ≡ true → MayBeHanded time n None) → MatchBool over (HandsTo (answers time) p b None mid t (new p) e births) (StaysAs Idle (b, n) mid t (new p) e) → Handed answers time old d new e
     none_left b n true mid t was same may h = one b n None mid t was (may refl) same h
     none_left b n false mid t was same may h = stood mid Idle t (b, n) was same h
 
     took : (b : B) (n : Next) (k : Pick) (over : Bool) (t : Tended) (result : Result (Option Item) Fault) (mid : ShardState) → old p ≡ Some (b, n) → pick_of n ≡ Some k → (over ≡ true → MayBeHanded time n None)
-        → Calls p (take_event d p k) (first_match d p k) d result mid → TakesAs answers p (b, n) over mid result t (new p) e births → Handed answers time old d new e
+        → Calls p (take_event d p k) (first_match d p k) d result mid → TakesAs (answers time) p (b, n) over mid result t (new p) e births → Handed answers time old d new e
     took b n k over t (Ok None) mid was picks may calls h = none_left b n over mid t was (none_taken p k d mid calls) may h
     took b n k over t (Ok (Some i)) mid was picks may calls h =
         one b n (Some i) mid t was (k, picks, found_fits (fits k) (state_in d p).waiting i calls.2) (one_taken p k i d mid calls) h
@@ -145,7 +145,7 @@ module _ {B : Type 0} (answers : Answers B) (time : ℕ) where
     took b n k over t (Err Myself) mid was picks may calls h = absurd calls
     took b n k over t (Err NoProc) mid was picks may calls h = absurd calls
 
-    proceeds : (b : B) (t : Tended) (living : Bool) → old p ≡ Some (b, Proceed) → MatchBool living (HandsTo answers p b None d t (new p) e births) (LeavesAs d t (new p) e) → Handed answers time old d new e
+    proceeds : (b : B) (t : Tended) (living : Bool) → old p ≡ Some (b, Proceed) → MatchBool living (HandsTo (answers time) p b None d t (new p) e births) (LeavesAs d t (new p) e) → Handed answers time old d new e
     proceeds b t true was h = one b Proceed None d t was (inl refl) refl h
     proceeds b t false was h = left d t refl h
 

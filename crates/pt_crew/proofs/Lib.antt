@@ -17,6 +17,3 @@ pub mod Handing
 pub mod Admitting
 pub mod Upholding
 pub mod Runs
-pub mod Ends
-pub mod Fitting
-pub mod Ringing

@@ -27,7 +27,7 @@ use Rattle.pt_crew.specs.declared.crew.Member.{Member}
 use Rattle.pt_crew.specs.declared.crew.Crew.{Crew}
 use Rattle.pt_crew.specs.declared.crew.Tended.{Tended}
 use Rattle.pt_crew.specs.declared.crew.Tended.TheVariants.{Idle, Again, Done, Refused, Gone}
-use Rattle.pt_crew.specs.Visiting.{Answers, BearsChildren, HandsTo, StaysAs, SeesTo, TakesAs, EndsAs, LeavesAs, handed_as, handed_by, again_as, goes_behind, leaves_crew, is_refused, leaver, left_as}
+use Rattle.pt_crew.specs.Visiting.{Answers, AnswersNow, BearsChildren, HandsTo, StaysAs, SeesTo, TakesAs, EndsAs, LeavesAs, handed_as, handed_by, again_as, goes_behind, leaves_crew, is_refused, leaver, left_as}
 use Rattle.pt_crew.specs.Crews.{HasRoom, HasTimers, KnowsDesk, members, queue, role, roles, left, waiting, unmarked, read_events, rounds_asked, time_of, was_refused}
 use Rattle.pt_crew.specs.Births.{bore}
 use Rattle.pt_crew.specs.Waking.{IsQueue, Knows, Members, AreTimed, has_work, in_queue, sleeps_until, timer_of, limit_of}
@@ -169,7 +169,7 @@ not_handed Running (living s) is = cc
 not_handed Running (ended r s) is = cc
 not_handed (Stop r) f is = cc
 
-module _ {B : Type 0} (answers : Answers B) (p : Pid) (b : B) (n : Next) (e : ShardState) (now : Option (B × Next)) (births : List (Role B)) where
+module _ {B : Type 0} (answers : AnswersNow B) (p : Pid) (b : B) (n : Next) (e : ShardState) (now : Option (B × Next)) (births : List (Role B)) where
   -- it is as it was, and so is its desk
   abbrev IsAsWas : ShardState → Type 0
   IsAsWas d = (now ≡ Some (b, n)) × (e ≡ d)
@@ -212,11 +212,11 @@ module _ {B : Type 0} (answers : Answers B) (p : Pid) (b : B) (n : Next) (e : Sh
 
 idle_stays : {B : Type 0} (answers : Answers B) (time : ℕ) (p : Pid) (b : B) (n : Next) (d e : ShardState) (now : Option (B × Next)) (births : List (Role B)) → SeesTo answers time p b n d Idle now e births
     → (now ≡ Some (b, n)) × (e ≡ d)
-idle_stays answers time p b (Stop r) d e now births h = ends_idle answers p b (Stop r) e now births d (b, Stop r) h.0 h.2
-idle_stays answers time p b Proceed d e now births h = proceeds_idle answers p b Proceed e now births (lives d p) d h
-idle_stays answers time p b Running d e now births h = runs_idle answers p b Running e now births (lives d p) d h
-idle_stays answers time p b (Wait k) d e now births h = takes_idle answers p b (Wait k) e now births false d h.1 k h.0 h.2 h.3
-idle_stays answers time p b (WaitUntil k at) d e now births h = takes_idle answers p b (WaitUntil k at) e now births (nat_le at time) d h.1 k h.0 h.2 h.3
+idle_stays answers time p b (Stop r) d e now births h = ends_idle (answers time) p b (Stop r) e now births d (b, Stop r) h.0 h.2
+idle_stays answers time p b Proceed d e now births h = proceeds_idle (answers time) p b Proceed e now births (lives d p) d h
+idle_stays answers time p b Running d e now births h = runs_idle (answers time) p b Running e now births (lives d p) d h
+idle_stays answers time p b (Wait k) d e now births h = takes_idle (answers time) p b (Wait k) e now births false d h.1 k h.0 h.2 h.3
+idle_stays answers time p b (WaitUntil k at) d e now births h = takes_idle (answers time) p b (WaitUntil k at) e now births (nat_le at time) d h.1 k h.0 h.2 h.3
 
 -- one that was handed something is of the crew still
 kept_by : {B : Type 0} (m : Member B) (items : List Item) → kept_as (handed_by items) m ≡ Some (role m)

@@ -144,7 +144,7 @@ module _ {B : Type 0} (answers : Answers B) (stands : Relation B) (k : IsUpheld 
     pub out : (role : B × Next) → o ≡ Some role → t ≡ Ended → (now ≡ None) × (is_unborn (phase_of e p) ≡ false) × stands role.0 role.1 p e
     pub none : o ≡ None → (now ≡ None) × (e ≡ d)
 
-  module _ (p : Pid) (role : B × Next) (waited waits : List (Role B)) where
+  module _ (time : ℕ) (p : Pid) (role : B × Next) (waited waits : List (Role B)) where
     -- the desk is as it was, and p too
     stayed : (came : Tended) (t : Tended) (d e : ShardState) (now : Option (B × Next)) → (came ≡ Ended → ⊥) → t ≡ came → is_unborn (phase_of d p) ≡ false → stands role.0 role.1 p d
         → waits ≡ waited → now ≡ Some role → e ≡ d → Comes p (Some role) t d e now waited waits
@@ -211,21 +211,21 @@ module _ {B : Type 0} (answers : Answers B) (stands : Relation B) (k : IsUpheld 
 
     -- it was handed an item, or none
     handed : (item : Option Item) (was d e : ShardState) (t : Tended) (now : Option (B × Next)) → is_unborn (phase_of was p) ≡ false → stands role.0 role.1 p was
-        → IsLater was d → ActsFor p was d → ItemIsTaken p role.1 item was d → BearsAs t waited waits → HandsTo answers p role.0 item d t now e (bore waited waits) → Comes p (Some role) t was e now waited waits
+        → IsLater was d → ActsFor p was d → ItemIsTaken p role.1 item was d → BearsAs t waited waits → HandsTo (answers time) p role.0 item d t now e (bore waited waits) → Comes p (Some role) t was e now waited waits
     handed item was d e t now born here later acts taken bears h = record {
       out = λ r r_is ended. absurd (not_handed h.next (phase_of e p) (sym h.tended ∙ ended));
       none = λ bad. absurd (cc);
       later = later_then was d e later onward;
-      acts = acts_then p was d e later acts (k.acts role.0 d p item h.next h.behaviour e (bore waited waits) h.answer);
+      acts = acts_then p was d e later acts (k.acts time role.0 d p item h.next h.behaviour e (bore waited waits) h.answer);
       own = λ r is. subst (λ (x : B × Next). (is_unborn (phase_of e p) ≡ false) × stands x.0 x.1 p e) (same_some (h.behaviour, h.next) r (sym h.now_is ∙ is)) (
         born_then was e (later_then was d e later onward) p born,
-        k.hands role.0 role.1 p item was d h.next h.behaviour e (bore waited waits) here born taken h.answer onward,
+        k.hands time role.0 role.1 p item was d h.next h.behaviour e (bore waited waits) here born taken h.answer onward,
       );
       bears = λ a.
           let grew : BearsAs Again waited waits = bears_handed h.next (phase_of e p) (subst (λ (x : Tended). BearsAs x waited waits) h.tended bears) in
           let are : bore waited waits ≡ grew.0 = ap (λ (ws : List (Role B)). bore waited ws) grew.1 ∙ drop-append_seam waited grew.0 in
           subst (AllFirst stands) (sym grew.1) (first_both stands waited grew.0 a
-          (subst (AllFirst stands) are (k.bears role.0 d p item h.next h.behaviour e (bore waited waits) h.answer)));
+          (subst (AllFirst stands) are (k.bears time role.0 d p item h.next h.behaviour e (bore waited waits) h.answer)));
     }
       where
         onward : IsLater d e
@@ -251,7 +251,7 @@ module _ {B : Type 0} (answers : Answers B) (stands : Relation B) (k : IsUpheld 
 
     -- an item was asked for
     none_left : (over : Bool) (d mid e : ShardState) (t : Tended) (now : Option (B × Next)) → is_unborn (phase_of d p) ≡ false → stands role.0 role.1 p d → BearsAs t waited waits
-        → mid ≡ d → lives d p ≡ true → (over ≡ true → GoesOnWithout p role.1 d) → MatchBool over (HandsTo answers p role.0 None mid t now e (bore waited waits)) (StaysAs Idle role mid t now e)
+        → mid ≡ d → lives d p ≡ true → (over ≡ true → GoesOnWithout p role.1 d) → MatchBool over (HandsTo (answers time) p role.0 None mid t now e (bore waited waits)) (StaysAs Idle role mid t now e)
         → Comes p (Some role) t d e now waited waits
     none_left true d mid e t now born here bears is alive without h = handed None d mid e t now born here (later_is d mid is) (acts_is p d mid is) (without refl, alive, is) bears h
     none_left false d mid e t now born here bears is alive without h =
@@ -259,7 +259,7 @@ module _ {B : Type 0} (answers : Answers B) (stands : Relation B) (k : IsUpheld 
 
     took : (pick : Pick) (over : Bool) (d mid e : ShardState) (t : Tended) (now : Option (B × Next)) (result : Result (Option Item) Fault) → pick_of role.1 ≡ Some pick
         → (over ≡ true → first_match d p pick ≡ None → GoesOnWithout p role.1 d) → is_unborn (phase_of d p) ≡ false → stands role.0 role.1 p d
-        → BearsAs t waited waits → Calls p (take_event d p pick) (first_match d p pick) d result mid → TakesAs answers p role over mid result t now e (bore waited waits) → Comes p (Some role) t d e now waited waits
+        → BearsAs t waited waits → Calls p (take_event d p pick) (first_match d p pick) d result mid → TakesAs (answers time) p role over mid result t now e (bore waited waits) → Comes p (Some role) t d e now waited waits
     took pick over d mid e t now (Ok None) waits_for without born here bears calls h =
         none_left over d mid e t now born here bears (calls.3 ∙ ap (λ (o : Option Item). after_if (option_map (Took p pick) o) d) (sym calls.2)) calls.0 (λ is. without is (sym calls.2)) h
     took pick over d mid e t now (Ok (Some i)) waits_for without born here bears calls h =
@@ -277,7 +277,7 @@ module _ {B : Type 0} (answers : Answers B) (stands : Relation B) (k : IsUpheld 
     took pick over d mid e t now (Err NoProc) waits_for without born here bears calls h = absurd calls
 
     proceeds : (d e : ShardState) (t : Tended) (now : Option (B × Next)) (alive : Bool) → lives d p ≡ alive → role.1 ≡ Proceed → is_unborn (phase_of d p) ≡ false → stands role.0 role.1 p d
-        → BearsAs t waited waits → MatchBool alive (HandsTo answers p role.0 None d t now e (bore waited waits)) (LeavesAs d t now e) → Comes p (Some role) t d e now waited waits
+        → BearsAs t waited waits → MatchBool alive (HandsTo (answers time) p role.0 None d t now e (bore waited waits)) (LeavesAs d t now e) → Comes p (Some role) t d e now waited waits
     proceeds d e t now true alive goes_on born here bears h =
         handed None d d e t now born here (later_is d d refl) (acts_is p d d refl) (inl goes_on, alive, refl) bears h
     proceeds d e t now false alive goes_on born here bears h = gone_as d e t now born here h.2 (subst (λ (x : Tended). BearsAs x waited waits) h.0 bears) h.1
@@ -290,17 +290,17 @@ module _ {B : Type 0} (answers : Answers B) (stands : Relation B) (k : IsUpheld 
 
   seen : (time : ℕ) (p : Pid) (b : B) (n : Next) (waited waits : List (Role B)) (d e : ShardState) (t : Tended) (now : Option (B × Next)) → is_unborn (phase_of d p) ≡ false → stands b n p d
       → BearsAs t waited waits → SeesTo answers time p b n d t now e (bore waited waits) → Comes p (Some (b, n)) t d e now waited waits
-  seen time p b (Stopping r) waited waits d e t now born here bears h = asked p (b, Stopping r) waited waits d e r t now h.0 refl born here bears h.1 h.2
-  seen time p b Proceed waited waits d e t now born here bears h = proceeds p (b, Proceed) waited waits d e t now (lives d p) refl refl born here bears h
-  seen time p b Running waited waits d e t now born here bears h = runs p (b, Running) waited waits d e t now (lives d p) born here bears h
-  seen time p b (Wait pick) waited waits d e t now born here bears h = took p (b, Wait pick) waited waits pick false d h.1 e t now h.0 refl (λ bad. absurd (cc)) born here bears h.2 h.3
+  seen time p b (Stopping r) waited waits d e t now born here bears h = asked time p (b, Stopping r) waited waits d e r t now h.0 refl born here bears h.1 h.2
+  seen time p b Proceed waited waits d e t now born here bears h = proceeds time p (b, Proceed) waited waits d e t now (lives d p) refl refl born here bears h
+  seen time p b Running waited waits d e t now born here bears h = runs time p (b, Running) waited waits d e t now (lives d p) born here bears h
+  seen time p b (Wait pick) waited waits d e t now born here bears h = took time p (b, Wait pick) waited waits pick false d h.1 e t now h.0 refl (λ bad. absurd (cc)) born here bears h.2 h.3
   seen time p b (WaitUntil pick at) waited waits d e t now born here bears h =
-      took p (b, WaitUntil pick at) waited waits pick (nat_le at time) d h.1 e t now h.0 refl (λ over none. inr (pick, refl, refl, none)) born here bears h.2 h.3
+      took time p (b, WaitUntil pick at) waited waits pick (nat_le at time) d h.1 e t now h.0 refl (λ over none. inr (pick, refl, refl, none)) born here bears h.2 h.3
 
   found : (time : ℕ) (p : Pid) (role : B × Next) (waited waits : List (Role B)) (d e : ShardState) (t : Tended) (now : Option (B × Next)) → is_unborn (phase_of d p) ≡ false → stands role.0 role.1 p d
       → BearsAs t waited waits → StaysAs Denied role d t now e ⊎ SeesTo answers time p role.0 role.1 d t now e (bore waited waits) → Comes p (Some role) t d e now waited waits
   found time p role waited waits d e t now born here bears (inl h) =
-      stayed p role waited waits Denied t d e now (λ is. absurd (cc)) h.0 born here (subst (λ (x : Tended). BearsAs x waited waits) h.0 bears) h.1 h.2
+      stayed time p role waited waits Denied t d e now (λ is. absurd (cc)) h.0 born here (subst (λ (x : Tended). BearsAs x waited waits) h.0 bears) h.1 h.2
   found time p role waited waits d e t now born here bears (inr h) = seen time p role.0 role.1 waited waits d e t now born here bears h
 
   came_to : (time : ℕ) (p : Pid) (o : Option (B × Next)) (waited waits : List (Role B)) (d e : ShardState) (t : Tended) (now : Option (B × Next))

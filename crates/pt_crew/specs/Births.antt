@@ -14,7 +14,7 @@ use Rattle.pt_crew.specs.declared.births.Births.{Births}
 abbrev pub born : {B : Type 0} → Births B → List (Role B)
 born b = b.list.items
 
--- the time that a behaviour is told
+-- the time of the step, as a behaviour is told it
 abbrev pub time_told : {B : Type 0} → Births B → ℕ
 time_told b = b.time
 

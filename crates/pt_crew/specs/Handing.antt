@@ -21,7 +21,8 @@ abbrev pub MayBeHanded : ℕ → Next → Option Item → Type 0
 MayBeHanded time next None = (next ≡ Proceed) ⊎ ((at : ℕ) × (limit_of next ≡ Some at) × (at ≤ time))
 MayBeHanded time next (Some item) = (pick : Pick) × (pick_of next ≡ Some pick) × (fits pick item ≡ true)
 
--- the item, or none, is handed to the behaviour of p, and what that answers is what p does next; all others stay
+-- the item, or none, is handed to the behaviour of p at that time, and what that answers is what p does next; all others
+-- stay
 pub record HandsOne {B : Type 0} (answers : Answers B) (time : ℕ) (old : Roles B) (p : Pid) (item : Option Item)
     (new : Roles B) : Type 0 where
   pub was : B
@@ -34,7 +35,7 @@ pub record HandsOne {B : Type 0} (answers : Answers B) (time : ℕ) (old : Roles
   pub desk : ShardState
   pub later : ShardState
   pub births : List (Role B)
-  pub answer : answers was desk p item next now later births
+  pub answer : answers time was desk p item next now later births
   pub after : AreWith p (Some (now, next)) old new
 
 -- so one after the other, the newest in front; in between some may leave

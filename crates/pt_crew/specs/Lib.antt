@@ -8,6 +8,3 @@ pub mod Upholding
 pub mod Stepping
 pub mod Parts
 pub mod Running
-pub mod Asking
-pub mod Ending
-pub mod Alarming

@@ -1,5 +1,5 @@
 -- What a behaviour upholds on its desk, whatever its crew does.
-use Rattle.std.specs.Prelude.{◌≡◌, ◌⊎◌, ⊤, is_some, cond, true, false, List, [], ◌∷◌, ◌++◌, Option, Some, None}
+use Rattle.std.specs.Prelude.{◌≡◌, ◌⊎◌, ⊤, ℕ, is_some, cond, true, false, List, [], ◌∷◌, ◌++◌, Option, Some, None}
 use Rattle.pt_signal.specs.declared.pid.Pid.{Pid}
 use Rattle.pt_signal.specs.declared.item.Item.{Item}
 use Rattle.pt_signal.specs.declared.item.Pick.{Pick}
@@ -73,15 +73,16 @@ AllFirst stands (r ∷ rs) = StandsFirst stands r.behaviour r.next r.pid × AllF
 -- The relation is one that behaviours which answer so uphold.
 pub record IsUpheld {B : Type 0} (answers : Answers B) (stands : Relation B) : Type 0 where
   -- whoever is handed an item, or none, acts for itself alone
-  pub acts : (b : B) (d : ShardState) (p : Pid) (item : Option Item) (next : Next) (now : B) (e : ShardState)
-      (births : List (Role B)) → answers b d p item next now e births → ActsFor p d e
+  pub acts : (time : ℕ) (b : B) (d : ShardState) (p : Pid) (item : Option Item) (next : Next) (now : B) (e : ShardState)
+      (births : List (Role B)) → answers time b d p item next now e births → ActsFor p d e
   -- it stands so then, if it did before the item was taken
-  pub hands : (b : B) (before : Next) (p : Pid) (item : Option Item) (was d : ShardState) (next : Next) (now : B)
-      (e : ShardState) (births : List (Role B)) → stands b before p was → is_unborn (phase_of was p) ≡ false
-      → ItemIsTaken p before item was d → answers b d p item next now e births → IsLater d e → stands now next p e
+  pub hands : (time : ℕ) (b : B) (before : Next) (p : Pid) (item : Option Item) (was d : ShardState) (next : Next)
+      (now : B) (e : ShardState) (births : List (Role B)) → stands b before p was → is_unborn (phase_of was p) ≡ false
+      → ItemIsTaken p before item was d → answers time b d p item next now e births → IsLater d e
+      → stands now next p e
   -- so do those whom it bears
-  pub bears : (b : B) (d : ShardState) (p : Pid) (item : Option Item) (next : Next) (now : B) (e : ShardState)
-      (births : List (Role B)) → answers b d p item next now e births → AllFirst stands births
+  pub bears : (time : ℕ) (b : B) (d : ShardState) (p : Pid) (item : Option Item) (next : Next) (now : B) (e : ShardState)
+      (births : List (Role B)) → answers time b d p item next now e births → AllFirst stands births
   -- what others do keeps it
   pub others : (b : B) (next : Next) (p : Pid) (d e : ShardState) → stands b next p d
       → is_unborn (phase_of d p) ≡ false → IsLater d e → IsLeftAlone p d e → stands b next p e

@@ -22,10 +22,14 @@ use Rattle.pt_crew.specs.Births.{bore}
 use Rattle.pt_crew.specs.declared.crew.Tended.{Tended}
 use Rattle.pt_crew.specs.declared.crew.Tended.TheVariants.{Idle, Again, Done, Refused, Gone as Ended}
 
--- what a behaviour may answer: it and its desk before, the process, the item or none, what the process does next, it
--- and its desk afterwards, and whom it bore
+-- what a behaviour may answer at one time: it and its desk before, the process, the item or none, what the process does
+-- next, it and its desk afterwards, and whom it bore
+abbrev pub AnswersNow : Type 0 → Type 1
+AnswersNow B = B → ShardState → Pid → Option Item → Next → B → ShardState → List (Role B) → Type 0
+
+-- what it may answer at each time: the time is that of the step in which it is handed the item, or none
 abbrev pub Answers : Type 0 → Type 1
-Answers B = B → ShardState → Pid → Option Item → Next → B → ShardState → List (Role B) → Type 0
+Answers B = ℕ → AnswersNow B
 
 -- of each process of a crew its behaviour, and what it does next
 abbrev pub Roles : Type 0 → Type 0
@@ -80,7 +84,7 @@ handed_as Running (living s) = Done
 handed_as next phase = Again
 
 -- the item, or none, is handed to the behaviour, which takes none itself, and bears these
-pub record HandsTo {B : Type 0} (answers : Answers B) (p : Pid) (b : B) (item : Option Item) (d : ShardState)
+pub record HandsTo {B : Type 0} (answers : AnswersNow B) (p : Pid) (b : B) (item : Option Item) (d : ShardState)
     (t : Tended) (now : Option (B × Next)) (e : ShardState) (births : List (Role B)) : Type 0 where
   pub behaviour : B
   pub next : Next
@@ -100,7 +104,7 @@ StaysAs came role d t now e = (t ≡ came) × (now ≡ Some role) × (e ≡ d)
 
 -- An item was asked for. One that was taken is handed over. If there is none, none is handed over where the time is over,
 -- and else all stays. A refusal for want of memory or stamps leaves all as it is.
-abbrev pub TakesAs : {B : Type 0} → Answers B → Pid → B × Next → Bool → ShardState → Result (Option Item) Fault → Tended
+abbrev pub TakesAs : {B : Type 0} → AnswersNow B → Pid → B × Next → Bool → ShardState → Result (Option Item) Fault → Tended
     → Option (B × Next) → ShardState → List (Role B) → Type 0
 TakesAs answers p role over d (Ok None) t now e births =
     MatchBool over (HandsTo answers p role.0 None d t now e births) (StaysAs Idle role d t now e)
@@ -109,7 +113,7 @@ TakesAs answers p role over d (Err Gone) t now e births = LeavesAs d t now e
 TakesAs answers p role over d (Err f) t now e births = StaysAs Refused role d t now e
 
 -- the first item that the pick fits is asked for
-abbrev pub AsksFor : {B : Type 0} → Answers B → Pid → B × Next → Pick → Bool → ShardState → Tended → Option (B × Next)
+abbrev pub AsksFor : {B : Type 0} → AnswersNow B → Pid → B × Next → Pick → Bool → ShardState → Tended → Option (B × Next)
     → ShardState → List (Role B) → Type 0
 AsksFor answers p role pick over d t now e births =
     (result : Result (Option Item) Fault) × (mid : ShardState)
@@ -123,12 +127,13 @@ SeesTo answers time p b (Stop reason) d t now e births =
     (result : Result (Unit {0}) Fault) × Calls p (Some (Left p reason)) (tt {0}) d result e
     × EndsAs (b, Stop reason) result t now
 SeesTo answers time p b Proceed d t now e births =
-    MatchBool (lives d p) (HandsTo answers p b None d t now e births) (LeavesAs d t now e)
+    MatchBool (lives d p) (HandsTo (answers time) p b None d t now e births) (LeavesAs d t now e)
 SeesTo answers time p b Running d t now e births =
     MatchBool (lives d p) (StaysAs Idle (b, Running) d t now e) (LeavesAs d t now e)
-SeesTo answers time p b (Wait pick) d t now e births = AsksFor answers p (b, Wait pick) pick false d t now e births
+SeesTo answers time p b (Wait pick) d t now e births =
+    AsksFor (answers time) p (b, Wait pick) pick false d t now e births
 SeesTo answers time p b (WaitUntil pick at) d t now e births =
-    AsksFor answers p (b, WaitUntil pick at) pick (nat_le at time) d t now e births
+    AsksFor (answers time) p (b, WaitUntil pick at) pick (nat_le at time) d t now e births
 
 -- Nothing is done for one that is not of the crew. Nor is it where there is no memory to keep its behaviour if it
 -- leaves, or for the timer of one that waits until a time.

@@ -1,13 +1,13 @@
 //! What a process does with the items of its mailbox.
 
-ghost use Rattle.std.specs.Prelude.{◌≡◌, List, Option, Some};
+ghost use Rattle.std.specs.Prelude.{◌≡◌, ℕ, List, Option, Some};
 ghost use Rattle.pt_desk.specs.DeskState.{GoesOn};
 ghost use Rattle.pt_signal.specs.declared.pid.Pid.{Pid};
 ghost use Rattle.pt_signal.specs.declared.item.Item.{Item};
 ghost use Rattle.pt_shard.specs.ShardState.{ShardState};
 ghost use Rattle.pt_crew.specs.declared.behaviour.Next.{Next};
 ghost use Rattle.pt_crew.specs.declared.births.Role.{Role};
-ghost use Rattle.pt_crew.specs.Births.{bore, born, kept_roles};
+ghost use Rattle.pt_crew.specs.Births.{bore, born, kept_roles, time_told};
 ghost use Rattle.pt_crew.specs.Visiting.{takes};
 
 use crate::births::Births;
@@ -35,13 +35,13 @@ pub enum Next {
 /// as `receive` has its patterns.
 ///
 /// Its state is a value of the program's own, one for each process. The ghost member `answers` says what it may answer,
-/// and a step of a crew says by it what it did. It relates the behaviour and its desk before, the process, the item,
-/// what it does next, the behaviour and its desk afterwards, and the children that it spawned.
+/// and a step of a crew says by it what it did. It relates the time of the step, the behaviour and its desk before, the
+/// process, the item, what it does next, the behaviour and its desk afterwards, and the children that it spawned.
 pub trait Behaviour {
-    ghost answers: { Self → ShardState → Pid → Option Item → Next → Self → ShardState → List (Role Self) → Type 0 };
+    ghost answers: { ℕ → Self → ShardState → Pid → Option Item → Next → Self → ShardState → List (Role Self) → Type 0 };
 
     /// Handles one item, which was taken out of the mailbox of `me`, or gets `None` if `me` was to proceed, or waited
-    /// until a time that has come. It must take no other item out of a mailbox. [`Births::now`] is the step's time.
+    /// until a time that has come. It must take no other item out of a mailbox. [`Births::now`] is the time of the step.
     ///
     /// The calls of a desk in the form of [`send`](crate::send), [`monitor`](crate::monitor) and their like keep what is
     /// required here. The children that it spawns ([`spawn_child`](crate::spawn_child)) enter the crew as the step ends.
@@ -52,7 +52,7 @@ pub trait Behaviour {
         me: Pid,
         item: Option<Item>,
     ) -> Next
-        ensures answers { answers self.old desk.old.shard me item result self.new desk.new.shard
+        ensures answers { answers (time_told births.old) self.old desk.old.shard me item result self.new desk.new.shard
             (bore (born births.old) (born births.new)) }
         ensures takes { takes desk.new.shard.journal ≡ takes desk.old.shard.journal }
         ensures kept { kept_roles births.new ≡ kept_roles births.old }

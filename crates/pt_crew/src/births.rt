@@ -92,6 +92,7 @@ pub fn spawn_child<B: Drop>(
         (born births.new) }
     ensures takes { takes desk.new.shard.journal ≡ takes desk.old.shard.journal }
     ensures kept { kept_roles births.new ≡ kept_roles births.old }
+    ensures time { time_told births.new ≡ time_told births.old }
     ensures goes_on { GoesOn desk.old desk.new }
 {
     let Some(fresh) = births.fresh.checked_add(1) else {

@@ -744,6 +744,7 @@ fn tend<B: Behaviour + Drop>(
 
 /// Passes a process its first matching item, or `None` if there is no such item and its time is over.
 #[tactic(auto, using(pt_desk::proofs::Turning::goes_on_then, crate::proofs::Takes::idle_is))]
+#[inline(always)]
 fn receive<B: Behaviour + Drop>(
     member: &mut Member<B>,
     births: &mut Births<B>,
@@ -754,7 +755,7 @@ fn receive<B: Behaviour + Drop>(
     is_over: bool,
 ) -> Tended
     requires { pick_of member.old.next ≡ Some pick }
-    ensures sees { AsksFor B.answers p (role member.old) pick is_over desk.old.shard result (kept_as result member.new)
+    ensures sees { AsksFor (B.answers time) p (role member.old) pick is_over desk.old.shard result (kept_as result member.new)
         desk.new.shard (bore (born births.old) (born births.new)) }
     ensures role { result ≡ Tended.Gone → member.new ≡ member.old }
     ensures timer { member.new.timer ≡ member.old.timer }
@@ -801,7 +802,7 @@ fn hand<B: Behaviour + Drop>(
     p: Pid,
     item: Option<Item>,
 )
-    ensures answers { B.answers member.old.behaviour desk.old.shard p item member.new.next member.new.behaviour
+    ensures answers { B.answers time member.old.behaviour desk.old.shard p item member.new.next member.new.behaviour
         desk.new.shard (bore (born births.old) (born births.new)) }
     ensures timer { member.new.timer ≡ member.old.timer }
     ensures bears { BearsChildren Tended.Again (born births.old) (born births.new) }

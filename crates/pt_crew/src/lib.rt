@@ -3,25 +3,11 @@
 //! What a process does with an item of its mailbox is a [`Behaviour`]. A [`Crew`] has the processes of one desk with
 //! their behaviours, and is the desk's [`Work`](pt_workers::Work), so `pt_workers::run` and `run_single` run it.
 //!
-//! # Calls that are answered
-//! Erlang's `gen_server:call`, as a monitor, a request, and the answer or the `DOWN`. A behaviour that asks keeps a
-//! [`Pending`] in its state and shows it each item that arrives, and the time if the call has a deadline. A behaviour
-//! that is asked recognises a request by [`request_of`], and answers by [`reply`], at once or later.
-//!
-//! A message holds a kind, a number and maybe a pid. A request and its answer both speak of the client, by its pid: the
-//! request of its own sender, the answer of its receiver. Both carry the number of the monitor's reference, which no
-//! other monitor of the client's desk has, so an answer belongs to one call alone. The kind says what is asked, and
-//! what is answered.
-//!
-//! # Messages that are sent later
-//! Erlang's `send_after`. A behaviour keeps [`Alarms`] in its state, and sends by [`Alarms::ring`] what is due.
-//!
 //! # Handlers outside
 //! A behaviour that answers [`Next::Running`] waits until the program says by [`Crew::answer`] what it does next. With
 //! [`Crew::begin_step`], [`Crew::run_first`] and [`Crew::end_step`] the program takes the step itself.
 //!
 //! Tests: `checks/tried/test_calls/crews.rt.txt`, `checks/tried/test_calls/timed_crews.rt.txt`,
-//! `checks/tried/test_calls/asking.rt.txt`, `checks/tried/test_calls/alarms.rt.txt`,
 //! `crates/test_calls/src/on_a_desk.rt` and
 //! `crates/test_calls/src/upheld.rt`.
 //!
@@ -39,6 +25,8 @@
 //!   process that has something to do as the step begins is in the first round. (`first`)
 //! - **Item or time.** A process that waits until a time gets the first item that fits, or `None` once its time has come,
 //!   and never both. Each process whose time has come as a step begins is in the first round. (`steps`, `due`)
+//! - **One time.** Each behaviour that runs in a step answers at the time of the step, which `Births::now` returns.
+//!   (`SeesTo`, `Answers`)
 //! - **Timers.** A process has a timer exactly while it waits until a time and is not in the queue, so none is left over.
 //!   `next_time` returns the earliest of their times. (`Attends`)
 //! - **Leaving.** A process leaves a crew only by its exit, and is returned as it was. (`left`, `take_left`)
@@ -51,37 +39,21 @@
 //! - **Running.** A process that is running gets nothing until it is answered, and does next what was answered. If it
 //!   exits meanwhile, it leaves. (`IsAnswered`)
 //! - **Idle.** `is_idle` and `are_idle` say whether no process has anything to do.
-//! - **A call ends once.** It ends by its answer, by the `DOWN` of its server or by its deadline, whichever it is shown
-//!   first, and never by two of them. (`calls_end_once`)
-//! - **Asking.** `Pending::ask` makes a monitor and sends a request under its number, or fails, and then nothing was
-//!   asked. (`Asks`)
-//! - **Deadlines.** `Pending::expire` returns whether an open call ends by its deadline now, which is exactly if the
-//!   deadline is not above the time. (`is_expired`)
-//! - **Hearing.** `Pending::hear` returns whether an item is the answer, the exit of the server, late, or none of
-//!   these.
-//! - **Alarms.** `Alarms::ring` sends each message that is due, in the order of time and starting, and none twice or
-//!   early. One that is refused memory or a stamp stays to be sent. (`Rings`)
 #![tactic(auto)]
 
-mod alarms;
 mod behaviour;
 mod births;
 mod call_fault;
 mod calls;
 mod crew;
 mod hints;
-mod pending;
-mod request;
 mod running;
 mod upholds;
 
-pub use alarms::{Alarm, Alarms};
 pub use behaviour::{Behaviour, Next};
 pub use births::{Births, Role, spawn_child};
 pub use call_fault::CallFault;
 pub use calls::{demonitor, exit_signal, link, monitor, send, trap, unlink};
 pub use crew::Crew;
-pub use pending::{Heard, Pending, calls_end_once};
-pub use request::{Request, reply, request_of};
 pub use running::{are_idle, runs_uphold};
 pub use upholds::{Upheld, crew_upholds};

@@ -1,2 +1,3 @@
 -- The lemmas that the functions use.
+pub mod Handing
 mod Posting

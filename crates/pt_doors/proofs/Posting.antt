@@ -1,7 +1,8 @@
 -- What a turn posts, and where both handles are empty.
 use Rattle.std.proofs.Common.{◌≡◌, ℕ, Bool, true, false, List, [], ◌∷◌, ◌++◌, inl, inr, ap, ◌∙◌, append-nil}
-use Rattle.std.specs.Prelude.{◌||◌, MatchBool, Option, Some, None, take}
+use Rattle.std.specs.Prelude.{◌||◌, ◌==◌, MatchBool, Option, Some, None, take}
 use Rattle.std.proofs.Math.Seq.{take-nil}
+use Rattle.std.proofs.lemmas.Bool.{ne_eqb}
 use Rattle.pt_signal.specs.declared.letter.Letter.{Letter}
 use Rattle.pt_carrier.specs.Ends.{OutEnds}
 use Rattle.pt_shard.specs.declared.stop.Stop.{Stop}
@@ -39,6 +40,13 @@ posts_where_letters_wait budget old new turned e turns within none =
     ended_outs turned.stopped turned.handled budget turns.last new turns.ends ∙ all_outs turns.letters turns.posted_desk turns.last turns.handles in
     ap (λ (o : OutEnds). posted_to (record new { outs = o }) e) later ∙ to.posted
     ∙ ap (λ (ls : List Letter). posted_to old e ++ ls) (ap (take to.count) none ∙ take-nil to.count) ∙ append-nil (posted_to old e)
+
+where_not : (b : Bool) (P Q : Type 0) → b ≡ false → Q → MatchBool b P Q
+where_not false P Q none q = q
+where_not true P Q none q = absurd (cc)
+
+pub where_some : (n : ℕ) (P Q : Type 0) → (n ≡ 0 → ⊥) → Q → MatchBool (n == 0) P Q
+where_some n P Q some q = where_not (n == 0) P Q (ne_eqb n 0 some) q
 
 pub where_neither : (a b : Bool) (P Q : Type 0) → a ≡ false → b ≡ false → Q → MatchBool (a || b) P Q
 where_neither false false P Q none nothing q = q

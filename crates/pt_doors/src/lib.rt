@@ -10,9 +10,11 @@
 //!
 //! # What is proved
 //!
-//! - **The way in.** What was taken out is what was handed in at the door, in order, each message once. (`PostsAtDoor`,
-//!   `TakesPost`)
-//! - **Refusals.** `post` fails only if the door knows of no free place, and nothing has changed then.
+//! - **The way in.** What was taken out, and then what waits, is what was handed in at the door: in order, each message
+//!   once. (`PostsAtDoor`, `TakesPost`, `meet`)
+//! - **Refusals.** `post` fails only if the door knows of no free place, or is told that its way in was given up. Nothing
+//!   has changed then. (`PostsCode`)
+//! - **Places.** A way in of no places is refused, and nothing has changed. (`OpensWayIn`)
 //! - **Letters.** The desks for which letters wait are told, each by its bit, and a turn posts to no others.
 //!   (`desks_with`, `PostsWhereLettersWait`)
 //! - **Nothing to do.** A desk has no letters only if none waits in it, and no lane to it shows one. (`HasLetters`)

@@ -16,6 +16,12 @@ use std::alloc::Global;
 /// The door knows of no free place.
 const NO_PLACE: u32 = 1;
 
+/// The way in of the door was given up.
+const GIVEN_UP: u32 = 4;
+
+/// A way in of no places was asked for.
+pub const BAD_PLACES: u32 = 22;
+
 fn post_in(post: PtPost) -> Post
     ensures { result ≡ post_in post }
 {
@@ -34,7 +40,7 @@ fn post_out(post: Post) -> PtPost
     }
 }
 
-/// Makes a way in with so many places. The handles must be empty.
+/// Makes a way in with so many places, at least one. The handles must be empty.
 pub fn open_both(alloc: Global, d: &mut DoorHandle, w: &mut WayInHandle, places: u32) -> u32
     ensures { OpensWayIn places result d.old.state d.new.state w.old.state w.new.state }
 {
@@ -42,6 +48,9 @@ pub fn open_both(alloc: Global, d: &mut DoorHandle, w: &mut WayInHandle, places:
     let has_way_in = way_in_handle::is_full(alloc, w);
     if has_door || has_way_in {
         return FILLED;
+    }
+    if places == 0 {
+        return BAD_PLACES;
     }
     let Ok(door_place) = door_handle::spare(alloc) else {
         return MEMORY;
@@ -57,7 +66,7 @@ pub fn open_both(alloc: Global, d: &mut DoorHandle, w: &mut WayInHandle, places:
     DONE
 }
 
-/// Hands in a message at a door.
+/// Hands in a message at a door, unless its way in was given up.
 pub fn post(alloc: Global, h: &mut DoorHandle, post: PtPost) -> u32
     ensures { CallsThrough h.old.state h.new.state result (Unit {0}) (λ old new. PostsCode (post_in post) result old new) }
 {
@@ -72,9 +81,13 @@ pub fn post(alloc: Global, h: &mut DoorHandle, post: PtPost) -> u32
     code
 }
 
+#[tactic(auto, using(crate::proofs::Handing::posts_after))]
 fn post_at(door: &mut Door, post: Post) -> u32
     ensures { PostsCode post result door.old door.new }
 {
+    if door.is_gone() {
+        return GIVEN_UP;
+    }
     if door.post(post) { DONE } else { NO_PLACE }
 }
 

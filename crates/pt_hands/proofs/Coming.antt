@@ -69,7 +69,7 @@ dead_told true n noted lost p journal dead is = absurd (cc)
 dead_told false n noted lost p journal dead is = ap (λ (o : Option Reason). noted_reason o lost) is
 
 module _ (time : ℕ) (p : Pid) (b : Hand) (n : Next) (d e : ShardState) (t : Tended) (now : Option (Hand × Next)) (births : List (Role Hand)) where
-  hands_it : (item : Option Item) (mid : ShardState) → MayBeHanded time n item → takes mid.journal ≡ item_handed p item ++ takes d.journal → HandsTo hand_answers p b item mid t now e births → Comes time p b n births d t now e
+  hands_it : (item : Option Item) (mid : ShardState) → MayBeHanded time n item → takes mid.journal ≡ item_handed p item ++ takes d.journal → HandsTo (hand_answers time) p b item mid t now e births → Comes time p b n births d t now e
   hands_it item mid may took h = inl (record {
     item = item;
     may = may;
@@ -115,12 +115,12 @@ module _ (time : ℕ) (p : Pid) (b : Hand) (n : Next) (d e : ShardState) (t : Te
   asked r is (Err Myself) calls ends = absurd calls
   asked r is (Err NoProc) calls ends = absurd calls
 
-  none_left : (over : Bool) (mid : ShardState) → mid ≡ d → (over ≡ true → MayBeHanded time n None) → MatchBool over (HandsTo hand_answers p b None mid t now e births) (StaysAs Idle (b, n) mid t now e) → Comes time p b n births d t now e
+  none_left : (over : Bool) (mid : ShardState) → mid ≡ d → (over ≡ true → MayBeHanded time n None) → MatchBool over (HandsTo (hand_answers time) p b None mid t now e births) (StaysAs Idle (b, n) mid t now e) → Comes time p b n births d t now e
   none_left true mid same may h = hands_it None mid (may refl) (ap (λ (x : ShardState). takes x.journal) same) h
   none_left false mid same may h = stays_so Idle mid same (inl refl) h
 
   took : (k : Pick) (over : Bool) (result : Result (Option Item) Fault) (mid : ShardState) → pick_of n ≡ Some k → (over ≡ true → MayBeHanded time n None) → Calls p (take_event d p k) (first_match d p k) d result mid
-      → TakesAs hand_answers p (b, n) over mid result t now e births → Comes time p b n births d t now e
+      → TakesAs (hand_answers time) p (b, n) over mid result t now e births → Comes time p b n births d t now e
   took k over (Ok None) mid picks may calls h = none_left over mid (calls.3 ∙ ap (λ (o : Option Item). after_if (option_map (Took p k) o) d) (sym calls.2)) may h
   took k over (Ok (Some i)) mid picks may calls h = hands_it (Some i) mid (k, picks, found_fits (fits k) (state_in d p).waiting i calls.2) (one_taken p k i d mid calls) h
   took k over (Err Gone) mid picks may calls h = left_so mid calls.1 calls.0 h
@@ -130,7 +130,7 @@ module _ (time : ℕ) (p : Pid) (b : Hand) (n : Next) (d e : ShardState) (t : Te
   took k over (Err Myself) mid picks may calls h = absurd calls
   took k over (Err NoProc) mid picks may calls h = absurd calls
 
-  proceeds : (alive : Bool) → lives d p ≡ alive → n ≡ Proceed → MatchBool alive (HandsTo hand_answers p b None d t now e births) (LeavesAs d t now e) → Comes time p b n births d t now e
+  proceeds : (alive : Bool) → lives d p ≡ alive → n ≡ Proceed → MatchBool alive (HandsTo (hand_answers time) p b None d t now e births) (LeavesAs d t now e) → Comes time p b n births d t now e
   proceeds true is goes_on h = hands_it None d (inl goes_on) refl h
   proceeds false is goes_on h = left_so d refl is h
 

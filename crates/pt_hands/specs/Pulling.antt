@@ -31,7 +31,7 @@ use Rattle.pt_hands.specs.declared.hands.Hands.{Hands}
 
 -- what a hand answers: it has what its process was handed, which is running
 abbrev pub hand_answers : Answers Hand
-hand_answers old d me item next new e bore =
+hand_answers time old d me item next new e bore =
     (next ≡ Running) × (new ≡ record old { handed = Some item }) × (e ≡ d) × (bore ≡ [])
 
 -- the hand of a process that begins

@@ -72,6 +72,13 @@ impl Names {
         }
     }
 
+    /// The process that has the name, with its monitor, or `None` if no process has it.
+    pub fn holder(&self, name: Name) -> Option<Holder>
+        ensures { result ≡ holder_of self.now name }
+    {
+        self.holders.get(&name).copied()
+    }
+
     /// The name of a process, or `None` if it has no name.
     pub fn name_of(&self, pid: Pid) -> Option<Name>
         ensures { result ≡ name_at self.now pid }

@@ -9,7 +9,7 @@ use Rattle.pt_gathered.specs.Quiet.{QuietState}
 use Rattle.pt_structs.specs.Codes.{empty, filled, open_code, wrong_desk}
 use Rattle.pt_table.specs.Answers.{HandlePlace, HistoryState, value_behind, values}
 use Rattle.pt_nodes.specs.Nodes.{GathersAs, HandleTells, IsQuietHistoryOf, ResumesAs, SettlesAs}
-use Rattle.pt_handles.specs.Handles.{IfEmpty, IfNone}
+use Rattle.pt_places.specs.Filling.{IfEmpty, IfNone}
 use Rattle.pt_nodes.specs.GoingOn.{RowGoesOn, AreAllThere, GathersFirst, GoOnWith, GoesOnBy, IfPassed, Places, ResumesWith, SettlesFirst, Stages, has}
 
 refused : (n code : ℕ) (kept P : Type 0) → n ≢ 0 → code ≡ n → kept → IfPassed n code kept P

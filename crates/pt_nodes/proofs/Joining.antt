@@ -11,8 +11,8 @@ use Rattle.pt_table.specs.Answers.{HandlePlace, value_behind, values, had, full}
 use Rattle.pt_structs.specs.Codes.{empty, filled, open_code}
 use Rattle.pt_table.specs.InOrder.{are_in_order}
 use Rattle.pt_nodes.specs.Nodes.{AreAllFull, GathersAs, GathersWhole, Joins, SettlesAs, IsSettledOf, NotSettled, ListsAs, ListsOne, in_order}
-use Rattle.pt_handles.specs.Handles.{IfEmpty}
-use Rattle.pt_handles.proofs.Empty.{if_empty}
+use Rattle.pt_places.specs.Filling.{IfEmpty}
+use Rattle.pt_places.proofs.Empty.{if_empty}
 use Rattle.pt_table.proofs.InRow.{first_value}
 
 module _ {S : Type 0} where

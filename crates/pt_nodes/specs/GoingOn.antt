@@ -15,7 +15,7 @@ use Rattle.pt_team_handles.specs.declared.desk_team.DeskTeam.{DeskTeam}
 use Rattle.pt_team_handles.specs.GoingOn.{AllTeamsGoOn}
 use Rattle.pt_team_handles.specs.Owning.{are_teams_own}
 use Rattle.pt_nodes.specs.Nodes.{GathersAs, HandleTells, IsQuietHistoryOf, ResumesAs, SettlesAs}
-use Rattle.pt_handles.specs.Handles.{IfEmpty, IfNone}
+use Rattle.pt_places.specs.Filling.{IfEmpty, IfNone}
 
 -- what the handles of the call have: crews, or teams, each of which is S
 pub record Places (S : Type 0) : Type 0 where

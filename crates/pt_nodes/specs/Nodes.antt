@@ -26,7 +26,7 @@ use Rattle.pt_structs.specs.declared.types.PtConfig.{PtConfig}
 use Rattle.pt_structs.specs.Codes.{open_code, stop_code, empty, filled}
 use Rattle.pt_structs.specs.Crossing.{config_in}
 use Rattle.pt_table.specs.Answers.{HandlePlace, values, full, HistoryState}
-pub use Rattle.pt_handles.specs.Handles.{IfNone, IfEmpty, GivesUp}
+pub use Rattle.pt_places.specs.Filling.{IfNone, IfEmpty, GivesUp}
 use Rattle.pt_table.specs.InOrder.{are_in_order}
 
 -- opening ------------------------------------------------------------------------------

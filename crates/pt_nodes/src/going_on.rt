@@ -6,7 +6,7 @@ ghost use Rattle.pt_table.specs.Answers.{values};
 ghost use Rattle.pt_table.specs.GoingOn.{AllCrewsGoOn};
 ghost use Rattle.pt_structs.specs.Codes.{filled};
 ghost use Rattle.pt_nodes.specs.Nodes.{IsWholeNode};
-ghost use Rattle.pt_handles.specs.Handles.{IfNone};
+ghost use Rattle.pt_places.specs.Filling.{IfNone};
 ghost use Rattle.pt_nodes.specs.GoingOn.{GathersFirst, GoOnWith, NodeGoesOn, ResumesWith, SettlesFirst};
 
 use crate::gathered_handle::{GatheredHandle, is_full as has_gathered};

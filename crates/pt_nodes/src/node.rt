@@ -5,7 +5,7 @@ ghost use Rattle.std.specs.Vec.{vec_capacity};
 ghost use Rattle.pt_workers.specs.Desks.{AreDesks};
 ghost use Rattle.pt_table.specs.Answers.{value_behind, values};
 ghost use Rattle.pt_nodes.specs.Nodes.{OpensAs, OpensMany, AreAllFull, IsWholeNode, GathersAs, GathersWhole, Joins, SettlesAs, HandleTells, Writes};
-ghost use Rattle.pt_handles.specs.Handles.{GivesUp};
+ghost use Rattle.pt_places.specs.Filling.{GivesUp};
 ghost use Rattle.pt_nodes.specs.Nodes.{IsHistoryOf, IsQuietHistoryOf};
 
 use crate::gathered_handle::{
@@ -14,8 +14,8 @@ use crate::gathered_handle::{
 };
 use crate::held::HeldGathered;
 use crate::keeping::GatheredNode;
-use pt_handles::ending::end_code;
 use pt_node::{Config, Desk, Gathered, OpenError, Quiet, Setting, abandon, gather_keeping, open};
+use pt_places::ending::end_code;
 use pt_structs::codes::{DONE, EMPTY, FILLED, MEMORY, open_code, stop_code};
 use pt_structs::types::PtConfig;
 use pt_table::desk_handle::{DeskHandle, claim as claim_desk};

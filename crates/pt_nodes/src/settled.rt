@@ -5,7 +5,7 @@ ghost use Rattle.std.specs.Option.{option_map};
 ghost use Rattle.pt_node.specs.Resuming.{Resumes};
 ghost use Rattle.pt_table.specs.Answers.{ReadsThrough, value_behind};
 ghost use Rattle.pt_nodes.specs.Nodes.{SettlesAs, ListsAs, ResumesAs, HandleTells, Writes, IsQuietHistoryOf};
-ghost use Rattle.pt_handles.specs.Handles.{GivesUp};
+ghost use Rattle.pt_places.specs.Filling.{GivesUp};
 
 use crate::gathered_handle::{
     GatheredHandle, filled as filled_gathered, is_full as has_gathered, take_out as take_gathered,
@@ -14,8 +14,8 @@ use crate::keeping::{GatheredNode, SettledNode};
 use crate::settled_handle::{
     SettledHandle, claim, filled, hold, is_full as has_settled, spare, take_out,
 };
-use pt_handles::ending::end_code;
 use pt_node::{Desk, OpenError, RestingSettled, Setting, Settled, resume_kept, resume_settled};
+use pt_places::ending::end_code;
 use pt_structs::codes::{DONE, EMPTY, FILLED, MEMORY, open_code, stop_code};
 use pt_table::desk_handle::DeskHandle;
 use pt_table::held::History;

@@ -4,17 +4,15 @@ use Rattle.std.proofs.lemmas.List.{get_or_default}
 use Rattle.pt_events.specs.declared.event.Stamped.{Stamped}
 use Rattle.pt_events.specs.History.{Past}
 use Rattle.pt_events.specs.Journal.{events}
-use Rattle.pt_events.specs.Locality.{JournalsSay}
-use Rattle.pt_laws.specs.JournalLaws.{MergeIsThere}
 use Rattle.pt_laws.specs.Laws.{MergeLegal}
 use Rattle.pt_laws.specs.LoadLaws.{EmptyIsQuiet}
 use Rattle.pt_laws.specs.LinkLaws.{MergeKnown, MergeLinksOver}
+use Rattle.pt_laws.specs.MonitorLaws.{QuietMonitorSince, QuietWatchOver}
 use Rattle.pt_signal.specs.declared.config.Config.{Config}
 use Rattle.pt_shard.specs.ShardState.{ShardState}
 use Rattle.pt_gathered.specs.Gathered.{GatheredState, IsGathered}
 use Rattle.pt_gathered.specs.Pasts.{IsBeginningOf}
 use Rattle.pt_gathered.specs.Quiet.{QuietState}
-use Rattle.pt_gathered.proofs.Lawful.{links_stand, quiet_node}
 use Rattle.pt_gathered.specs.Settling.{Settles}
 use Rattle.pt_desk.specs.DeskState.{DeskState}
 use Rattle.pt_workers.specs.Desks.{AreDesksOf, desk_kept}
@@ -33,7 +31,7 @@ use Rattle.pt_crew.specs.Running.{UpholdsOn}
 use Rattle.pt_crew.specs.Waking.{IsAwake}
 use Rattle.pt_crew.proofs.Runs.{idle_awake}
 use Rattle.pt_supervisor.specs.Keeping.{Keeps, PartOf, SuperviseAs}
-use Rattle.pt_supervisor.proofs.Still.{awake_idle, children_live}
+use Rattle.pt_supervisor.proofs.Still.{StillLaws, awake_idle, children_live, still_node}
 use Rattle.pt_supervisor.proofs.Stopping.{stopped_children}
 use Rattle.pt_supervisor.proofs.Tending.{upheld}
 use Rattle.pt_epochs.specs.declared.epochs.Plan.{Plan}
@@ -89,9 +87,9 @@ returned (Err halted) = []
 module _ {B : Type 0} (answers : Answers B) (part : PartOf B) (law : SuperviseAs answers part) where
   -- the two theorems --------------------------------------------------------------------------------------
 
-  pub held_live : MergeLegal → EmptyIsQuiet → MergeLinksOver → JournalsSay → MergeIsThere → HeldChildrenLive part
-  held_live legal empty links say there past crews g none idle h d c x l =
-      children_live part say there past crew s g h.node (links_stand g h.node (quiet_node g h.node legal empty none) links) (omega (arith, l, number_is)) at on.upholds (awake_idle crew s awake.1 awake.0)
+  pub held_live : StillLaws → EmptyIsQuiet → MergeLinksOver → QuietMonitorSince → QuietWatchOver → HeldChildrenLive part
+  held_live laws empty links monitors watches past crews g none idle h d c x l =
+      children_live part laws past crew s g h.node (still_node laws empty links monitors watches g h.node none) (omega (arith, l, number_is)) at on.upholds (awake_idle crew s awake.1 awake.0)
     where
       crew : Crew B
       crew = get_or crews d c

@@ -5,14 +5,11 @@ use Rattle.std.proofs.lemmas.List.{map-append, reverse-append}
 use Rattle.pt_events.specs.declared.event.Stamped.{Stamped}
 use Rattle.pt_events.specs.History.{Past}
 use Rattle.pt_events.specs.Journal.{events}
-use Rattle.pt_events.specs.Locality.{JournalsSay}
-use Rattle.pt_laws.specs.JournalLaws.{MergeIsThere}
-use Rattle.pt_laws.specs.Laws.{MergeLegal}
 use Rattle.pt_laws.specs.LoadLaws.{EmptyIsQuiet}
 use Rattle.pt_laws.specs.LinkLaws.{MergeLinksOver}
+use Rattle.pt_laws.specs.MonitorLaws.{QuietMonitorSince, QuietWatchOver}
 use Rattle.pt_gathered.specs.Gathered.{GatheredState}
 use Rattle.pt_gathered.specs.Settling.{NothingLeft}
-use Rattle.pt_gathered.proofs.Lawful.{links_stand, quiet_node}
 use Rattle.pt_desk.specs.DeskState.{DeskState}
 use Rattle.pt_workers.specs.Desks.{all_shards}
 use Rattle.pt_workers.specs.NodeRunning.{RunsPaired}
@@ -27,6 +24,7 @@ use Rattle.pt_crew.proofs.Runs.{rest_upholds, run_upholds}
 use Rattle.pt_supervisor.specs.Keeping.{Keeps, PartOf, SuperviseAs}
 use Rattle.pt_supervisor.specs.Gathering.{AllChildrenLive}
 use Rattle.pt_supervisor.proofs.AllLive.{all_children_live}
+use Rattle.pt_supervisor.proofs.Still.{StillLaws, still_node}
 use Rattle.pt_supervisor.proofs.Tending.{upheld}
 use Rattle.pt_epochs.specs.declared.epochs.Outcome.{Outcome}
 use Rattle.pt_epochs.specs.declared.epochs.Outcome.TheVariants as outcome
@@ -160,12 +158,12 @@ module _ {B : Type 0} (answers : Answers B) (part : PartOf B) (law : SuperviseAs
       passes_hold past most why old new passes h = run_holds past most why passes.all old new passes.passes h
 
       -- an epoch that ends since nothing is left to do
-      module _ (law_legal : MergeLegal) (empty : EmptyIsQuiet) (links : MergeLinksOver) (say : JournalsSay) (there : MergeIsThere) where
+      module _ (laws : StillLaws) (empty : EmptyIsQuiet) (links : MergeLinksOver) (monitors : QuietMonitorSince) (watches : QuietWatchOver) where
         pub idle_lives : (past : Past) (history : List Stamped) (old new : Manned B S) (passes : PassesOne (Runs lets plan) plan Takes Refuses Idle history old new) → AllHold part past old.crews old.desks
             → AllChildrenLive past part passes.ran.works passes.ends.over.settled
         idle_lives past history old new passes h =
             let over = passes.ends.over in
             let nothing : NothingLeft passes.ends.gathered = still_gathered passes.ran.desks passes.ends.gathered passes.ends.gathers passes.still in
             let shards : over.settled.shards ≡ all_shards passes.ran.desks = ap (λ (g : GatheredState). g.shards) (over.same nothing) ∙ passes.ends.gathers.shards in
-            all_children_live part say there past passes.ran.works passes.ran.desks over.settled (runs_hold lets plan past (worked old) Idle passes.ran passes.runs h).uphold passes.runs.ends.1.none.idle shards over.over.node
-            (links_stand over.settled over.over.node (quiet_node over.settled over.over.node law_legal empty over.nothing_left) links)
+            all_children_live part laws past passes.ran.works passes.ran.desks over.settled (runs_hold lets plan past (worked old) Idle passes.ran passes.runs h).uphold passes.runs.ends.1.none.idle shards over.over.node
+            (still_node laws empty links monitors watches over.settled over.over.node over.nothing_left)

@@ -40,32 +40,12 @@ use Rattle.pt_crew.proofs.Upholding.{born_then}
 use Rattle.pt_supervisor.specs.Hearing.{Standing}
 use Rattle.pt_supervisor.specs.Keeping.{HoldsAs, Keeps, PartOf, SuperviseAs, WereTold}
 use Rattle.pt_supervisor.proofs.Before.{desk_told}
+use Rattle.pt_supervisor.proofs.Homes.{born_here}
 use Rattle.pt_supervisor.proofs.Tending.{begins as all_begin, upheld}
 use Rattle.pt_epochs.specs.Epochs.{CrewBegins}
 use Rattle.pt_pauses.specs.Pauses.{AllHold, Pauses}
 use Rattle.pt_pauses.proofs.Receipts.{grown, grown_later, receipts_stand}
 use Rattle.pt_pauses.proofs.Resuming.{holds_then, still_born}
-
--- who was born on a desk is of it -----------------------------------------------------------------
-
-nobody_else : (d : ℕ) (start : Start) (q : Pid) → Every (λ b. b.0.shard ≡ d) start → (q.shard ≡ d → ⊥) → at_start start q ≡ unborn
-nobody_else d [] q own other = refl
-nobody_else d (b ∷ start) q own other =
-    ap (λ (t : Bool). phase_or_unborn (cond t (Some b.1) (lookup (same_pid q) start))) (elsewhere q b.0 (λ e. other (e ∙ own.0))) ∙ nobody_else d start q own.1 other
-
-never_else : (d : ℕ) (start any : Start) (low top : ℕ) (journal : List Stamped) (q : Pid) → IsLocal any low top d journal → (q.shard ≡ d → ⊥) → at_start start q ≡ unborn → life start (events journal) q ≡ unborn
-never_else d start any low top [] q local other none = none
-never_else d start any low top (s ∷ journal) q local other none =
-    ap (λ (t : Bool). cond t (change q s.event (life start (events journal) q)) (life start (events journal) q)) (home_untouched d q s.event local.0.home (ne_eqb d q.shard (λ e. other (sym e))))
-    ∙ never_else d start any low top journal q local.1 other none
-
-born_here : (d : ℕ) (start any : Start) (low top : ℕ) (journal : List Stamped) (q : Pid) → Every (λ b. b.0.shard ≡ d) start → IsLocal any low top d journal → is_unborn (life start (events journal) q) ≡ false → q.shard ≡ d
-born_here d start any low top journal q own local born = ⊎_elim
-    (λ (same : q.shard ≡ d). same)
-    (λ (other : q.shard ≡ d → ⊥).
-    let none : is_unborn (life start (events journal) q) ≡ true = ap is_unborn (never_else d start any low top journal q local other (nobody_else d start q own other)) in
-    absurd (let bad : false ≡ true = sym born ∙ none in cc))
-    (cases_eq q.shard d)
 
 abbrev pub shard_of : DeskState → ShardState
 shard_of d = d.shard

@@ -21,7 +21,7 @@ use Rattle.pt_crew.specs.Upholding.{child_by, children_by}
 use Rattle.pt_crew.proofs.Waking.{by_cases}
 use Rattle.pt_supervisor.specs.Children.{NoneLives}
 use Rattle.pt_supervisor.specs.Hearing.{Standing}
-use Rattle.pt_supervisor.specs.Keeping.{is_cut, all_events, IsTied, IsHeld, Family, tells_end, has_told, WereTold, all_children, IsPlaced, Remembers, Holds, HoldsAs}
+use Rattle.pt_supervisor.specs.Keeping.{is_cut, all_events, IsTied, IsHeld, Family, tells_end, has_told, WereTold, all_children, IsPlaced, Remembers, AreAsked, IsWatched, bids_to, Holds, HoldsAs}
 use Rattle.pt_supervisor.proofs.Tying.{or_left, or_right}
 use Rattle.pt_supervisor.proofs.Stopping.{any_both, any_events, any_filter}
 
@@ -100,6 +100,15 @@ module _ (past : Past) (merged : List Stamped) (me : Pid) (d e : ShardState) (ba
       go q (inl tied) = inl (subst (λ (x : Phase). IsTied (state_of x) q) (sym same) tied)
       go q (inr cut) = inr (any_then (is_cut me q) cut)
 
+  asks_then : (s : Standing) → phase_of e me ≡ phase_of d me → AreAsked past s.children s.asked me d → AreAsked then s.children s.asked me e
+  asks_then s same h a is placed =
+      let k = h a is placed in
+      record {
+        watched = λ m by. subst (λ (x : Phase). IsWatched (state_of x) m a.pid) (sym same) (k.watched m by);
+        told = λ r told. any_then (bids_to me a.pid r) (k.told r told);
+        gone = λ gone. any_then (tells_end me a.pid) (k.gone gone);
+      }
+
   pub holds_then : (o : Option Standing) (next : Next) → is_unborn (phase_of d me) ≡ false → HoldsAs past o next me d → HoldsAs then o next me e
   holds_then None next born h = tt
   holds_then (Some s) next born h = (
@@ -118,4 +127,5 @@ module _ (past : Past) (merged : List Stamped) (me : Pid) (d e : ShardState) (ba
             remembers = remembers_then s k.remembers;
             traps = subst (λ (x : Phase). ((state_of x).traps ≡ true) ⊎ ((next ≡ Proceed) × NoneLives s.children)) (sym same) k.traps;
             family = family_then s same k.family;
+            asks = asks_then s same k.asks;
           }

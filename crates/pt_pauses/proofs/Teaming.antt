@@ -82,23 +82,23 @@ module _ (past : Past) (merged : List Stamped) (desks new : List DeskState) (tea
 
     has_exits : HasExitsOf at.journal merged
     has_exits q none =
-        let part = journal_at member_answers boss_part (λ b f me item next now e births h. h.0) past merged desks new [] [] bare from d x within in
+        let part = journal_at member_answers boss_part (λ time b f me item next now e births h. h.0) past merged desks new [] [] bare from d x within in
         none_behind q part.0 at.journal (subst (λ (j : List Stamped). exit_in q j ≡ None) part.1 (none_among q d merged none))
 
     born : AreBorn (roles old.crew) (get_or new d x).shard
-    born = born_at member_answers boss_part (λ b f me item next now e births h. h.0) past merged desks new [] [] bare from d x within old.crew upholds.members
+    born = born_at member_answers boss_part (λ time b f me item next now e births h. h.0) past merged desks new [] [] bare from d x within old.crew upholds.members
 
     pub attends_then : AttendsTeam young (get_or new d x).shard
     attends_then = on.attends at (get_or new d x).shard attends has_exits born
 
     pub upholds_then : TeamUpholds (events merged ++ past) young (get_or new d x).shard
     upholds_then =
-        crew_from_at member_answers boss_part (λ b f me item next now e births h. h.0) past merged desks new [] [] bare from d x within on.mid.crew stand young.crew on.again
+        crew_from_at member_answers boss_part (λ time b f me item next now e births h. h.0) past merged desks new [] [] bare from d x within on.mid.crew stand young.crew on.again
         (subst (AllFirst (Keeps past boss_part)) (sym on.rest.waiting) upholds.waiting)
 
 pub team_pauses_hold : TeamPausesHold
 team_pauses_hold past merged desks new teams later p h from =
-    let both = count_both member_answers boss_part (λ b f me item next now e births h. h.0) past merged desks new [] [] (bare past merged desks new teams later p) in (
+    let both = count_both member_answers boss_part (λ time b f me item next now e births h. h.0) past merged desks new [] [] (bare past merged desks new teams later p) in (
       record {
         count = p.begins.count ∙ (h.count ∙ sym both);
         attends = λ d t x l.
@@ -110,5 +110,5 @@ team_pauses_hold past merged desks new teams later p h from =
             let inside : d < length teams = (let count = h.count in omega (arith, within, count)) in
             upholds_then past merged desks new teams later p from d x within (get_or teams d t) (get_or later d t) (p.begins.each d t inside) (h.attends d t x within) (h.upholds d t x within);
       },
-      goes_on member_answers boss_part (λ b f me item next now e births h. h.0) past merged desks new [] [] (bare past merged desks new teams later p) from,
+      goes_on member_answers boss_part (λ time b f me item next now e births h. h.0) past merged desks new [] [] (bare past merged desks new teams later p) from,
     )

@@ -28,5 +28,9 @@ pub fn epochs_children_live<B: Supervised + Drop, D: Drive<B>, S: Sink>(drive: &
     laws::receipts_lower_the_load();
     laws::journals_tell_their_pids();
     laws::journals_have_one_merge();
+    laws::one_down();
+    laws::stamps_make_new_ids();
+    laws::quiet_monitors();
+    links::merge_known();
     links::resumed_links();
 }

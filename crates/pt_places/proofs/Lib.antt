@@ -1,3 +1,4 @@
 -- The lemmas that more than one function uses.
 pub mod Values
 pub mod Handles
+pub mod Empty

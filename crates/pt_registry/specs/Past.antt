@@ -1,10 +1,10 @@
 -- Which monitor each name has, by all that a registry did.
-use Rattle.std.specs.Prelude.{◌≡◌, cond, List, [], ◌∷◌, Option, Some, None, Ok}
+use Rattle.std.specs.Prelude.{◌≡◌, ◌&&◌, cond, List, [], ◌∷◌, Option, Some, None, Ok}
 use Rattle.pt_signal.specs.declared.pid.Pid.{Pid}
 use Rattle.pt_signal.specs.declared.ids.Ref.{Ref}
 use Rattle.pt_signal.specs.declared.item.Item.{Item}
 use Rattle.pt_signal.specs.declared.item.Item.TheVariants.{Down}
-use Rattle.pt_signal.specs.Values.{same_pid}
+use Rattle.pt_signal.specs.Values.{same_pid, same_ref}
 use Rattle.pt_names.specs.declared.name.Name.{Name}
 use Rattle.pt_names.specs.declared.names.Holder.{Holder}
 use Rattle.pt_names.specs.State.{NamesState, holder_of, same_name}
@@ -29,17 +29,17 @@ abbrev pub LeadsNames : List NamesDeed → NamesState → Type 0
 LeadsNames [] s = IsNone s
 LeadsNames (deed ∷ past) s = (before : NamesState) × LeadsNames past before × DoesNames deed before s
 
--- a holder whose DOWN was shown holds no name
-abbrev pub unless_of : Pid → Option Holder → Option Holder
-unless_of p None = None
-unless_of p (Some h) = cond (same_pid p h.pid) None (Some h)
+-- a holder whose DOWN was shown, of its own monitor, holds no name
+abbrev pub unless_of : Pid → Ref → Option Holder → Option Holder
+unless_of p m None = None
+unless_of p m (Some h) = cond (same_pid p h.pid && same_ref m h.monitor) None (Some h)
 
 abbrev pub unless_down : Item → Option Holder → Option Holder
-unless_down (Down m p reason) holder = unless_of p holder
+unless_down (Down m p reason) holder = unless_of p m holder
 unless_down i holder = holder
 
 -- the process that has the name by all that was done, with its monitor: the one that was registered last, unless the
--- name was given up since, or a DOWN of the process was shown
+-- name was given up since, or the DOWN of that monitor was shown
 abbrev pub holder_by : Name → List NamesDeed → Option Holder
 holder_by n [] = None
 holder_by n (registered other p m ∷ past) =
@@ -47,7 +47,7 @@ holder_by n (registered other p m ∷ past) =
 holder_by n (unregistered other h ∷ past) = cond (same_name other n) None (holder_by n past)
 holder_by n (shown i freed ∷ past) = unless_down i (holder_by n past)
 
--- So the monitor of a name stays from its registration on, until the name is given up or a DOWN of its process is shown;
+-- So the monitor of a name stays from its registration on, until the name is given up or the DOWN of it is shown;
 -- and then nobody has the name.
 abbrev pub KeepMonitors : Type 0
 KeepMonitors = (past : List NamesDeed) (s : NamesState) → LeadsNames past s → (n : Name)

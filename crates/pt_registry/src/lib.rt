@@ -12,14 +12,17 @@
 //! - **Monitored.** `register` succeeds only if it has made a monitor of the process, and keeps its reference with the
 //!   name. (`RegistersWatched`)
 //! - **One process a name.** The process that registered first keeps the name and its monitor, until the name is
-//!   unregistered or a `DOWN` of the process is heard. (`names_keep_their_monitors`)
-//! - **Forgotten.** Once the `DOWN` of a process is heard, `whereis` returns it for no name. (`IsFreed`)
-//! - **Failures.** If a call fails, no name has changed. A monitor that was made before there was no memory is given up
-//!   again.
+//!   unregistered or the `DOWN` of that monitor is heard. (`names_keep_their_monitors`)
+//! - **Forgotten.** Once the `DOWN` of a name's monitor is heard, no name has that monitor. The `DOWN` of any other
+//!   monitor frees no name. (`HearsNames`, `IsFreed`)
+//! - **Failures.** If a call fails, no name has changed. A monitor that was made before there was no memory is cancelled
+//!   again, or the failure has it. (`KeepsName`)
+//! - **Unregistered.** `unregister` cancels the monitor of the name, or fails, and the name stays. (`GivesUpName`)
 #![tactic(auto)]
 
 mod laws;
 mod registry;
+mod unregistered;
 
 pub use laws::names_keep_their_monitors;
 pub use registry::{Registry, RegistryError};

@@ -2,9 +2,11 @@
 
 ghost use Rattle.pt_names.specs.State.{IsOneToOne};
 
-use pt_crew::{CallFault, Request, demonitor, monitor};
+use crate::unregistered::unkept;
+use pt_crew::{CallFault, demonitor, monitor};
 use pt_names::{Name, Names, RegisterError};
-use pt_workers::{Desk, Item, Pid, Ref};
+use pt_pending::Request;
+use pt_workers::{Desk, Fault, Item, Pid, Ref};
 use std::alloc::Global;
 use thiserror::Error;
 
@@ -17,6 +19,10 @@ pub enum RegistryError {
     /// The registry cannot monitor the process. With `NoProc` the process is seen to have exited.
     #[error("{0}")]
     Unwatched(CallFault),
+    /// The names refuse it, and cancelling the monitor that was made failed too. The monitor is still open:
+    /// [`demonitor`] cancels it. If it is left, its `DOWN` may arrive, which frees no name.
+    #[error("{0}, and its monitor is still open")]
+    LeftOpen(RegisterError, Ref),
     /// The list has no name at this place.
     #[error("there is no such name")]
     NoName,
@@ -36,7 +42,7 @@ impl Registry {
     ghost use Rattle.pt_names.specs.Calls.{IsNone};
     ghost use Rattle.pt_names.specs.State.{pid_of};
     ghost use Rattle.pt_crew.specs.Visiting.{takes};
-    ghost use Rattle.pt_registry.specs.Registering.{GivesUpName, HearsOf, IsFreed, KeepsName, NamesSender};
+    ghost use Rattle.pt_registry.specs.Registering.{FreesName, GivesUpName, HearsOf, IsFreed, KeepsName, NamesSender};
     ghost use Rattle.pt_registry.specs.Registering.{RegistersWatched};
 
     /// No names, kept by this process. It takes no memory.
@@ -61,7 +67,7 @@ impl Registry {
     ///
     /// Fails with `Refused` if a process has the name or the process has one, and otherwise with `Unwatched` as
     /// [`monitor`] fails. Then nothing is done. Fails with `Refused` too if there is no memory for one more name. The
-    /// monitor is cancelled then. If that fails as well, its `DOWN` may arrive, which changes nothing by then.
+    /// monitor is cancelled then. If that fails as well, the failure is `LeftOpen`, which has the monitor.
     pub fn register(&mut self, desk: &mut Desk, name: Name, pid: Pid) -> Result<(), RegistryError>
         ensures does { RegistersWatched name pid self.old desk.old result self.new desk.new }
         ensures takes { takes desk.new.shard.journal ≡ takes desk.old.shard.journal }
@@ -90,10 +96,7 @@ impl Registry {
     {
         match self.names.register(name, pid, reference) {
             Ok(()) => Ok(()),
-            Err(error) => {
-                let _ = demonitor(desk, self.me, reference);
-                Err(RegistryError::Refused(error))
-            }
+            Err(error) => Err(unkept(error, reference, demonitor(desk, self.me, reference))),
         }
     }
 
@@ -116,31 +119,47 @@ impl Registry {
         }
     }
 
-    /// Removes a name, and returns the process that had it, or `None` if no process has it (`unregister`).
+    /// Removes a name and cancels its monitor, and returns the process that had it, or `None` if no process has it
+    /// (`unregister`).
     ///
-    /// Its monitor is cancelled. If that fails for want of memory or stamps, the failure is ignored: its `DOWN` may
-    /// arrive then, and is that of a process that has exited.
-    pub fn unregister(&mut self, desk: &mut Desk, name: Name) -> Option<Pid>
+    /// Fails as [`demonitor`] does, for want of memory or stamps or if the registry's process has exited. Then the process
+    /// keeps the name, and nothing has changed.
+    pub fn unregister(&mut self, desk: &mut Desk, name: Name) -> Result<Option<Pid>, Fault>
         ensures does { GivesUpName name self.old desk.old result self.new desk.new }
         ensures takes { takes desk.new.shard.journal ≡ takes desk.old.shard.journal }
         ensures goes_on { GoesOn desk.old desk.new }
     {
-        let holder = self.names.unregister(name)?;
-        let _ = demonitor(desk, self.me, holder.monitor);
-        Some(holder.pid)
+        let Some(holder) = self.names.holder(name) else {
+            return Ok(None);
+        };
+        demonitor(desk, self.me, holder.monitor)?;
+        Ok(self.names.unregister(name).map(|removed| removed.pid))
     }
 
-    /// Reads an item that the registry's process got. A `DOWN` removes the name of its process, which is returned: no
-    /// name is of that process then. Any other item changes nothing, and the answer is `None`, as it is if the process
-    /// had no name.
+    /// Reads an item that the registry's process got. The `DOWN` of the monitor that a name has removes the name, which
+    /// is returned: no name has that monitor then. Any other item changes nothing, and the answer is `None`. So is it for
+    /// the `DOWN` of another monitor of a process that has a name.
     #[tactic(auto, using(crate::proofs::Naming::freed))]
     pub fn hear(&mut self, item: Item) -> Option<Name>
         ensures hears { HearsOf item self.old result self.new }
         ensures freed { IsFreed item self.new }
     {
         match item {
-            Item::Down(_, pid, _) => self.names.forget(pid),
+            Item::Down(monitor, pid, _) => self.free(pid, monitor),
             _ => None,
         }
+    }
+
+    /// Removes the name that the process has with this monitor, and returns it, or `None` if there is no such name.
+    #[tactic(auto, using(crate::proofs::Naming::unnamed, crate::proofs::Naming::unheld, crate::proofs::Naming::otherwise, crate::proofs::Naming::forgotten))]
+    fn free(&mut self, pid: Pid, monitor: Ref) -> Option<Name>
+        ensures frees { FreesName (record { pid = pid; monitor = monitor }) self.old.names result self.new.names }
+        ensures me { self.new.me ≡ self.old.me }
+    {
+        let name = self.names.name_of(pid)?;
+        if self.names.holder(name)?.monitor != monitor {
+            return None;
+        }
+        self.names.forget(pid)
     }
 }

@@ -2,12 +2,11 @@
 
 ghost use Rattle.std.specs.Prelude.{◌≡◌, ◌<◌, ◌≤◌, ◌+◌, ◌==◌, ◌||◌, Bool, [], ◌∷◌, ◌++◌, OnOk, IfOk, IfErr, IsOk};
 ghost use Rattle.std.specs.Prelude.{length, max, not};
-ghost use Rattle.rtrb.specs.Ring.{SameConsumer, known_items, received};
+ghost use Rattle.rtrb.specs.Ring.{ConsumerLooked, IsPair, ProducerLooked, SameConsumer};
+ghost use Rattle.rtrb.specs.Ring.{consumer_capacity, known_free, known_items, producer_capacity, received, sent};
 ghost use Rattle.pt_desk.specs.DeskState.{DeskState, GoesOn};
 ghost use Rattle.pt_resting.specs.Bringing.{BringsFirst, Brings};
-ghost use Rattle.pt_resting.specs.Views.{HasSameEnd, IsSameDoor, IsSamePorter, IsWayIn, door_places, handed_in};
-ghost use Rattle.pt_resting.specs.Views.{known_places, known_to_wait, most_of, porter_places, rings_at, sender};
-ghost use Rattle.pt_resting.specs.Views.{taken_out, work_of};
+ghost use Rattle.pt_resting.specs.Views.{IsSameDoor, most_of, rings_at, sender, work_of};
 
 use crate::bells::Bells;
 use crate::resting::Rests;
@@ -35,11 +34,11 @@ impl<'a> Door<'a> {
     /// Posts a message, and rings at the desk. Fails with the message, and nothing has changed, if the door knows of no
     /// free place. Then as many messages wait as the way in has places, by all that this end knows of the other.
     pub fn post(&mut self, post: Post) -> Result<(), Post>
-        ensures taken { OnOk result ((handed_in self.new ≡ handed_in self.old ++ post ∷ [])
-            × (known_places self.old ≤ known_places self.new + 1)) }
-        ensures full { IfErr result (λ p. (p ≡ post) × (handed_in self.new ≡ handed_in self.old)
-            × (known_places self.new ≡ 0)) }
-        ensures succeeds { 0 < known_places self.old → IsOk result }
+        ensures taken { OnOk result ((sent self.new.ring ≡ sent self.old.ring ++ post ∷ [])
+            × (known_free self.old.ring ≤ known_free self.new.ring + 1)) }
+        ensures full { IfErr result (λ p. (p ≡ post) × (sent self.new.ring ≡ sent self.old.ring)
+            × (known_free self.new.ring ≡ 0)) }
+        ensures succeeds { 0 < known_free self.old.ring → IsOk result }
         ensures same { IsSameDoor self.old self.new }
     {
         match self.ring.push(post) {
@@ -76,11 +75,12 @@ pub fn way_in<'a, W: Drop>(
     most: u32,
     work: W,
 ) -> Result<(Door<'a>, Porter<W>), AllocError>
-    ensures pair { IfOk result (λ r. IsWayIn r.0 r.1) }
-    ensures door { IfOk result (λ r. (handed_in r.0 ≡ []) × (known_places r.0 ≡ places) × (door_places r.0 ≡ places)
-        × (rings_at r.0 ≡ me.shard)) }
-    ensures porter { IfOk result (λ r. (taken_out r.1 ≡ []) × (known_to_wait r.1 ≡ []) × (porter_places r.1 ≡ places)
-        × (sender r.1 ≡ me) × (most_of r.1 ≡ max 1 most) × (work_of r.1 ≡ work)) }
+    ensures pair { IfOk result (λ r. IsPair r.0.ring r.1.ring) }
+    ensures door { IfOk result (λ r. (sent r.0.ring ≡ []) × (known_free r.0.ring ≡ places)
+        × (producer_capacity r.0.ring ≡ places) × (rings_at r.0 ≡ me.shard)) }
+    ensures porter { IfOk result (λ r. (received r.1.ring ≡ []) × (known_items r.1.ring ≡ [])
+        × (consumer_capacity r.1.ring ≡ places) × (sender r.1 ≡ me) × (most_of r.1 ≡ max 1 most)
+        × (work_of r.1 ≡ work)) }
 {
     let (producer, consumer) = RingBuffer::new(alloc, places as usize)?;
     let door = Door {
@@ -98,6 +98,22 @@ pub fn way_in<'a, W: Drop>(
 }
 
 impl<W> Porter<W> {
+    /// Looks at the way in from both of its ends, and returns the number of messages that wait. It is for a caller that
+    /// has both ends.
+    ///
+    /// What was taken out, and then what waits, is what was handed in: in order, each message once.
+    pub fn meet(&mut self, door: &mut Door<'_>) -> usize
+        requires { IsPair door.old.ring self.old.ring }
+        ensures whole { received self.new.ring ++ known_items self.new.ring ≡ sent door.new.ring }
+        ensures door { IsSameDoor door.old door.new × ProducerLooked door.old.ring door.new.ring }
+        ensures ring { ConsumerLooked self.old.ring self.new.ring }
+        ensures rest { (sender self.new ≡ sender self.old) × (most_of self.new ≡ most_of self.old)
+            × (work_of self.new ≡ work_of self.old) }
+        ensures count { result ≡ length (known_items self.new.ring) }
+    {
+        self.ring.slots_beside(&mut door.ring)
+    }
+
     /// The work, to be read.
     pub fn work(&self) -> &W
         ensures { result.now ≡ work_of self.now }
@@ -158,11 +174,12 @@ impl<W> Porter<W> {
 }
 
 impl<W: Work> Work for Porter<W> {
-    ghost does = { λ old d new e. (mid : DeskState) × Brings (sender old) (most_of old) (taken_out old) d (taken_out new)
-        (known_to_wait new) mid × IsSamePorter old new × W.Work.does (work_of old) mid (work_of new) e
+    ghost does = { λ old d new e. (mid : DeskState) × Brings (sender old) (most_of old) (received old.ring) d
+        (received new.ring) (known_items new.ring) mid × SameConsumer old.ring new.ring
+        × W.Work.does (work_of old) mid (work_of new) e
         × (sender new ≡ sender old) × (most_of new ≡ most_of old) };
 
-    ghost hears = { λ old d turned new. W.Work.hears (work_of old) d turned (work_of new) × HasSameEnd old new
+    ghost hears = { λ old d turned new. W.Work.hears (work_of old) d turned (work_of new) × (new.ring ≡ old.ring)
         × (sender new ≡ sender old) × (most_of new ≡ most_of old) };
 
     #[tactic(auto, using(pt_workers::proofs::GoingOn::stays, pt_desk::proofs::Turning::goes_on_then))]
@@ -179,7 +196,7 @@ impl<W: Work> Work for Porter<W> {
 /// A porter has something to do while it knows of a message that waits, or its work has.
 impl<W: Rests> Rests for Porter<W> {
     ghost busy = { λ p answer. (own : Bool) × W.Rests.busy (work_of p) own
-        × (answer ≡ (own || not (length (known_to_wait p) == 0))) };
+        × (answer ≡ (own || not (length (known_items p.ring) == 0))) };
 
     ghost next = { λ p answer. W.Rests.next (work_of p) answer };
 

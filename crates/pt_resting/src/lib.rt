@@ -13,8 +13,9 @@
 //!
 //! # What is proved
 //!
-//! - **The way in.** A message that a `Porter` took was sent, once and in order, or its receiver was seen to have
-//!   exited or is not known. (`Brings`)
+//! - **The way in.** What a `Porter` took out, and then what waits, is what was handed in at its `Door`: in order, each
+//!   message once. A message that it took was sent, once and in order, or its receiver was seen to have exited or is not
+//!   known. (`meet`, `Brings`)
 //! - **How many.** A step sends on at most as many as asked for, and fewer only if it knows of no more or sending the
 //!   next one fails. (`few`, `keeps`)
 //! - **Refusals.** A message that could not be sent for want of memory or stamps stays in front.
@@ -22,8 +23,8 @@
 //!   at the desk of the process that sends on.
 //! - **Work left.** A crew has work exactly while a process is queued or waits to enter; a porter also while it knows
 //!   of a message. (`busy`)
-//! - **The work within.** A `RestingWork` does what its work does. A `Clocked` work sets its work's time, and does what
-//!   that does then.
+//! - **The work within.** A `RestingWork` does what its work does. A `Clocked` work sets its work's time to one that its
+//!   source says, and does what that does then. (`says`)
 //! - **Next time.** A crew that attends its desk has no process outside its queue that waits until an earlier time than
 //!   the one it tells. (`next`)
 #![tactic(auto)]

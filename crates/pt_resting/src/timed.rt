@@ -1,6 +1,6 @@
 //! Works whose steps take place at a time.
 
-ghost use Rattle.std.specs.Prelude.{⊤, ℕ};
+ghost use Rattle.std.specs.Prelude.{◌≡◌, ⊤, ℕ};
 ghost use Rattle.pt_resting.specs.Timing.{SetsTime};
 
 use crate::resting::Rests;
@@ -10,9 +10,15 @@ use std::marker::Model;
 use std::time::Duration;
 
 /// What says the time, in the program's own unit: Erlang's `erlang:monotonic_time/1`.
+///
+/// The ghost member `says` relates the source and a time that it may say. A source that reads a clock promises nothing
+/// there.
 pub trait TimeSource {
+    ghost says: { Self → ℕ → Type 0 } = { λ _ _. ⊤ };
+
     /// What time it is.
-    fn now(&self) -> u64;
+    fn now(&self) -> u64
+        ensures { says self.now result };
 
     /// How long it is until that time. It is zero if the time has come.
     fn until(&self, at: u64) -> Duration;
@@ -46,33 +52,31 @@ pub struct Clocked<'a, W, C> {
     source: &'a C,
 }
 
-/// Clauses see the work alone: what time a source says is not known to them.
+/// Clauses see the work, and the source that says its time.
 impl<'a, W, C> Model for Clocked<'a, W, C> {
-    ghost Value = { W };
+    ghost Value = { W × C };
 
-    ghost view = { λ t. t.work };
+    ghost view = { λ t. (t.work, t.source.now) };
 }
 
 impl<'a, W, C> Clocked<'a, W, C> {
-    ghost use Rattle.std.specs.Prelude.{◌≡◌};
-
     /// The work, at the time of this source.
     pub fn new(work: W, source: &'a C) -> Clocked<'a, W, C>
-        ensures { result ≡ work }
+        ensures { result ≡ (work, source.now) }
     {
         Clocked { work, source }
     }
 
     /// The work, to be read.
     pub fn work(&self) -> &W
-        ensures { result.now ≡ self.now }
+        ensures { result.now ≡ self.now.0 }
     {
         &self.work
     }
 
     /// The work, as it is now.
     pub fn into_work(self) -> W
-        ensures { result ≡ self.entry }
+        ensures { result ≡ self.entry.0 }
     {
         let Clocked { work, .. } = self;
         work
@@ -80,9 +84,10 @@ impl<'a, W, C> Clocked<'a, W, C> {
 }
 
 impl<'a, W: Timed, C: TimeSource> Work for Clocked<'a, W, C> {
-    ghost does = { λ old d new e. (now : ℕ) × (mid : W) × W.Timed.sets old now mid × W.Work.does mid d new e };
+    ghost does = { λ old d new e. (now : ℕ) × (mid : W) × C.says old.1 now × W.Timed.sets old.0 now mid
+        × W.Work.does mid d new.0 e × (new.1 ≡ old.1) };
 
-    ghost hears = { λ old d turned new. W.Work.hears old d turned new };
+    ghost hears = { λ old d turned new. W.Work.hears old.0 d turned new.0 × (new.1 ≡ old.1) };
 
     fn step(&mut self, desk: &mut Desk) {
         let now = self.source.now();
@@ -96,9 +101,9 @@ impl<'a, W: Timed, C: TimeSource> Work for Clocked<'a, W, C> {
 }
 
 impl<'a, W: Timed, C: TimeSource> Rests for Clocked<'a, W, C> {
-    ghost busy = { λ w answer. W.Rests.busy w answer };
+    ghost busy = { λ w answer. W.Rests.busy w.0 answer };
 
-    ghost next = { λ w answer. W.Rests.next w answer };
+    ghost next = { λ w answer. W.Rests.next w.0 answer };
 
     fn has_work(&self) -> bool {
         self.work.has_work()

@@ -38,10 +38,6 @@ abbrev pub IfTrue : Option Answer → (Bool → Type 0) → Type 0
 IfTrue (Some (Answer.Truth (Some b))) P = P b
 IfTrue _ P = ⊥
 
-abbrev pub IfPid : Option Answer → (Option Pid → Type 0) → Type 0
-IfPid (Some (Answer.Pid p)) P = P p
-IfPid _ P = ⊥
-
 abbrev pub IfIds : Option Answer → (Option Ids → Type 0) → Type 0
 IfIds (Some (Answer.Ids ids)) P = P ids
 IfIds _ P = ⊥
@@ -89,10 +85,6 @@ IsNotNow a = a ≡ None
 abbrev pub event_in : List Stamped → ℕ → ℕ → Option Stamped
 event_in events desk stamp = find (λ (e : Stamped). e.desk == desk && e.stamp == stamp) events
 
-abbrev pub event_of : Option (List Stamped) → ℕ → ℕ → Option Stamped
-event_of None desk stamp = None
-event_of (Some past) desk stamp = event_in (reverse past) desk stamp
-
 -- whether a process that is read has the monitor open, or keeps the watch
 abbrev pub is_watching : Option (Pid × ProcessState) → Ref → Bool
 is_watching None m = false
@@ -113,9 +105,10 @@ LooksAtNode (Look.Pending d) desks a =
 LooksAtNode (Look.Journal d) desks a =
     IfEvents a (λ events. ReadsAt d (λ x. Some (reverse x.shard.journal)) None desks (Some events)) (length desks ≤ d)
 LooksAtNode (Look.Event d stamp) desks a =
-    IfEvent a (ReadsAt d (λ x. event_of (Some x.shard.journal) d stamp) None desks)
+    ReadsAt d (λ x. Some (Answer.Event (event_in (reverse x.shard.journal) d stamp))) (Some Answer.Unknown) desks a
 LooksAtNode Look.Events desks a = IfNumber a (λ n. n ≡ Some (min (count_events desks) (2 ^ 64 - 1)))
-LooksAtNode (Look.Vacant d) desks a = IfPid a (ReadsAt d (λ x. x.shard.vacant) None desks)
+LooksAtNode (Look.Vacant d) desks a =
+    ReadsAt d (λ x. Some (Answer.Pid x.shard.vacant)) (Some Answer.Unknown) desks a
 LooksAtNode (Look.Alive p) desks a = IfTrue a (ReadsAt p.shard (λ x. lives x.shard p) false desks)
 LooksAtNode (Look.Knows d p) desks a = IfTruth a (ReadsAt d (λ x. Some (knows x.shard p)) None desks)
 LooksAtNode (Look.Waiting p) desks a =

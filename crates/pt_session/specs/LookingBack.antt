@@ -1,5 +1,5 @@
 -- What is read of a node that was gathered, or settled.
-use Rattle.std.specs.Prelude.{◌≡◌, ◌⊎◌, Bool, false, length, reverse, is_some, is_none, List, [], ◌++◌}
+use Rattle.std.specs.Prelude.{◌≡◌, ◌⊎◌, ℕ, nat_lt, Bool, false, length, reverse, is_some, is_none, List, [], ◌++◌, MatchBool}
 use Rattle.std.specs.Prelude.{Option, Some, None, Ok, Err}
 use Rattle.std.specs.List.{list_any}
 use Rattle.std.specs.Map.{lookup}
@@ -47,11 +47,16 @@ abbrev pub IfTold : Option Answer → (Answer → Type 0) → Type 0
 IfTold (Some a) P = P a
 IfTold None P = ⊥
 
+-- what is read of the history, if the node has the desk
+abbrev pub TellsOfDesk : ℕ → GatheredState → Look → List Event → Option Answer → Type 0
+TellsOfDesk desk g look earlier a =
+    MatchBool (nat_lt desk (length g.shards)) (IfTold a (TellsHistory g look earlier)) (a ≡ Some Answer.Unknown)
+
 -- what is read of a gathered node; what is read of another one alone is not answered
 abbrev pub LooksAtGathered : Look → GatheredState → List Event → Option Answer → Type 0
 LooksAtGathered Look.LeftOver g earlier a = IfLetters a (λ letters. letters ≡ all_left g)
 LooksAtGathered Look.History g earlier a = IfTold a (TellsHistory g Look.History earlier)
-LooksAtGathered (Look.Event desk stamp) g earlier a = IfTold a (TellsHistory g (Look.Event desk stamp) earlier)
+LooksAtGathered (Look.Event desk stamp) g earlier a = TellsOfDesk desk g (Look.Event desk stamp) earlier a
 LooksAtGathered Look.Events g earlier a = IfTold a (TellsHistory g Look.Events earlier)
 LooksAtGathered Look.Judge g earlier a = IfTold a (TellsHistory g Look.Judge earlier)
 LooksAtGathered _ g earlier a = IsNotNow a
@@ -67,7 +72,7 @@ InEach q P = InEveryMerge (journals q.gathered) P
 -- what is read of a settled node; what is read of another one alone is not answered
 abbrev pub LooksAtQuiet : Look → QuietState → List Event → Option Answer → Type 0
 LooksAtQuiet Look.History q earlier a = IfTold a (TellsHistory q.gathered Look.History earlier)
-LooksAtQuiet (Look.Event desk stamp) q earlier a = IfTold a (TellsHistory q.gathered (Look.Event desk stamp) earlier)
+LooksAtQuiet (Look.Event desk stamp) q earlier a = TellsOfDesk desk q.gathered (Look.Event desk stamp) earlier a
 LooksAtQuiet Look.Events q earlier a = IfTold a (TellsHistory q.gathered Look.Events earlier)
 LooksAtQuiet Look.Judge q earlier a = IfTold a (TellsHistory q.gathered Look.Judge earlier)
 LooksAtQuiet Look.Pids q earlier a =

@@ -6,6 +6,7 @@ ghost use Rattle.pt_shard.specs.Known.{knows};
 ghost use Rattle.pt_shard.specs.Outbox.{count_pending};
 ghost use Rattle.pt_node.specs.Node.{ReadsAt};
 ghost use Rattle.pt_workers.specs.Stillness.{count_events};
+ghost use Rattle.pt_answers.specs.declared.answer.Answer.TheVariants as answer;
 ghost use Rattle.pt_session.specs.Looking as spec;
 
 use pt_answers::Answer;
@@ -23,9 +24,9 @@ pub(crate) fn look_at_node(alloc: Global, node: &Node, look: Look) -> Option<Ans
         Look::Clock(desk) => Some(Answer::Number(clock(node, desk))),
         Look::Pending(desk) => Some(Answer::Number(pending(node, desk))),
         Look::Journal(desk) => Some(journal(alloc, node, desk)),
-        Look::Event(desk, stamp) => Some(Answer::Event(event(node, desk, stamp))),
+        Look::Event(desk, stamp) => Some(event(node, desk, stamp)),
         Look::Events => Some(Answer::Number(Some(count_events(node)))),
-        Look::Vacant(desk) => Some(Answer::Pid(vacant(node, desk))),
+        Look::Vacant(desk) => Some(vacant(node, desk)),
         Look::Alive(pid) => Some(Answer::Truth(Some(node.alive(pid)))),
         Look::Knows(desk, pid) => Some(Answer::Truth(knows(node, desk, pid))),
         Look::Waiting(pid) => Some(items(alloc, node.waiting(pid))),
@@ -42,10 +43,13 @@ fn clock(node: &Node, desk: u8) -> Option<u64>
     Some(node.desk(desk)?.clock())
 }
 
-fn vacant(node: &Node, desk: u8) -> Option<Pid>
-    ensures { ReadsAt desk (λ x. x.shard.vacant) None node.now result }
+fn vacant(node: &Node, desk: u8) -> Answer
+    ensures { ReadsAt desk (λ x. Some (answer.Pid x.shard.vacant)) (Some answer.Unknown) node.now (Some result) }
 {
-    node.desk(desk)?.vacant()
+    match node.desk(desk) {
+        Some(desk) => Answer::Pid(desk.vacant()),
+        None => Answer::Unknown,
+    }
 }
 
 fn pending(node: &Node, desk: u8) -> Option<u64>
@@ -96,10 +100,14 @@ fn journal(alloc: Global, node: &Node, desk: u8) -> Answer
     }
 }
 
-fn event(node: &Node, desk: u8, stamp: u64) -> Option<Stamped>
-    ensures { ReadsAt desk (λ x. spec.event_of (Some x.shard.journal) desk stamp) None node.now result }
+fn event(node: &Node, desk: u8, stamp: u64) -> Answer
+    ensures { ReadsAt desk (λ x. Some (answer.Event (spec.event_in (reverse x.shard.journal) desk stamp)))
+        (Some answer.Unknown) node.now (Some result) }
 {
-    find_event(node.desk(desk)?.journal().events(), desk, stamp)
+    match node.desk(desk) {
+        Some(it) => Answer::Event(find_event(it.journal().events(), desk, stamp)),
+        None => Answer::Unknown,
+    }
 }
 
 /// The event of a desk that has the stamp.

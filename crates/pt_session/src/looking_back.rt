@@ -32,7 +32,13 @@ pub(crate) fn look_at_gathered(
             Err(_) => Answer::NoMemory,
         }),
         Look::History => Some(gathered_history(alloc, gathered, earlier, look)),
-        Look::Event(_, _) => Some(gathered_history(alloc, gathered, earlier, look)),
+        Look::Event(desk, _) => {
+            if desk < gathered.desks() {
+                Some(gathered_history(alloc, gathered, earlier, look))
+            } else {
+                Some(Answer::Unknown)
+            }
+        }
         Look::Events => Some(gathered_history(alloc, gathered, earlier, look)),
         Look::Judge => Some(gathered_history(alloc, gathered, earlier, look)),
         _ => None,
@@ -59,7 +65,13 @@ pub(crate) fn look_at_quiet(
 {
     match look {
         Look::History => Some(quiet_history(alloc, quiet, earlier, look)),
-        Look::Event(_, _) => Some(quiet_history(alloc, quiet, earlier, look)),
+        Look::Event(desk, _) => {
+            if desk < quiet.desks() {
+                Some(quiet_history(alloc, quiet, earlier, look))
+            } else {
+                Some(Answer::Unknown)
+            }
+        }
         Look::Events => Some(quiet_history(alloc, quiet, earlier, look)),
         Look::Judge => Some(quiet_history(alloc, quiet, earlier, look)),
         Look::Pids => Some(match quiet.pids().to_vec(alloc) {

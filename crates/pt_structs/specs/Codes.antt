@@ -1,5 +1,5 @@
 -- The codes that calls answer. 0 is done, and each of the others has one meaning in every call.
-use Rattle.std.specs.Prelude.{ℕ, Option, Some, None, Result, Ok, Err}
+use Rattle.std.specs.Prelude.{◌≡◌, ℕ, ◌==◌, Bool, true, false, Option, Some, None, Result, Ok, Err}
 pub use Rattle.pt_places.specs.Places.{nothing_there, empty, some_code}
 use Rattle.pt_signal.specs.declared.config.OpenError.{OpenError}
 use Rattle.pt_signal.specs.declared.config.OpenError.TheVariants.{Bounds, Memory as NoMemory}
@@ -29,13 +29,29 @@ filled = 10
 abbrev pub bad_code : ℕ
 bad_code = 16
 
+-- a call that gets a struct with a code. If the code is none of its enumeration, that comes before all else that would be
+-- refused: the call's code says so, and nothing has changed
+abbrev pub IfCrosses : {A : Type 0} → Option A → ℕ → Type 0 → (A → Type 0) → Type 0
+IfCrosses (Some a) code kept P = P a
+IfCrosses None code kept P = (code ≡ bad_code) × kept
+
 -- an answer is for a process that is not running
 abbrev pub not_running : ℕ
 not_running = 17
 
--- a crew is used with a desk that is not its own
+-- a crew or a team is used with a desk that is not its own
 abbrev pub wrong_desk : ℕ
 wrong_desk = 18
+
+-- this is the number of the desk of a crew or of a team, or it may be that of any
+abbrev pub is_number_of : Option ℕ → ℕ → Bool
+is_number_of (Some own) number = own == number
+is_number_of None number = true
+
+-- a call of a crew or of a team over a desk: if that is another's the code says so, and nothing has changed
+abbrev pub IfOwn : Bool → ℕ → Type 0 → Type 0 → Type 0
+IfOwn true code kept P = P
+IfOwn false code kept P = (code ≡ wrong_desk) × kept
 
 -- a setting is out of its range
 abbrev pub open_code : OpenError → ℕ

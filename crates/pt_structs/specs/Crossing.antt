@@ -1,5 +1,5 @@
 -- What C passes and gets, as the table's own values. A field that the code gives no meaning to is zero.
-use Rattle.std.specs.Prelude.{ℕ, ℤ, pos, ◌==◌, Bool, true, false, cond, Option, Some, None, is_some}
+use Rattle.std.specs.Prelude.{ℕ, ℤ, pos, ◌==◌, Bool, true, false, cond, Option, Some, None, is_some, slice_get}
 use Rattle.pt_signal.specs.declared.pid.Pid.{Pid}
 use Rattle.pt_signal.specs.declared.ids.Ref.{Ref}
 use Rattle.pt_signal.specs.declared.ids.LinkId.{LinkId}
@@ -21,6 +21,9 @@ use Rattle.pt_events.specs.declared.event.Stamped.{Stamped}
 use Rattle.pt_signal.specs.declared.letter.LeftOver.{LeftOver}
 use Rattle.pt_accounts.specs.declared.account.Account.{Account}
 use Rattle.pt_signal.specs.declared.config.Config.{Config}
+use Rattle.pt_shard.specs.declared.loss.Loss.{Loss}
+use Rattle.pt_desk.specs.declared.turned.Turned.{Turned}
+use Rattle.pt_desk.specs.DeskState.{DeskState}
 use Rattle.pt_structs.specs.declared.types.PtPid.{PtPid}
 use Rattle.pt_structs.specs.declared.types.PtRef.{PtRef}
 use Rattle.pt_structs.specs.declared.types.PtIds.{PtIds}
@@ -33,6 +36,8 @@ use Rattle.pt_structs.specs.declared.types.PtEvent.{PtEvent}
 use Rattle.pt_structs.specs.declared.types.PtLeftOver.{PtLeftOver}
 use Rattle.pt_structs.specs.declared.types.PtAccount.{PtAccount}
 use Rattle.pt_structs.specs.declared.types.PtConfig.{PtConfig}
+use Rattle.pt_structs.specs.declared.types.PtTurned.{PtTurned}
+use Rattle.pt_structs.specs.Codes.{stop_code}
 
 -- nothing ----------------------------------------------------------------------------
 
@@ -217,6 +222,15 @@ left_out l = record {
   stamp = l.letter.stamp;
   signal = signal_out l.letter.signal;
 }
+
+-- turns and losses -----------------------------------------------------------------------
+
+abbrev pub turned_out : Turned → PtTurned
+turned_out t = record { posted = t.posted; handled = t.handled; stopped = stop_code t.stopped }
+
+-- the loss with this number among those that the desk keeps, the oldest first
+abbrev pub loss_numbered : DeskState → ℕ → Option Loss
+loss_numbered d place = slice_get d.shard.lost place
 
 -- settings and accounts ------------------------------------------------------------------
 

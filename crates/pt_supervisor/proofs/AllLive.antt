@@ -1,8 +1,6 @@
 -- The supervisors of a node that is gathered.
 use Rattle.std.proofs.Common.{◌≡◌, ◌<◌, List, [], ◌∷◌, length, get_or, sym, ap, subst, ◌∙◌, arith}
 use Rattle.std.proofs.lemmas.List.{get_or-map, get_or_default, length-map}
-use Rattle.pt_events.specs.Locality.{JournalsSay}
-use Rattle.pt_laws.specs.JournalLaws.{MergeIsThere}
 use Rattle.pt_shard.specs.ShardState.{ShardState}
 use Rattle.pt_desk.specs.DeskState.{DeskState}
 use Rattle.pt_crew.specs.declared.crew.Crew.{Crew}
@@ -12,16 +10,16 @@ use Rattle.pt_crew.specs.Running.{is_idle, UpholdsOn}
 use Rattle.pt_crew.proofs.Runs.{idle_awake}
 use Rattle.pt_supervisor.specs.Keeping.{Keeps, PartOf}
 use Rattle.pt_supervisor.specs.Gathering.{GatheredChildrenLive}
-use Rattle.pt_supervisor.proofs.Still.{awake_idle, children_live}
+use Rattle.pt_supervisor.proofs.Still.{StillLaws, awake_idle, children_live}
 
 abbrev shard_of : DeskState → ShardState
 shard_of d = d.shard
 
-module _ {B : Type 0} (part : PartOf B) (say : JournalsSay) (there : MergeIsThere) where
+module _ {B : Type 0} (part : PartOf B) (laws : StillLaws) where
   pub all_children_live : GatheredChildrenLive part
-  all_children_live past crews [] g upholds idle shards whole stand d c x l = absurd (let none = ap length shards in omega (arith, l, none))
-  all_children_live past crews (y ∷ ys) g upholds idle shards whole stand d c x l =
-      children_live part say there past crew s g whole stand (omega (arith, l, number_is)) at on.upholds (awake_idle crew s awake.1 awake.0)
+  all_children_live past crews [] g upholds idle shards whole still d c x l = absurd (let none = ap length shards in omega (arith, l, none))
+  all_children_live past crews (y ∷ ys) g upholds idle shards whole still d c x l =
+      children_live part laws past crew s g whole still (omega (arith, l, number_is)) at on.upholds (awake_idle crew s awake.1 awake.0)
     where
       desks : List DeskState
       desks = y ∷ ys

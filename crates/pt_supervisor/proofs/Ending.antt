@@ -1,33 +1,82 @@
 -- What a supervisor waits for as it ends a child.
-use Rattle.std.proofs.Common.{◌≡◌, ℕ, Bool, true, false, cond, Option, Some, None, Result, Ok, Err, sym, subst}
-use Rattle.std.specs.Prelude.{MatchBool, nat_lt}
+use Rattle.std.proofs.Common.{◌≡◌, inl, inr, ℕ, Bool, true, false, cond, length, Option, Some, None, Result, Ok, Err, refl, sym, ap, subst, ◌∙◌}
+use Rattle.std.specs.Prelude.{MatchBool, is_ok, nat_lt}
 use Rattle.pt_signal.specs.declared.pid.Pid.{Pid}
+use Rattle.pt_signal.specs.declared.ids.Ref.{Ref}
 use Rattle.pt_signal.specs.declared.item.Pick.{Pick}
 use Rattle.pt_signal.specs.declared.reason.Reason.{Reason}
-use Rattle.pt_signal.proofs.Same.{same_pid_refl}
+use Rattle.pt_signal.specs.Values.{same_pid}
+use Rattle.pt_signal.proofs.Same.{same_pid_is}
+use Rattle.pt_shard.specs.declared.fault.Fault.TheVariants.{Full, Memory, Worn, Gone as Over, Myself, NoProc}
 use Rattle.pt_desk.specs.DeskState.{DeskState}
 use Rattle.pt_crew.specs.declared.behaviour.Next.{Next}
-use Rattle.pt_crew.specs.declared.behaviour.Next.TheVariants.{WaitUntil}
+use Rattle.pt_crew.specs.declared.behaviour.Next.TheVariants.{WaitUntil, Proceed}
 use Rattle.pt_crew.specs.declared.call_fault.CallFault.{CallFault}
+use Rattle.pt_crew.specs.declared.call_fault.CallFault.TheVariants.{Unknown}
+use Rattle.pt_crew.proofs.Waking.{by_cases}
+use Rattle.pt_supervisor.specs.declared.asked.Asked.{Asked}
+use Rattle.pt_supervisor.specs.declared.asked.Stage.{Stage}
+use Rattle.pt_supervisor.specs.declared.asked.Stage.TheVariants.{Gone, Watched, Waiting, Until, Killed}
 use Rattle.pt_supervisor.specs.declared.children.Shutdown.{Shutdown}
-use Rattle.pt_supervisor.specs.Children.{bids, until}
-use Rattle.pt_supervisor.specs.Hearing.{Standing, asked_until, deadline}
-use Rattle.pt_supervisor.specs.Supervising.{Bids, EndsChild, Supervises, WaitsFor, after_bid}
+use Rattle.pt_supervisor.specs.declared.children.Shutdown.TheVariants.{Infinity, After, BrutalKill}
+use Rattle.pt_supervisor.specs.Children.{last_alive}
+use Rattle.pt_supervisor.specs.Ending.{bids, stage_of, stage_told, next_at_stage}
+use Rattle.pt_supervisor.specs.Hearing.{Standing, at_stage}
+use Rattle.pt_supervisor.specs.Supervising.{EndsChild, Supervises, TellsToEnd, after_watching}
 
-told_supervises : (p : Pid) (result : Result (Unit {0}) CallFault) (by : Option ℕ) (s : Standing) → WaitsFor (Pick.ExitOf p) s → Supervises (after_bid p result by) (asked_until p result by s)
-told_supervises p (Err f) by s last = tt
-told_supervises p (Ok done) None s last = last
-told_supervises p (Ok done) (Some at) s last = (last, λ i. cond (same_pid_refl p i) (Some at) None)
+-- the one that it ends, as far as it has come
+pub stage_at : (asked : Option Asked) (p : Pid) (stage : Stage) → stage_of asked p ≡ Some stage → asked ≡ Some (record { pid = p; stage = stage })
+stage_at None p stage is = absurd (cc)
+stage_at (Some a) p stage is = by_cases (same_pid a.pid p)
+    (λ same.
+    let here : Some a.stage ≡ Some stage = sym (ap (λ (b : Bool). cond b (Some a.stage) None) same) ∙ is in
+    let st : a.stage ≡ stage = cc in
+    ap (λ (q : Pid). Some (record { pid = q; stage = a.stage })) (same_pid_is a.pid p same) ∙ ap (λ (x : Stage). Some (record { pid = p; stage = x })) st)
+    (λ other. let bad : None ≡ Some stage = sym (ap (λ (b : Bool). cond b (Some a.stage) None) other) ∙ is in absurd (cc))
 
-module _ (me p : Pid) (s : Standing) (d : DeskState) (next : Next) (t : Standing) (e : DeskState) (last : WaitsFor (Pick.ExitOf p) s) where
-  bids_supervise : (reason : Reason) (by : Option ℕ) → Bids me p reason by s d next t e → Supervises next t
-  bids_supervise reason by h =
-      subst (λ (n : Next). Supervises n t) (sym h.next_is) (subst (Supervises (after_bid p h.result by)) (sym h.new_is) (told_supervises p h.result by s last))
+abbrev IsLast : Pid → Shutdown → Standing → Type 0
+IsLast p shutdown s = last_alive s.children s.ending (length s.children) ≡ Some (p, shutdown)
 
-  over_supervises : (early : Bool) (at : ℕ) → deadline p s.asked ≡ Some at → MatchBool early ((next ≡ WaitUntil (Pick.ExitOf p) at) × (t ≡ s) × (e ≡ d)) (Bids me p Reason.Kill None s d next t e) → Supervises next t
-  over_supervises true at is h = subst (λ (n : Next). Supervises n t) (sym h.0) (subst (Supervises (WaitUntil (Pick.ExitOf p) at)) (sym h.1) (last, is))
-  over_supervises false at is h = bids_supervise Reason.Kill None h
+module _ (me p : Pid) where
+  -- one that it told waits at that stage
+  told_waits : (stage : Stage) (s : Standing) (next : Next) → Supervises (next_at_stage stage) (at_stage p stage s) → (ok : Bool) (t : Standing) → next ≡ cond ok (next_at_stage stage) Proceed → t ≡ cond ok (at_stage p stage s) s → Supervises next t
+  told_waits stage s next waits true t next_is t_is = subst (λ (n : Next). Supervises n t) (sym next_is) (subst (Supervises (next_at_stage stage)) (sym t_is) waits)
+  told_waits stage s next waits false t next_is t_is = subst (λ (n : Next). Supervises n t) (sym next_is) tt
 
-  pub ends_supervise : (now : ℕ) (shutdown : Shutdown) (by : Option ℕ) → deadline p s.asked ≡ by → EndsChild me now p shutdown by s d next t e → Supervises next t
-  ends_supervise now shutdown None is h = bids_supervise (bids shutdown) (until now shutdown) h
-  ends_supervise now shutdown (Some at) is h = over_supervises (nat_lt now at) at is h
+  tells_supervise : (reason : Reason) (stage : Stage) (s : Standing) (d : DeskState) (next : Next) (t : Standing) (e : DeskState) → Supervises (next_at_stage stage) (at_stage p stage s) → TellsToEnd me p reason stage s d next t e → Supervises next t
+  tells_supervise reason stage s d next t e waits h = told_waits stage s next waits (is_ok h.result) t h.next_is h.new_is
+
+  by_shutdown : (shutdown : Shutdown) (m : Ref) (now : ℕ) (s : Standing) → IsLast p shutdown s → Supervises (next_at_stage (stage_told shutdown m now)) (at_stage p (stage_told shutdown m now) s)
+  by_shutdown Infinity m now s last = (p, Infinity, inl (refl, (last, refl)))
+  by_shutdown (After time) m now s last = (p, After time, (last, refl))
+  by_shutdown BrutalKill m now s last = (p, BrutalKill, inr (last, refl))
+
+  module _ (shutdown : Shutdown) (s : Standing) (d : DeskState) (next : Next) (t : Standing) (e : DeskState) (last : IsLast p shutdown s) where
+    kill_supervises : (m : Ref) → TellsToEnd me p Reason.Kill (Killed m) s d next t e → Supervises next t
+    kill_supervises m h = tells_supervise Reason.Kill (Killed m) s d next t e (p, shutdown, inr (last, refl)) h
+
+    over_supervises : (early : Bool) (m : Ref) (at : ℕ) → s.asked ≡ Some (record { pid = p; stage = Until m at })
+        → MatchBool early ((next ≡ WaitUntil (Pick.DownOf m) at) × (t ≡ s) × (e ≡ d)) (TellsToEnd me p Reason.Kill (Killed m) s d next t e) → Supervises next t
+    over_supervises true m at is h = subst (λ (n : Next). Supervises n t) (sym h.0) (subst (Supervises (WaitUntil (Pick.DownOf m) at)) (sym h.1) (p, shutdown, (last, is)))
+    over_supervises false m at is h = kill_supervises m h
+
+    proceeds : next ≡ Proceed → Supervises next t
+    proceeds is = subst (λ (n : Next). Supervises n t) (sym is) tt
+
+    after_supervises : (now : ℕ) (result : Result Ref CallFault) (mid : DeskState) → after_watching me now p shutdown result s mid next t e → Supervises next t
+    after_supervises now (Ok m) mid h = tells_supervise (bids shutdown) (stage_told shutdown m now) (at_stage p (Watched m) s) mid next t e (by_shutdown shutdown m now (at_stage p (Watched m) s) last) h
+    after_supervises now (Err (CallFault.Refused NoProc)) mid h = proceeds h.0
+    after_supervises now (Err (CallFault.Refused Over)) mid h = proceeds h.0
+    after_supervises now (Err (CallFault.Refused Worn)) mid h = proceeds h.0
+    after_supervises now (Err (CallFault.Refused Memory)) mid h = proceeds h.0
+    after_supervises now (Err (CallFault.Refused Full)) mid h = proceeds h.0
+    after_supervises now (Err (CallFault.Refused Myself)) mid h = proceeds h.0
+    after_supervises now (Err Unknown) mid h = proceeds h.0
+
+    pub ends_supervise : (now : ℕ) (stage : Option Stage) → stage_of s.asked p ≡ stage → EndsChild me now p shutdown stage s d next t e → Supervises next t
+    ends_supervise now None is h = after_supervises now h.result h.mid h.goes
+    ends_supervise now (Some Gone) is h = after_supervises now h.result h.mid h.goes
+    ends_supervise now (Some (Watched m)) is h = tells_supervise (bids shutdown) (stage_told shutdown m now) s d next t e (by_shutdown shutdown m now s last) h
+    ends_supervise now (Some (Waiting m)) is h = tells_supervise (bids shutdown) (stage_told shutdown m now) s d next t e (by_shutdown shutdown m now s last) h
+    ends_supervise now (Some (Until m at)) is h = over_supervises (nat_lt now at) m at (stage_at s.asked p (Until m at) is) h
+    ends_supervise now (Some (Killed m)) is h = kill_supervises m h

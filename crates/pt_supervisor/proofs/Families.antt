@@ -1,6 +1,7 @@
 -- What a supervisor does keeps its children held.
 use Rattle.std.proofs.Common.{◌≡◌, ◌⊎◌, inl, inr, ℕ, ◌<◌, ◌≤◌, ◌+◌, min, Bool, true, false, cond, ◌||◌, ◌&&◌, not, List, [], ◌∷◌, ◌++◌, take, length, slice_get, slice_set, get_or, Option, Some, None, Result, Ok, Err, is_some, append_assoc, refl, sym, ap, subst, ◌∙◌, arith}
-use Rattle.std.specs.Prelude.{nat_lt, nat_le, position}
+use Rattle.std.specs.Prelude.{nat_lt, nat_le, position, max, MatchOption}
+use Rattle.std.specs.Result.{IsErrAnd}
 use Rattle.std.proofs.lemmas.Bool.{cases_eq}
 use Rattle.std.proofs.lemmas.Option.{slice_get_within, slice_get-get_or, get_or_from_slice_get}
 use Rattle.std.proofs.lemmas.List.{map-append}
@@ -10,31 +11,38 @@ use Rattle.std.proofs.lemmas.List.Sums.{fails_before_first}
 use Rattle.std.specs.List.{flat_map, list_any, position_or_len}
 use Rattle.pt_signal.specs.declared.pid.Pid.{Pid}
 use Rattle.pt_signal.specs.declared.ids.LinkId.{LinkId}
+use Rattle.pt_signal.specs.declared.ids.Ref.{Ref}
 use Rattle.pt_signal.specs.declared.item.Item.{Item}
 use Rattle.pt_signal.specs.declared.reason.Reason.{Reason}
 use Rattle.pt_signal.specs.declared.signal.Signal.{Signal}
-use Rattle.pt_signal.specs.Values.{same_pid}
-use Rattle.pt_signal.specs.Process.{ProcessState, enter}
+use Rattle.pt_signal.specs.declared.signal.Signal.TheVariants.{Monitor}
+use Rattle.pt_signal.specs.Values.{same_pid, is_pid}
+use Rattle.pt_signal.specs.Process.{ProcessState, enter, say}
 use Rattle.pt_signal.proofs.Same.{same_pid_refl, same_pid_is}
 use Rattle.pt_events.specs.declared.event.Event.{Event}
-use Rattle.pt_events.specs.declared.event.Event.TheVariants.{Born, Said}
+use Rattle.pt_events.specs.declared.event.Event.TheVariants.{Born, Said, Refused}
 use Rattle.pt_events.specs.declared.event.Stamped.{Stamped}
 use Rattle.pt_events.specs.History.{Past, Phase, unborn, living, ended, is_unborn, is_living, state_of, change, newborn, linked, while_living, touches}
 use Rattle.pt_events.specs.Journal.{events}
 use Rattle.pt_laws.proofs.linking.Entries.{held-enter}
 use Rattle.pt_shard.specs.declared.fault.Fault.{Fault}
 use Rattle.pt_shard.specs.declared.fault.Fault.TheVariants.{Full, Memory, Worn, Gone, Myself, NoProc}
-use Rattle.pt_shard.specs.ShardState.{ShardState, phase_of, state_in, shard_after}
-use Rattle.pt_shard.specs.Calls.{Calls}
+use Rattle.pt_shard.specs.ShardState.{ShardState, phase_of, state_in, shard_after, stamped, written}
+use Rattle.pt_shard.specs.Calls.{Calls, Monitors, Refuses}
+use Rattle.pt_desk.specs.DeskState.{DeskState}
+use Rattle.pt_desk.specs.Reaching.{Reaches, has_monitor_to_make}
+use Rattle.pt_crew.specs.declared.call_fault.CallFault.{CallFault}
+use Rattle.pt_crew.specs.declared.call_fault.CallFault.TheVariants.{Unknown}
+use Rattle.pt_crew.specs.Telling.{IfKnown, call_answered}
 use Rattle.pt_crew.specs.Upholding.{IsLater, ActsFor, child_by, children_by}
 use Rattle.pt_crew.proofs.Waking.{by_cases}
 use Rattle.pt_crew.proofs.Upholding.{later_is, later_same, later_then, later_after, born_then, phase_same, phase_is, alone_is, alone_then, alone_event, acts_is, acts_then, same_pid_sym, living_born}
 use Rattle.pt_supervisor.specs.declared.children.Child.{Child}
-use Rattle.pt_supervisor.specs.Children.{NoneLives, is_child}
+use Rattle.pt_supervisor.specs.Children.{NoneLives}
 use Rattle.pt_supervisor.specs.Hearing.{Standing, gone, heard, heard_at, lives_again, lost, restarted_child, started_again, stopped}
 use Rattle.pt_supervisor.specs.Limits.{allows}
-use Rattle.pt_supervisor.specs.Keeping.{pid_of_child, child_at, is_exit_of, is_cut, has_cut, all_events, IsTied, IsHeld, Family, tells_end, has_told, WereTold, all_children, was_started, IsPlaced, Remembers}
-use Rattle.pt_supervisor.proofs.Wanting.{set_same, set_other, set_keeps, again_same, again_count}
+use Rattle.pt_supervisor.specs.Keeping.{pid_of_child, child_at, is_end_of, is_cut, has_cut, all_events, IsTied, IsHeld, Family, tells_end, has_told, WereTold, all_children, was_started, IsPlaced, Remembers}
+use Rattle.pt_supervisor.proofs.Wanting.{set_same, set_other, set_keeps, again_get, again_kept, again_asked, again_count}
 use Rattle.pt_supervisor.proofs.Telling.{one_taken}
 use Rattle.pt_supervisor.proofs.Tying.{or_right, entered_tied}
 
@@ -70,9 +78,9 @@ set_same_at children place j v q apart is =
 pub record Less (item : Item) (old new : Standing) : Type 0 where
   pub sub : (j : ℕ) (q : Pid) → child_at new.children j ≡ Some q → child_at old.children j ≡ Some q
   pub stop : new.stopping ≡ None → old.stopping ≡ None
-  pub out : new.stopping ≡ None → (j : ℕ) (q : Pid) → child_at new.children j ≡ Some q → is_exit_of q item ≡ false
+  pub out : new.stopping ≡ None → (j : ℕ) (q : Pid) → child_at new.children j ≡ Some q → is_end_of q item ≡ false
   -- whoever loses its place is the one of whose end the item tells
-  pub kept : (j : ℕ) (q : Pid) → child_at old.children j ≡ Some q → (child_at new.children j ≡ Some q) ⊎ (is_exit_of q item ≡ true)
+  pub kept : (j : ℕ) (q : Pid) → child_at old.children j ≡ Some q → (child_at new.children j ≡ Some q) ⊎ (is_end_of q item ≡ true)
   pub count : new.started ≡ old.started
 
 restarted_stop : (allowed : Bool) (now place : ℕ) (s : Standing) → (restarted_child allowed now place s).stopping ≡ None → s.stopping ≡ None
@@ -84,36 +92,36 @@ again_stop true now place s h = restarted_stop (allows now s.span s.most s.times
 again_stop false now place s h = h
 
 -- who stands in a place, by the test of its pid
-of_is : (pid : Option Pid) (p : Pid) → is_child pid p ≡ true → pid ≡ Some p
+of_is : (pid : Option Pid) (p : Pid) → is_pid pid p ≡ true → pid ≡ Some p
 of_is None p h = absurd (cc)
 of_is (Some q) p h = ap Some (same_pid_is q p h)
 
-of_not : (c : Child) (q from : Pid) → c.pid ≡ Some q → is_child c.pid from ≡ false → same_pid q from ≡ false
-of_not c q from is no_of = sym (ap (λ (o : Option Pid). is_child o from) is) ∙ no_of
+of_not : (c : Child) (q from : Pid) → c.pid ≡ Some q → is_pid c.pid from ≡ false → same_pid q from ≡ false
+of_not c q from is no_of = sym (ap (λ (o : Option Pid). is_pid o from) is) ∙ no_of
 
 module _ (now : ℕ) (from : Pid) (reason : Reason) (s : Standing) (apart : (i j : ℕ) (q : Pid) → child_at s.children i ≡ Some q → child_at s.children j ≡ Some q → i ≡ j) where
   test : Child → Bool
-  test c = is_child c.pid from
+  test c = is_pid c.pid from
 
-  none_of : position (λ (c : Child). is_child c.pid from) s.children ≡ None → (j : ℕ) (q : Pid) → child_at s.children j ≡ Some q → same_pid q from ≡ false
+  none_of : position (λ (c : Child). is_pid c.pid from) s.children ≡ None → (j : ℕ) (q : Pid) → child_at s.children j ≡ Some q → same_pid q from ≡ false
   none_of nowhere j q is =
       let x = child_is s.children j q is in
       let within : j < length s.children = slice_get_within s.children j x.0 x.1 in
       let at : get_or s.children j x.0 ≡ x.0 = get_or_from_slice_get s.children j x.0 x.0 x.1 in
-      let past : length s.children ≤ position_or_len (λ (c : Child). is_child c.pid from) s.children = past_end nowhere in
-      of_not x.0 q from x.2 (ap (λ (c : Child). is_child c.pid from) (sym at) ∙ fails_before_first (λ (c : Child). is_child c.pid from) s.children j x.0 (omega (arith, within, past)))
+      let past : length s.children ≤ position_or_len (λ (c : Child). is_pid c.pid from) s.children = past_end nowhere in
+      of_not x.0 q from x.2 (ap (λ (c : Child). is_pid c.pid from) (sym at) ∙ fails_before_first (λ (c : Child). is_pid c.pid from) s.children j x.0 (omega (arith, within, past)))
     where
-      past_end : cond (nat_lt (position_or_len (λ (c : Child). is_child c.pid from) s.children) (length s.children)) (Some (position_or_len (λ (c : Child). is_child c.pid from) s.children)) None ≡ None
-          → length s.children ≤ position_or_len (λ (c : Child). is_child c.pid from) s.children
+      past_end : cond (nat_lt (position_or_len (λ (c : Child). is_pid c.pid from) s.children) (length s.children)) (Some (position_or_len (λ (c : Child). is_pid c.pid from) s.children)) None ≡ None
+          → length s.children ≤ position_or_len (λ (c : Child). is_pid c.pid from) s.children
       past_end h = grind (arith, h)
 
-  one_of : (place : ℕ) → position (λ (c : Child). is_child c.pid from) s.children ≡ Some place → (d : Child) → (slice_get s.children place ≡ Some (get_or s.children place d)) × (child_at s.children place ≡ Some from)
+  one_of : (place : ℕ) → position (λ (c : Child). is_pid c.pid from) s.children ≡ Some place → (d : Child) → (slice_get s.children place ≡ Some (get_or s.children place d)) × (child_at s.children place ≡ Some from)
   one_of place found d =
-      let p = position-Some (λ (c : Child). is_child c.pid from) s.children place d found in
+      let p = position-Some (λ (c : Child). is_pid c.pid from) s.children place d found in
       let at : slice_get s.children place ≡ Some (get_or s.children place d) = slice_get-get_or s.children place d p.0 in
       (at, ap pid_of_child at ∙ of_is (get_or s.children place d).pid from p.1)
 
-  less_lost : (place : ℕ) (c : Option Child) → position (λ (x : Child). is_child x.pid from) s.children ≡ Some place → slice_get s.children place ≡ c → (r : Reason) → Less (Item.Exit from r) s (lost now reason place c s)
+  less_lost : (place : ℕ) (c : Option Child) → position (λ (x : Child). is_pid x.pid from) s.children ≡ Some place → slice_get s.children place ≡ c → (r : Reason) → Less (Item.Exit from r) s (lost now reason place c s)
   less_lost place None found at r = record {
     sub = λ j q is. is;
     stop = λ h. h;
@@ -127,7 +135,7 @@ module _ (now : ℕ) (from : Pid) (reason : Reason) (s : Standing) (apart : (i j
   less_lost place (Some c) found at r = record {
     kept = λ j q is. elim (cases_eq j place) [
       | inl same ↦ inr (from_is q (sym is ∙ ap (child_at s.children) same ∙ (one_of place found c).1))
-      | inr other ↦ inl (ap (λ (xs : List Child). child_at xs j) (again_same again now place t) ∙ set_same_at s.children place j v q other is)
+      | inr other ↦ inl (onward j q (set_same_at s.children place j v q other is))
     ];
     count = again_count again now place t;
     sub = λ j q is. elim (cases_eq j place) [
@@ -159,13 +167,22 @@ module _ (now : ℕ) (from : Pid) (reason : Reason) (s : Standing) (apart : (i j
       from_is q is = let same : q ≡ from = cc in subst (λ (x : Pid). same_pid q x ≡ true) same (same_pid_refl q)
 
       before : (j : ℕ) (q : Pid) → child_at (started_again again now place t).children j ≡ Some q → child_at (slice_set s.children place v) j ≡ Some q
-      before j q is = ap (λ (xs : List Child). child_at xs j) (sym (again_same again now place t)) ∙ is
+      before j q is =
+          let x = child_is (started_again again now place t).children j q is in
+          let k = again_get again now place t j x.0 x.1 in
+          ap pid_of_child k.1 ∙ (sym k.2.pid ∙ x.2)
+
+      onward : (j : ℕ) (q : Pid) → child_at (slice_set s.children place v) j ≡ Some q → child_at (started_again again now place t).children j ≡ Some q
+      onward j q is =
+          let x = child_is (slice_set s.children place v) j q is in
+          let k = again_kept again now place t j x.0 x.1 in
+          ap pid_of_child k.1 ∙ (k.2.pid ∙ x.2)
 
       here : (j : ℕ) (q : Pid) → child_at (started_again again now place t).children j ≡ Some q → j ≡ place → ⊥
       here j q is same =
           let bad : None ≡ Some q = sym (set_at s.children place c v at) ∙ ap (child_at (slice_set s.children place v)) (sym same) ∙ before j q is in absurd (cc)
 
-  less_at : (at : Option ℕ) → position (λ (x : Child). is_child x.pid from) s.children ≡ at → (r : Reason) → Less (Item.Exit from r) s (heard_at at now reason s)
+  less_at : (at : Option ℕ) → position (λ (x : Child). is_pid x.pid from) s.children ≡ at → (r : Reason) → Less (Item.Exit from r) s (heard_at at now reason s)
   less_at None nowhere r = record { sub = λ j q is. is; stop = λ h. h; out = λ h j q is. none_of nowhere j q is; kept = λ j q is. inl is; count = refl }
   less_at (Some place) found r = less_lost place (slice_get s.children place) found refl r
 
@@ -175,8 +192,48 @@ module _ (now : ℕ) (from : Pid) (reason : Reason) (s : Standing) (apart : (i j
 
   pub less_heard : Less (Item.Exit from reason) s (heard now from reason s)
   less_heard =
-      less_parent (is_child s.parent from) (heard_at (position (λ (c : Child). is_child c.pid from) s.children) now reason s) reason
-      (less_at (position (λ (c : Child). is_child c.pid from) s.children) refl reason)
+      less_parent (is_pid s.parent from) (heard_at (position (λ (c : Child). is_pid c.pid from) s.children) now reason s) reason
+      (less_at (position (λ (c : Child). is_pid c.pid from) s.children) refl reason)
+
+-- what it hears leaves whom it ends
+lost_asked : (now : ℕ) (reason : Reason) (place : ℕ) (c : Option Child) (s : Standing) → (lost now reason place c s).asked ≡ s.asked
+lost_asked now reason place None s = refl
+lost_asked now reason place (Some c) s =
+    let bidden = nat_le s.ending place in
+    again_asked (not bidden && lives_again bidden c.restart reason) now place (record s { children = slice_set s.children place (gone bidden reason c) })
+
+at_asked : (at : Option ℕ) (now : ℕ) (reason : Reason) (s : Standing) → (heard_at at now reason s).asked ≡ s.asked
+at_asked None now reason s = refl
+at_asked (Some place) now reason s = lost_asked now reason place (slice_get s.children place) s
+
+parent_asked : (is : Bool) (reason : Reason) (s other : Standing) → other.asked ≡ s.asked → (cond is (stopped reason s) other).asked ≡ s.asked
+parent_asked true reason s other h = refl
+parent_asked false reason s other h = h
+
+pub heard_asked : (now : ℕ) (from : Pid) (reason : Reason) (s : Standing) → (heard now from reason s).asked ≡ s.asked
+heard_asked now from reason s =
+    parent_asked (is_pid s.parent from) reason s (heard_at (position (λ (c : Child). is_pid c.pid from) s.children) now reason s)
+    (at_asked (position (λ (c : Child). is_pid c.pid from) s.children) now reason s)
+
+-- nor does it count anybody
+lost_count : (now : ℕ) (reason : Reason) (place : ℕ) (c : Option Child) (s : Standing) → (lost now reason place c s).started ≡ s.started
+lost_count now reason place None s = refl
+lost_count now reason place (Some c) s =
+    let bidden = nat_le s.ending place in
+    again_count (not bidden && lives_again bidden c.restart reason) now place (record s { children = slice_set s.children place (gone bidden reason c) })
+
+at_count : (at : Option ℕ) (now : ℕ) (reason : Reason) (s : Standing) → (heard_at at now reason s).started ≡ s.started
+at_count None now reason s = refl
+at_count (Some place) now reason s = lost_count now reason place (slice_get s.children place) s
+
+parent_count : (is : Bool) (reason : Reason) (s other : Standing) → other.started ≡ s.started → (cond is (stopped reason s) other).started ≡ s.started
+parent_count true reason s other h = refl
+parent_count false reason s other h = h
+
+pub heard_count : (now : ℕ) (from : Pid) (reason : Reason) (s : Standing) → (heard now from reason s).started ≡ s.started
+heard_count now from reason s =
+    parent_count (is_pid s.parent from) reason s (heard_at (position (λ (c : Child). is_pid c.pid from) s.children) now reason s)
+    (at_count (position (λ (c : Child). is_pid c.pid from) s.children) now reason s)
 
 -- desks that go on -----------------------------------------------------------------------------------
 
@@ -202,7 +259,7 @@ whole_later past d e x =
     ap (λ (j : List Stamped). events j ++ past) x.journal ∙ ap (λ (p : Past). p ++ past) (map-append (λ (s : Stamped). s.event) x.more d.journal)
     ∙ append_assoc (events x.more) (events d.journal) past
 
-any_later : (test : Event → Bool) (past : Past) (d e : ShardState) → IsLater d e → list_any test (all_events past d) ≡ true → list_any test (all_events past e) ≡ true
+pub any_later : (test : Event → Bool) (past : Past) (d e : ShardState) → IsLater d e → list_any test (all_events past d) ≡ true → list_any test (all_events past e) ≡ true
 any_later test past d e x h =
     ap (list_any test) (whole_later past d e x) ∙ list_any-append test (events x.more) (all_events past d) ∙ or_right (list_any test (events x.more)) (list_any test (all_events past d)) h
 
@@ -225,7 +282,7 @@ remembers_step past children started me d e later bare r were q was =
 
 -- an item is heard
 pub remembers_less : (past : Past) (item : Item) (s m : Standing) (me : Pid) (d e : ShardState) → IsLater d e → children_by me e.journal ≡ children_by me d.journal
-    → ((q : Pid) → is_exit_of q item ≡ true → WereTold past me d.start → has_told me q (all_events past d) ≡ true)
+    → ((q : Pid) → IsPlaced s.children q → is_end_of q item ≡ true → WereTold past me d.start → has_told me q (all_events past d) ≡ true)
     → Less item s m → Remembers past s.children s.started me d → Remembers past m.children m.started me e
 remembers_less past item s m me d e later bare tells less r were q was =
     go (remembers_step past s.children s.started me d e later bare r were q (ap (λ (n : ℕ). was_started past n me q e) (sym less.count) ∙ was))
@@ -236,7 +293,7 @@ remembers_less past item s m me d e later bare tells less r were q was =
     go : IsPlaced s.children q ⊎ (has_told me q (all_events past e) ≡ true) → IsPlaced m.children q ⊎ (has_told me q (all_events past e) ≡ true)
     go (inl placed) = elim (less.kept placed.0 q placed.1) [
       | inl still ↦ inl (placed.0, still)
-      | inr out ↦ inr (told_later past me q d e later (tells q out there))
+      | inr out ↦ inr (told_later past me q d e later (tells q placed out there))
     ]
     go (inr told) = inr told
 
@@ -288,26 +345,109 @@ own_phase me ev d s own is i = cond (own i) (change me ev (is i)) (is i)
 said_own : (me p : Pid) (x : Signal) (q : Pid) → same_pid me q ≡ false → touches q (Said me p x) ≡ false
 said_own me p x q other = same_pid_sym me q other
 
-module _ (me p : Pid) (reason : Reason) where
-  pub told_goes : (d e : ShardState) (result : Result (Unit {0}) Fault) → Calls me (Some (Said me p (Signal.Exit reason))) (tt {0}) d result e → Goes me d e
-  told_goes d e (Ok x) c = goes_event me d e (Said me p (Signal.Exit reason)) (said_own me p (Signal.Exit reason)) (λ q. refl) c.3
-  told_goes d e (Err Gone) c = goes_is me d e c.1
-  told_goes d e (Err Worn) c = goes_is me d e c.3
-  told_goes d e (Err Memory) c = goes_is me d e c.3
-  told_goes d e (Err Full) c = absurd c
-  told_goes d e (Err Myself) c = absurd c
-  told_goes d e (Err NoProc) c = absurd c
+-- what a desk has noted as me told p to end was answered so
+abbrev pub ToldAs : Pid → Pid → Reason → ShardState → ShardState → Result (Unit {0}) CallFault → Type 0
+ToldAs me p reason d e (Ok done) = e ≡ shard_after (Said me p (Signal.Exit reason)) d
+ToldAs me p reason d e (Err f) = e ≡ d
 
-  pub told_kept : (past : Past) (children : List Child) (started : ℕ) (stopping : Option Reason) (d e : ShardState) (result : Result (Unit {0}) Fault) → Calls me (Some (Said me p (Signal.Exit reason))) (tt {0}) d result e → Kept past children started stopping me d → Kept past children started stopping me e
-  told_kept past children started stopping d e (Ok x) c k =
-      kept_step past children started stopping me d e (told_goes d e (Ok x) c).later (ap (λ (f : ShardState). children_by me f.journal) c.3) k k.state
-      (phase_is (shard_after (Said me p (Signal.Exit reason)) d) e c.3 me ∙ own_phase me (Said me p (Signal.Exit reason)) d k.state (same_pid_refl me) k.living_is) k.traps (λ q h. h)
-  told_kept past children started stopping d e (Err Gone) c k = kept_is past children started stopping me d e c.1 k
-  told_kept past children started stopping d e (Err Worn) c k = kept_is past children started stopping me d e c.3 k
-  told_kept past children started stopping d e (Err Memory) c k = kept_is past children started stopping me d e c.3 k
-  told_kept past children started stopping d e (Err Full) c k = absurd c
-  told_kept past children started stopping d e (Err Myself) c k = absurd c
-  told_kept past children started stopping d e (Err NoProc) c k = absurd c
+module _ (me p : Pid) (reason : Reason) where
+  called_as : (d e : ShardState) (r : Result (Unit {0}) Fault) → Calls me (Some (Said me p (Signal.Exit reason))) (tt {0}) d r e → ToldAs me p reason d e (call_answered r)
+  called_as d e (Ok x) c = c.3
+  called_as d e (Err Gone) c = c.1
+  called_as d e (Err Worn) c = c.3
+  called_as d e (Err Memory) c = c.3
+  called_as d e (Err Full) c = absurd c
+  called_as d e (Err Myself) c = absurd c
+  called_as d e (Err NoProc) c = absurd c
+
+  pub told_as : (known : Bool) (d e : DeskState) (result : Result (Unit {0}) CallFault)
+      → IfKnown known (λ r. Calls me (Some (Said me p (Signal.Exit reason))) (tt {0}) d.shard r e.shard) d result e → ToldAs me p reason d.shard e.shard result
+  told_as true d e result (answer, does, is) = subst (ToldAs me p reason d.shard e.shard) (sym is) (called_as d.shard e.shard answer does)
+  told_as false d e result (is, same) = subst (ToldAs me p reason d.shard e.shard) (sym is) (ap (λ (x : DeskState). x.shard) same)
+
+  pub told_goes : (d e : ShardState) (result : Result (Unit {0}) CallFault) → ToldAs me p reason d e result → Goes me d e
+  told_goes d e (Ok x) h = goes_event me d e (Said me p (Signal.Exit reason)) (said_own me p (Signal.Exit reason)) (λ q. refl) h
+  told_goes d e (Err f) h = goes_is me d e h
+
+  pub told_kept : (past : Past) (children : List Child) (started : ℕ) (stopping : Option Reason) (d e : ShardState) (result : Result (Unit {0}) CallFault) → ToldAs me p reason d e result → Kept past children started stopping me d → Kept past children started stopping me e
+  told_kept past children started stopping d e (Ok x) h k =
+      kept_step past children started stopping me d e (told_goes d e (Ok x) h).later (ap (λ (f : ShardState). children_by me f.journal) h) k k.state
+      (phase_is (shard_after (Said me p (Signal.Exit reason)) d) e h me ∙ own_phase me (Said me p (Signal.Exit reason)) d k.state (same_pid_refl me) k.living_is) k.traps (λ q t. t)
+  told_kept past children started stopping d e (Err f) h k = kept_is past children started stopping me d e h k
+
+-- a monitor ----------------------------------------------------------------------------------------------
+
+-- what a desk has noted as the call of me for a monitor of p was answered so
+abbrev pub WatchedAs : Pid → Pid → ShardState → ShardState → Result Ref CallFault → Type 0
+WatchedAs me p d e (Ok m) = e ≡ shard_after (Said me p (Monitor m)) d
+WatchedAs me p d e (Err (CallFault.Refused NoProc)) = (n : ℕ) × (e ≡ written n (Refused me p) d)
+WatchedAs me p d e (Err f) = e ≡ d
+
+module _ (me p : Pid) where
+  monitored_as : (d e : ShardState) (r : Result Ref Fault) → Monitors me p d r e → WatchedAs me p d e (call_answered r)
+  monitored_as d e (Ok m) h = h.1.3 ∙ ap (λ (n : Ref). shard_after (Said me p (Monitor n)) d) (sym h.1.2)
+  monitored_as d e (Err Gone) h = h.1
+  monitored_as d e (Err Myself) h = h.2
+  monitored_as d e (Err Worn) h = h.3
+  monitored_as d e (Err Memory) h = h.3
+  monitored_as d e (Err Full) h = absurd h
+  monitored_as d e (Err NoProc) h = absurd h
+
+  refused_as : (n : ℕ) (d e : ShardState) (f : Fault) → Refuses me p n d f e → WatchedAs me p d e (Err (CallFault.Refused f))
+  refused_as n d e NoProc h = (max d.clock n + 1, h.1)
+  refused_as n d e Worn h = h.1
+  refused_as n d e Memory h = h.1
+  refused_as n d e Gone h = absurd h
+  refused_as n d e Full h = absurd h
+  refused_as n d e Myself h = absurd h
+
+  answered_as : (n : ℕ) (d e : ShardState) (r : Result Ref Fault) → IsErrAnd r (λ f. Refuses me p n d f e) → WatchedAs me p d e (call_answered r)
+  answered_as n d e (Ok m) h = absurd h
+  answered_as n d e (Err f) h = refused_as n d e f h
+
+  looked_as : (seen : Option ℕ) (d e : ShardState) (r : Result Ref Fault) → MatchOption seen (Monitors me p d r e) (λ n. IsErrAnd r (λ f. Refuses me p n d f e)) → WatchedAs me p d e (call_answered r)
+  looked_as None d e r h = monitored_as d e r h
+  looked_as (Some n) d e r h = answered_as n d e r h
+
+  reached_as : (looks : Bool) (d e : DeskState) (r : Result Ref Fault) → Reaches looks me p (Monitors me p d.shard r e.shard) d r e → WatchedAs me p d.shard e.shard (call_answered r)
+  reached_as true d e r h = looked_as h.seen d.shard e.shard r h.does
+  reached_as false d e r h = monitored_as d.shard e.shard r h.0
+
+  pub watched_as : (known : Bool) (d e : DeskState) (result : Result Ref CallFault)
+      → IfKnown known (λ r. Reaches (has_monitor_to_make d.shard me p) me p (Monitors me p d.shard r e.shard) d r e) d result e → WatchedAs me p d.shard e.shard result
+  watched_as true d e result (answer, does, is) = subst (WatchedAs me p d.shard e.shard) (sym is) (reached_as (has_monitor_to_make d.shard me p) d e answer does)
+  watched_as false d e result (is, same) = subst (WatchedAs me p d.shard e.shard) (sym is) (ap (λ (x : DeskState). x.shard) same)
+
+  -- it goes on, also where the call was refused
+  noted_goes : (n : ℕ) (d e : ShardState) → e ≡ written n (Refused me p) d → Goes me d e
+  noted_goes n d e is = subst (Goes me d) (sym is) (record {
+    later = record { start = refl; more = stamped n (Refused me p) d ∷ []; journal = refl };
+    acts = λ q other born. (refl, refl);
+  })
+
+  pub watched_goes : (d e : ShardState) (result : Result Ref CallFault) → WatchedAs me p d e result → Goes me d e
+  watched_goes d e (Ok m) h = goes_event me d e (Said me p (Monitor m)) (said_own me p (Monitor m)) (λ q. refl) h
+  watched_goes d e (Err (CallFault.Refused NoProc)) h = noted_goes h.0 d e h.1
+  watched_goes d e (Err (CallFault.Refused Gone)) h = goes_is me d e h
+  watched_goes d e (Err (CallFault.Refused Worn)) h = goes_is me d e h
+  watched_goes d e (Err (CallFault.Refused Memory)) h = goes_is me d e h
+  watched_goes d e (Err (CallFault.Refused Full)) h = goes_is me d e h
+  watched_goes d e (Err (CallFault.Refused Myself)) h = goes_is me d e h
+  watched_goes d e (Err Unknown) h = goes_is me d e h
+
+  pub watched_kept : (past : Past) (children : List Child) (started : ℕ) (stopping : Option Reason) (d e : ShardState) (result : Result Ref CallFault) → WatchedAs me p d e result → Kept past children started stopping me d → Kept past children started stopping me e
+  watched_kept past children started stopping d e (Ok m) h k =
+      kept_step past children started stopping me d e (watched_goes d e (Ok m) h).later (ap (λ (f : ShardState). children_by me f.journal) h) k (say k.state p (Monitor m))
+      (phase_is (shard_after (Said me p (Monitor m)) d) e h me ∙ own_phase me (Said me p (Monitor m)) d k.state (same_pid_refl me) k.living_is) k.traps (λ q t. t)
+  watched_kept past children started stopping d e (Err (CallFault.Refused NoProc)) h k =
+      kept_step past children started stopping me d e (noted_goes h.0 d e h.1).later (ap (λ (f : ShardState). children_by me f.journal) h.1) k k.state
+      (phase_is (written h.0 (Refused me p) d) e h.1 me ∙ k.living_is) k.traps (λ q t. t)
+  watched_kept past children started stopping d e (Err (CallFault.Refused Gone)) h k = kept_is past children started stopping me d e h k
+  watched_kept past children started stopping d e (Err (CallFault.Refused Worn)) h k = kept_is past children started stopping me d e h k
+  watched_kept past children started stopping d e (Err (CallFault.Refused Memory)) h k = kept_is past children started stopping me d e h k
+  watched_kept past children started stopping d e (Err (CallFault.Refused Full)) h k = kept_is past children started stopping me d e h k
+  watched_kept past children started stopping d e (Err (CallFault.Refused Myself)) h k = kept_is past children started stopping me d e h k
+  watched_kept past children started stopping d e (Err Unknown) h k = kept_is past children started stopping me d e h k
 
 -- a birth --------------------------------------------------------------------------------------------------
 

@@ -6,10 +6,15 @@ pub mod Ending
 pub mod Tying
 pub mod Telling
 pub mod Before
+pub mod Homes
 pub mod Families
+pub mod Asking
 pub mod Tending
+pub mod Opened
+pub mod Trapping
 pub mod Still
 pub mod Bearing
+pub mod Counted
 pub mod Ended
 pub mod Stopping
 pub mod AllLive

@@ -10,7 +10,7 @@ use Rattle.pt_signal.specs.declared.signal.Signal.TheVariants.{LinkExit}
 use Rattle.pt_signal.specs.Values.{same_pid}
 use Rattle.pt_signal.proofs.Same.{same_pid_is}
 use Rattle.pt_events.specs.declared.event.Event.{Event}
-use Rattle.pt_events.specs.declared.event.Event.TheVariants.{Born, Came}
+use Rattle.pt_events.specs.declared.event.Event.TheVariants.{Born, Came, Refused}
 use Rattle.pt_events.specs.declared.event.Stamped.{Stamped}
 use Rattle.pt_events.specs.History.{Past, Start, Phase, unborn, living, ended, at_start, is_ended, is_living, life, alive}
 use Rattle.pt_events.specs.Journal.{IsHome, IsLocal, events}
@@ -37,7 +37,7 @@ use Rattle.pt_supervisor.proofs.Tying.{or_left, or_right}
 use Rattle.pt_supervisor.proofs.Families.{none_at}
 use Rattle.pt_supervisor.proofs.Telling.{new_told}
 use Rattle.pt_supervisor.proofs.Before.{desk_told}
-use Rattle.pt_supervisor.proofs.Ended.{link_tells, ended_later, ended_told}
+use Rattle.pt_supervisor.proofs.Ended.{shows_end, ended_later, ended_told}
 
 -- lists --------------------------------------------------------------------------------------------
 
@@ -107,26 +107,28 @@ module _ (p q : Pid) where
     | inr before ↦ old_home past (home_before e past home) before
   ]
 
-  -- by a link, or by itself --------------------------------------------------------------------------
+  -- by a link, a monitor or a call, or by itself --------------------------------------------------------------------------
 
-  told_by : (e : Event) → tells_end p q e ≡ true → (link_tells p q e ≡ true) ⊎ (bids_end p q e ≡ true)
-  told_by (Came a b (LinkExit ids r)) h = inl h
-  told_by (Came a b (Signal.Exit r)) h = inr h
-  told_by _ h = absurd (cc)
+  stage_told : (e : Event) → tells_end p q e ≡ true → (shows_end p q e ≡ true) ⊎ (bids_end p q e ≡ true)
+  stage_told (Came a b (LinkExit ids r)) h = inl h
+  stage_told (Came a b (Signal.Down m r)) h = inl h
+  stage_told (Came a b (Signal.Exit r)) h = inr h
+  stage_told (Refused a b) h = inl h
+  stage_told _ h = absurd (cc)
 
-  any_told : (past : Past) → has_told p q past ≡ true → (list_any (link_tells p q) past ≡ true) ⊎ (has_bidden p q past ≡ true)
+  any_told : (past : Past) → has_told p q past ≡ true → (list_any (shows_end p q) past ≡ true) ⊎ (has_bidden p q past ≡ true)
   any_told [] h = absurd (cc)
   any_told (e ∷ past) h = by_cases (tells_end p q e)
-      (λ here. elim (told_by e here) [
-        | inl l ↦ inl (or_left (link_tells p q e) (list_any (link_tells p q) past) l)
+      (λ here. elim (stage_told e here) [
+        | inl l ↦ inl (or_left (shows_end p q e) (list_any (shows_end p q) past) l)
         | inr b ↦ inr (or_left (bids_end p q e) (has_bidden p q past) b)
       ])
       (λ later. elim (any_told past (sym (ap (λ (b : Bool). b || has_told p q past) later) ∙ h)) [
-        | inl l ↦ inl (or_right (link_tells p q e) (list_any (link_tells p q) past) l)
+        | inl l ↦ inl (or_right (shows_end p q e) (list_any (shows_end p q) past) l)
         | inr b ↦ inr (or_right (bids_end p q e) (has_bidden p q past) b)
       ])
 
-not_alive : (f : Phase) → is_ended f ≡ true → is_living f ≡ false
+pub not_alive : (f : Phase) → is_ended f ≡ true → is_living f ≡ false
 not_alive unborn h = refl
 not_alive (living s) h = absurd (cc)
 not_alive (ended r s) h = refl
@@ -141,20 +143,20 @@ reasonless_ended unborn h = h
 reasonless_ended (living s) h = h
 reasonless_ended (ended r s) h = refl
 
-known_ended : (f left : Phase) → IsKnownAs f left → is_ended left ≡ true → is_ended f ≡ true
+pub known_ended : (f left : Phase) → IsKnownAs f left → is_ended left ≡ true → is_ended f ≡ true
 known_ended f left (inl is) over = ap is_ended is ∙ outcome_ended left over
 known_ended f left (inr is) over = ap is_ended is ∙ reasonless_ended left over
 
-ended_stays : (start : Start) (past : Past) (q : Pid) → is_ended (at_start start q) ≡ true → is_ended (life start past q) ≡ true
+pub ended_stays : (start : Start) (past : Past) (q : Pid) → is_ended (at_start start q) ≡ true → is_ended (life start past q) ≡ true
 ended_stays start [] q h = h
 ended_stays start (e ∷ past) q h = ended_later q e (life start past q) (ended_stays start past q h)
 
--- a child of whose end a link told before the journals does not live
-gone_before : (past : Past) (g : GatheredState) → GoesOnFrom past g → (p q : Pid) → q.shard ≡ p.shard → list_any (link_tells p q) past ≡ true → (since : Past) → alive (begins g) since q ≡ false
+-- a child whose end was shown before the journals does not live
+gone_before : (past : Past) (g : GatheredState) → GoesOnFrom past g → (p q : Pid) → q.shard ≡ p.shard → list_any (shows_end p q) past ≡ true → (since : Past) → alive (begins g) since q ≡ false
 gone_before past g from p q same_desk any since =
     let b = from.begun in
     let over : is_ended (life [] b.past q) ≡ true =
-    ended_told [] p q same_desk b.past b.left.legal b.known (subst (λ (x : Past). list_any (link_tells p q) x ≡ true) (sym from.past_is) any) in
+    ended_told [] p q same_desk b.past b.left.legal b.known (subst (λ (x : Past). list_any (shows_end p q) x ≡ true) (sym from.past_is) any) in
     not_alive (life (begins g) since q) (ended_stays (begins g) since q (known_ended (at_start (begins g) q) (life [] b.past q) (b.left.alike q) over))
 
 module _ {B : Type 0} (part : PartOf B) (law : MergeLegal) (known : MergeKnown) where
@@ -198,18 +200,18 @@ module _ {B : Type 0} (part : PartOf B) (law : MergeLegal) (known : MergeKnown) 
         | inr before ↦ old_child all before
       ]
 
-      told_since : list_any (link_tells r.pid q) (events d.journal) ≡ true → alive (begins g) (events merged) q ≡ false
+      told_since : list_any (shows_end r.pid q) (events d.journal) ≡ true → alive (begins g) (events merged) q ≡ false
       told_since any = not_alive (life (begins g) (events merged) q)
           (ended_told (begins g) r.pid q same_desk (events merged) (legal_node g node law merged m).0 (known (begins g) g.config.start g.config.top_version (journals g) merged (locals g node) m).0
-          (any_events (link_tells r.pid q) merged ∙ any_filter (λ (t : Stamped). link_tells r.pid q t.event) _ merged
-          (ap (list_any (λ (t : Stamped). link_tells r.pid q t.event)) (m.1 d.number ∙ journal_is) ∙ (sym (any_events (link_tells r.pid q) d.journal) ∙ any))))
+          (any_events (shows_end r.pid q) merged ∙ any_filter (λ (t : Stamped). shows_end r.pid q t.event) _ merged
+          (ap (list_any (λ (t : Stamped). shows_end r.pid q t.event)) (m.1 d.number ∙ journal_is) ∙ (sym (any_events (shows_end r.pid q) d.journal) ∙ any))))
 
-      told_before : IsAllBefore past r.pid d g → list_any (link_tells r.pid q) past ≡ true → alive (begins g) (events merged) q ≡ false
+      told_before : IsAllBefore past r.pid d g → list_any (shows_end r.pid q) past ≡ true → alive (begins g) (events merged) q ≡ false
       told_before (inl from) any = gone_before past g from r.pid q same_desk any (events merged)
-      told_before (inr new) any = absurd (let none : false ≡ true = sym (ap (list_any (link_tells r.pid q)) new.0) ∙ any in cc)
+      told_before (inr new) any = absurd (let none : false ≡ true = sym (ap (list_any (shows_end r.pid q)) new.0) ∙ any in cc)
 
-      by_its_link : list_any (link_tells r.pid q) (all_events past d) ≡ true → alive (begins g) (events merged) q ≡ false
-      by_its_link any = elim (any_both (link_tells r.pid q) (events d.journal) past any) [
+      by_its_link : list_any (shows_end r.pid q) (all_events past d) ≡ true → alive (begins g) (events merged) q ≡ false
+      by_its_link any = elim (any_both (shows_end r.pid q) (events d.journal) past any) [
         | inl since ↦ told_since since
         | inr before ↦ told_before all before
       ]

@@ -19,7 +19,7 @@ use Rattle.pt_events.specs.declared.event.Event.TheVariants.{Born, Said, Came, T
 use Rattle.pt_events.specs.History.{Past, Start, Phase, unborn, living, ended, at_start, is_unborn, state_of, life, change, touches, newborn, linked, while_living, gets, live_or_end}
 use Rattle.pt_events.specs.History.{after as turned}
 use Rattle.pt_crew.proofs.Waking.{by_cases}
-use Rattle.pt_supervisor.specs.Keeping.{is_exit_of, tells_end, has_told, WereTold}
+use Rattle.pt_supervisor.specs.Keeping.{is_end_of, tells_end, has_told, WereTold}
 use Rattle.pt_supervisor.proofs.Tying.{or_left, or_right}
 
 -- lists ------------------------------------------------------------------------------------------
@@ -93,7 +93,7 @@ ended_waits (Some r) s = refl
 
 module _ (me q : Pid) where
   abbrev awaits : ProcessState → Bool
-  awaits s = list_any (is_exit_of q) s.waiting
+  awaits s = list_any (is_end_of q) s.waiting
 
   abbrev waits : Phase → Bool
   waits f = awaits (state_of f)
@@ -101,7 +101,7 @@ module _ (me q : Pid) where
   -- an exit signal that came
   exited : (by_link traps own : Bool) (a : Pid) (r : Reason) (s : ProcessState) → awaits (obey (verdict by_link traps own a r) s).state ≡ true → (same_pid q a ≡ true) ⊎ (awaits s ≡ true)
   exited false traps own a Kill s h = inr h
-  exited by_link true own a r s h = any_more (is_exit_of q) s.waiting (Item.Exit a r) h
+  exited by_link true own a r s h = any_more (is_end_of q) s.waiting (Item.Exit a r) h
   exited by_link false false a Normal s h = inr h
   exited by_link false own a r s h = inr h
 
@@ -110,16 +110,16 @@ module _ (me q : Pid) where
   link_exited true s a r h = exited true s.traps (same_pid a me) a r _ h
 
   -- another item
-  queued : (s : ProcessState) (item : Item) → is_exit_of q item ≡ false → list_any (is_exit_of q) (s.waiting ++ item ∷ []) ≡ true → awaits s ≡ true
-  queued s item out h = go (any_more (is_exit_of q) s.waiting item h)
+  queued : (s : ProcessState) (item : Item) → is_end_of q item ≡ false → list_any (is_end_of q) (s.waiting ++ item ∷ []) ≡ true → awaits s ≡ true
+  queued s item out h = go (any_more (is_end_of q) s.waiting item h)
     where
-      go : (is_exit_of q item ≡ true) ⊎ (awaits s ≡ true) → awaits s ≡ true
+      go : (is_end_of q item ≡ true) ⊎ (awaits s ≡ true) → awaits s ≡ true
       go (inl t) = absurd (let bad : false ≡ true = sym out ∙ t in cc)
       go (inr w) = w
 
-  downed : (o : Option Pid) (s : ProcessState) (a : Pid) (m : Ref) (r : Reason) → awaits (down o s a m r).state ≡ true → awaits s ≡ true
-  downed None s a m r h = h
-  downed (Some t) s a m r h = queued s (Item.Down m a r) refl h
+  downed : (o : Option Pid) (s : ProcessState) (a : Pid) (m : Ref) (r : Reason) → awaits (down o s a m r).state ≡ true → (same_pid q a ≡ true) ⊎ (awaits s ≡ true)
+  downed None s a m r h = inr h
+  downed (Some t) s a m r h = any_more (is_end_of q) s.waiting (Item.Down m a r) h
 
   told : (a b : Pid) (x : Signal) (s : ProcessState) → ((same : same_pid q a ≡ true) → tells_end me q (Came a b x) ≡ true) → (same_pid q a ≡ true) ⊎ (awaits s ≡ true)
       → (tells_end me q (Came a b x) ≡ true) ⊎ (awaits s ≡ true)
@@ -134,7 +134,7 @@ module _ (me q : Pid) where
   got s a b (LinkExit ids r) here h = told a b (LinkExit ids r) s (λ same n. same n && here n) (link_exited (holds_any (held s.links a) ids) s a r h)
   got s a b (Monitor m) here h = inr h
   got s a b (Demonitor m) here h = inr h
-  got s a b (Signal.Down m r) here h = inr (downed (lookup (same_ref m) s.watching) s a m r h)
+  got s a b (Signal.Down m r) here h = told a b (Signal.Down m r) s (λ same n. same n && here n) (downed (lookup (same_ref m) s.watching) s a m r h)
   got s a b (AliveAsk m) here h = inr h
   got s a b (AliveSay m y) here h = inr (queued s (Item.Alive m a y) refl h)
 
@@ -144,7 +144,7 @@ module _ (me q : Pid) where
   came a b x (ended r s) here h = inr h
 
   newborn_waits : (parent : Option Pid) (link : Option LinkId) (f : Phase) → waits (newborn parent link f) ≡ true → waits f ≡ true
-  newborn_waits parent link unborn h = sym (ap (λ (items : List Item). list_any (is_exit_of q) items) (linked_waits parent link fresh)) ∙ h
+  newborn_waits parent link unborn h = sym (ap (λ (items : List Item). list_any (is_end_of q) items) (linked_waits parent link fresh)) ∙ h
   newborn_waits parent link (living s) h = h
   newborn_waits parent link (ended r s) h = h
 
@@ -161,11 +161,11 @@ module _ (me q : Pid) where
   changed : (e : Event) (f : Phase) → touches me e ≡ true → waits (change me e f) ≡ true → (tells_end me q e ≡ true) ⊎ (waits f ≡ true)
   changed (Born p parent link) f on h = inr (by_cases (same_pid me p)
       (λ is. newborn_waits parent link f (subst (λ (b : Bool). waits (cond b (newborn parent link f) (while_living (linked (Some p) link) f)) ≡ true) is h))
-      (λ no. while_waits (linked (Some p) link) (λ s k. sym (ap (λ (items : List Item). list_any (is_exit_of q) items) (linked_waits (Some p) link s)) ∙ k) f
+      (λ no. while_waits (linked (Some p) link) (λ s k. sym (ap (λ (items : List Item). list_any (is_end_of q) items) (linked_waits (Some p) link s)) ∙ k) f
       (subst (λ (b : Bool). waits (cond b (newborn parent link f) (while_living (linked (Some p) link) f)) ≡ true) no h)))
-  changed (Said a b x) f on h = inr (while_waits (λ s. say s b x) (λ s k. sym (ap (λ (items : List Item). list_any (is_exit_of q) items) (said_waits s b x)) ∙ k) f h)
+  changed (Said a b x) f on h = inr (while_waits (λ s. say s b x) (λ s k. sym (ap (λ (items : List Item). list_any (is_end_of q) items) (said_waits s b x)) ∙ k) f h)
   changed (Came a b x) f on h = came a b x f on h
-  changed (Took p k i) f on h = inr (while_waits (λ s. record s { waiting = without_first (fits k) s.waiting }) (λ s any. any_without (is_exit_of q) (fits k) s.waiting any) f h)
+  changed (Took p k i) f on h = inr (while_waits (λ s. record s { waiting = without_first (fits k) s.waiting }) (λ s any. any_without (is_end_of q) (fits k) s.waiting any) f h)
   changed (Flag p on_it) f on h = inr (while_waits (λ s. record s { traps = on_it }) (λ s k. k) f h)
   changed (Left p r) f on h = inr (left_waits r f h)
   changed (Refused a b) f on h = inr h
@@ -184,7 +184,7 @@ module _ (me q : Pid) where
   ]
 
 -- for one that was not there none waited
-none_waits : {Y : Type 0} (q : Pid) (f : Phase) → is_unborn f ≡ true → list_any (is_exit_of q) (state_of f).waiting ≡ true → Y
+none_waits : {Y : Type 0} (q : Pid) (f : Phase) → is_unborn f ≡ true → list_any (is_end_of q) (state_of f).waiting ≡ true → Y
 none_waits q unborn new h = absurd (cc)
 none_waits q (living s) new h = absurd (cc)
 none_waits q (ended r s) new h = absurd (cc)

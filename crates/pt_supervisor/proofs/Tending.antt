@@ -3,6 +3,7 @@ use Rattle.std.proofs.Common.{◌≡◌, ◌⊎◌, inl, inr, ℕ, zero, suc, �
 use Rattle.std.specs.Prelude.{MatchBool, is_ok, nat_lt}
 use Rattle.std.specs.List.{find, list_any}
 use Rattle.pt_signal.specs.declared.pid.Pid.{Pid}
+use Rattle.pt_signal.specs.declared.ids.Ref.{Ref}
 use Rattle.pt_signal.specs.declared.item.Item.{Item}
 use Rattle.pt_signal.specs.declared.item.Item.TheVariants.{User, Exit, Down, Alive}
 use Rattle.pt_signal.specs.declared.item.Pick.{Pick}
@@ -12,8 +13,8 @@ use Rattle.pt_signal.specs.declared.signal.Signal.{Signal}
 use Rattle.pt_signal.specs.declared.signal.Signal.TheVariants.{Unlink}
 use Rattle.pt_signal.specs.Values.{same_pid, fits, without_first}
 use Rattle.pt_signal.specs.Process.{ProcessState, handle}
-use Rattle.pt_signal.proofs.Same.{same_pid_refl}
-use Rattle.pt_events.specs.declared.event.Event.TheVariants.{Came, Said, Took, Flag, Left}
+use Rattle.pt_signal.proofs.Same.{same_pid_is, same_pid_refl}
+use Rattle.pt_events.specs.declared.event.Event.TheVariants.{Came, Took as TookIt, Flag, Left}
 use Rattle.pt_events.specs.History.{Past, Phase, unborn, living, ended, is_unborn, is_living, state_of, gets, leaves, live_or_end}
 use Rattle.pt_events.specs.Journal.{events}
 use Rattle.pt_shard.specs.declared.fault.Fault.{Fault}
@@ -26,28 +27,35 @@ use Rattle.pt_crew.specs.declared.behaviour.Next.{Next}
 use Rattle.pt_crew.specs.declared.behaviour.Next.TheVariants.{WaitUntil, Proceed, Stop}
 use Rattle.pt_crew.specs.declared.births.Role.{Role}
 use Rattle.pt_crew.specs.Births.{Bore}
-use Rattle.pt_crew.proofs.Telling.{called_or_same}
 use Rattle.pt_crew.specs.Waking.{pick_of}
 use Rattle.pt_crew.specs.Visiting.{Answers}
 use Rattle.pt_crew.specs.Upholding.{IsLater, IsLeftAlone, ActsFor, ItemIsTaken, AllFirst, IsUpheld, children_by}
 use Rattle.pt_crew.proofs.Waking.{by_cases}
-use Rattle.pt_crew.proofs.Upholding.{later_after, later_handled, born_then, phase_is, same_pid_sym}
+use Rattle.pt_crew.proofs.Upholding.{later_is, later_after, later_handled, born_then, phase_is, same_pid_sym}
 use Rattle.pt_crew.specs.declared.call_fault.CallFault.{CallFault}
+use Rattle.pt_crew.specs.declared.call_fault.CallFault.TheVariants.{Unknown}
+use Rattle.pt_laws.specs.Watch.{is_down_item}
+use Rattle.pt_supervisor.specs.declared.asked.Asked.{Asked}
+use Rattle.pt_supervisor.specs.declared.asked.Stage.{Stage}
+use Rattle.pt_supervisor.specs.declared.asked.Stage.TheVariants.{Watched, Waiting, Until, Killed}
+use Rattle.pt_supervisor.specs.declared.asked.Stage.TheVariants as far
 use Rattle.pt_supervisor.specs.declared.children.Child.{Child}
 use Rattle.pt_supervisor.specs.declared.children.Shutdown.{Shutdown}
-use Rattle.pt_supervisor.specs.Children.{NoneLives, bids, is_missing, last_alive, until}
+use Rattle.pt_supervisor.specs.Children.{NoneLives, is_missing, last_alive}
+use Rattle.pt_supervisor.specs.Ending.{bids, gone_at, gone_in, is_ref, monitor_of, stage_of, stage_told}
 use Rattle.pt_supervisor.specs.Limits.{moment}
-use Rattle.pt_supervisor.specs.Hearing.{Standing, asked_until, deadline, heard}
-use Rattle.pt_supervisor.specs.Supervising.{Bids, EndsChild, StartsOf, Nursery, BearsAs, StartsAt, StartsOne, StartsFirst, StartsAll, SupervisorScene, nursery, SupervisorSettles, AdvancesAs, SupervisorAttends, SupervisorHandles, Supervises, with_pid, with_one, after_attending}
-use Rattle.pt_supervisor.specs.Keeping.{is_exit_of, is_cut, has_cut, all_events, IsTied, IsHeld, Family, all_children, was_started, Remembers, Holds, Tends, PartOf, HoldsAs, Keeps, SupervisorBegins, AllBegin, ActsAs, SuperviseAs}
+use Rattle.pt_supervisor.specs.Hearing.{Standing, at_stage, monitor_closed, gone_heard, heard, heard_gone}
+use Rattle.pt_supervisor.specs.Supervising.{EndsChild, TellsToEnd, WatchesChild, after_watching, StartsOf, Nursery, BearsAs, StartsAt, StartsOne, StartsFirst, StartsAll, SupervisorScene, nursery, SupervisorSettles, AdvancesAs, SupervisorAttends, SupervisorHandles, Supervises, with_pid, with_one, after_attending}
+use Rattle.pt_supervisor.specs.Keeping.{is_end_of, is_cut, has_cut, all_events, IsTied, IsHeld, Family, all_children, was_started, has_told, IsPlaced, Remembers, AreAsked, IsWatched, Holds, Tends, PartOf, HoldsAs, Keeps, SupervisorBegins, AllBegin, ActsAs, SuperviseAs}
 use Rattle.pt_supervisor.proofs.Tying.{or_left, stays_in, tied_by, is_unlink, handled_tied, handled_traps}
 use Rattle.pt_supervisor.proofs.Telling.{found_any, waits_told}
-use Rattle.pt_supervisor.proofs.Families.{none_at, Less, less_heard, Goes, goes_is, goes_then, goes_event, cut_later, remembers_step, remembers_less, Kept, family_step, kept_is, own_phase, told_goes, told_kept, born_goes, born_kept}
+use Rattle.pt_supervisor.proofs.Families.{none_at, Less, less_heard, heard_asked, Goes, goes_is, goes_then, goes_event, cut_later, remembers_step, remembers_less, Kept, family_step, kept_is, own_phase, told_as, told_goes, told_kept, watched_as, watched_goes, watched_kept, born_goes, born_kept}
+use Rattle.pt_supervisor.proofs.Asking.{asked_step, asks_is, asks_step, ends_asks, handled_watched, unless_is, watched_by}
 
 -- births ---------------------------------------------------------------------------------------
 
 module _ {B : Type 0} (me : Pid) (b : B) (first : Next) where
-  not_born : (f : Fault) (d e : ShardState) → BearsChild me true d (Err f) e ⊎ ((f ≡ Memory) × (e ≡ d)) → e ≡ d
+  pub not_born : (f : Fault) (d e : ShardState) → BearsChild me true d (Err f) e ⊎ ((f ≡ Memory) × (e ≡ d)) → e ≡ d
   not_born f d e (inr h) = h.1
   not_born Gone d e (inl h) = h.1
   not_born Worn d e (inl h) = h.2
@@ -140,18 +148,6 @@ abbrev KeptAt : {S B : Type 0} → Past → Pid → SupervisorScene S B → Type
 KeptAt past me s = Kept past s.standing.children s.standing.started s.standing.stopping me s.desk.shard
 
 module _ {S B : Type 0} (starts : StartsOf S B) (me : Pid) where
-  abbrev BidsOn : Pid → Reason → DeskState → DeskState → Result (Unit {0}) Fault → Type 0
-  BidsOn p reason d e r = Calls me (Some (Said me p (Signal.Exit reason))) (tt {0}) d.shard r e.shard
-
-  bid_goes : (p : Pid) (reason : Reason) (d e : DeskState) → ((r : Result (Unit {0}) Fault) × BidsOn p reason d e r) ⊎ (e ≡ d) → Goes me d.shard e.shard
-  bid_goes p reason d e (inl (r, h)) = told_goes me p reason d.shard e.shard r h
-  bid_goes p reason d e (inr same) = goes_is me d.shard e.shard (ap (λ (x : DeskState). x.shard) same)
-
-  bid_kept : (past : Past) (p : Pid) (reason : Reason) (d e : DeskState) (children : List Child) (started : ℕ) (stopping : Option Reason)
-      → ((r : Result (Unit {0}) Fault) × BidsOn p reason d e r) ⊎ (e ≡ d) → Kept past children started stopping me d.shard → Kept past children started stopping me e.shard
-  bid_kept past p reason d e children started stopping (inl (r, h)) k = told_kept me p reason past children started stopping d.shard e.shard r h k
-  bid_kept past p reason d e children started stopping (inr same) k = kept_is past children started stopping me d.shard e.shard (ap (λ (x : DeskState). x.shard) same) k
-
   settles_goes : (stopping : Option Reason) (old : SupervisorScene S B) (next : Next) (new : SupervisorScene S B) → SupervisorSettles starts me stopping old next new → Goes me old.desk.shard new.desk.shard
   settles_goes (Some r) old next new h = goes_is me old.desk.shard new.desk.shard (ap (λ (x : SupervisorScene S B). x.desk.shard) h.1)
   settles_goes None old next new h = all_goes starts me (length old.standing.children) (nursery old) (nursery new) h.0 h.1
@@ -163,50 +159,129 @@ module _ {S B : Type 0} (starts : StartsOf S B) (me : Pid) where
       (all_kept starts me past (length old.standing.children) (nursery old) (nursery new) h.0 h.1
       (subst (λ (o : Option Reason). Kept past old.standing.children old.standing.started o me old.desk.shard) is k))
 
-  bids_goes : (p : Pid) (reason : Reason) (until : Option ℕ) (s : Standing) (d : DeskState) (next : Next) (t : Standing) (e : DeskState) → Bids me p reason until s d next t e → Goes me d.shard e.shard
-  bids_goes p reason until s d next t e h = bid_goes p reason d e (called_or_same (knows d.shard p) (BidsOn p reason d e) d h.result e h.signal)
+  tells_goes : (p : Pid) (reason : Reason) (stage : Stage) (s : Standing) (d : DeskState) (next : Next) (t : Standing) (e : DeskState) → TellsToEnd me p reason stage s d next t e → Goes me d.shard e.shard
+  tells_goes p reason stage s d next t e h = told_goes me p reason d.shard e.shard h.result (told_as me p reason (knows d.shard p) d e h.result h.signal)
 
-  asked_kept : (past : Past) (p : Pid) (until : Option ℕ) (result : Result (Unit {0}) CallFault) (s : Standing) (e : ShardState) → Kept past s.children s.started s.stopping me e
-      → (let t = asked_until p result until s in Kept past t.children t.started t.stopping me e)
-  asked_kept past p until (Err f) s e k = k
-  asked_kept past p None (Ok done) s e k = k
-  asked_kept past p (Some at) (Ok done) s e k = k
+  tells_kept : (past : Past) (children : List Child) (started : ℕ) (stopping : Option Reason) (p : Pid) (reason : Reason) (stage : Stage) (s : Standing) (d : DeskState) (next : Next) (t : Standing) (e : DeskState) → TellsToEnd me p reason stage s d next t e
+      → Kept past children started stopping me d.shard → Kept past children started stopping me e.shard
+  tells_kept past children started stopping p reason stage s d next t e h k =
+      told_kept me p reason past children started stopping d.shard e.shard h.result (told_as me p reason (knows d.shard p) d e h.result h.signal) k
 
-  bids_kept : (past : Past) (p : Pid) (reason : Reason) (until : Option ℕ) (s : Standing) (d : DeskState) (next : Next) (t : Standing) (e : DeskState) → Bids me p reason until s d next t e
-      → Kept past s.children s.started s.stopping me d.shard → Kept past t.children t.started t.stopping me e.shard
-  bids_kept past p reason until s d next t e h k =
-      subst (λ (x : Standing). Kept past x.children x.started x.stopping me e.shard) (sym h.new_is)
-      (asked_kept past p until h.result s e.shard (bid_kept past p reason d e s.children s.started s.stopping (called_or_same (knows d.shard p) (BidsOn p reason d e) d h.result e h.signal) k))
+  tells_rest : (p : Pid) (reason : Reason) (stage : Stage) (s : Standing) (d : DeskState) (next : Next) (t : Standing) (e : DeskState) → TellsToEnd me p reason stage s d next t e → t ≡ record s { asked = t.asked }
+  tells_rest p reason stage s d next t e h = subst (λ (x : Standing). x ≡ record s { asked = x.asked }) (sym h.new_is) (go (is_ok h.result))
+    where
+      go : (ok : Bool) → cond ok (at_stage p stage s) s ≡ record s { asked = (cond ok (at_stage p stage s) s).asked }
+      go true = refl
+      go false = refl
 
-  over_goes : (early : Bool) (p : Pid) (at : ℕ) (s : Standing) (d : DeskState) (next : Next) (t : Standing) (e : DeskState)
-      → MatchBool early ((next ≡ WaitUntil (Pick.ExitOf p) at) × (t ≡ s) × (e ≡ d)) (Bids me p Reason.Kill None s d next t e) → Goes me d.shard e.shard
-  over_goes true p at s d next t e h = goes_is me d.shard e.shard (ap (λ (x : DeskState). x.shard) h.2)
-  over_goes false p at s d next t e h = bids_goes p Reason.Kill None s d next t e h
+  same_desk : (d e : DeskState) → e ≡ d → Goes me d.shard e.shard
+  same_desk d e is = goes_is me d.shard e.shard (ap (λ (x : DeskState). x.shard) is)
 
-  over_kept : (past : Past) (early : Bool) (p : Pid) (at : ℕ) (s : Standing) (d : DeskState) (next : Next) (t : Standing) (e : DeskState)
-      → MatchBool early ((next ≡ WaitUntil (Pick.ExitOf p) at) × (t ≡ s) × (e ≡ d)) (Bids me p Reason.Kill None s d next t e)
-      → Kept past s.children s.started s.stopping me d.shard → Kept past t.children t.started t.stopping me e.shard
-  over_kept past true p at s d next t e h k =
-      subst (λ (x : Standing). Kept past x.children x.started x.stopping me e.shard) (sym h.1)
-      (kept_is past s.children s.started s.stopping me d.shard e.shard (ap (λ (x : DeskState). x.shard) h.2) k)
-  over_kept past false p at s d next t e h k = bids_kept past p Reason.Kill None s d next t e h k
+  as_it_was : (s t : Standing) → t ≡ s → t ≡ record s { asked = t.asked }
+  as_it_was s t is = subst (λ (x : Standing). x ≡ record s { asked = x.asked }) (sym is) refl
 
-  ends_goes : (now : ℕ) (p : Pid) (shutdown : Shutdown) (by : Option ℕ) (s : Standing) (d : DeskState) (next : Next) (t : Standing) (e : DeskState) → EndsChild me now p shutdown by s d next t e → Goes me d.shard e.shard
-  ends_goes now p shutdown None s d next t e h = bids_goes p (bids shutdown) (until now shutdown) s d next t e h
-  ends_goes now p shutdown (Some at) s d next t e h = over_goes (nat_lt now at) p at s d next t e h
+  after_goes : (now : ℕ) (p : Pid) (shutdown : Shutdown) (result : Result Ref CallFault) (s : Standing) (mid : DeskState) (next : Next) (t : Standing) (e : DeskState) → after_watching me now p shutdown result s mid next t e → Goes me mid.shard e.shard
+  after_goes now p shutdown (Ok m) s mid next t e h = tells_goes p (bids shutdown) (stage_told shutdown m now) (at_stage p (Watched m) s) mid next t e h
+  after_goes now p shutdown (Err (CallFault.Refused NoProc)) s mid next t e h = same_desk mid e h.2
+  after_goes now p shutdown (Err (CallFault.Refused Gone)) s mid next t e h = same_desk mid e h.2
+  after_goes now p shutdown (Err (CallFault.Refused Worn)) s mid next t e h = same_desk mid e h.2
+  after_goes now p shutdown (Err (CallFault.Refused Memory)) s mid next t e h = same_desk mid e h.2
+  after_goes now p shutdown (Err (CallFault.Refused Full)) s mid next t e h = same_desk mid e h.2
+  after_goes now p shutdown (Err (CallFault.Refused Myself)) s mid next t e h = same_desk mid e h.2
+  after_goes now p shutdown (Err Unknown) s mid next t e h = same_desk mid e h.2
 
-  ends_kept : (past : Past) (now : ℕ) (p : Pid) (shutdown : Shutdown) (by : Option ℕ) (s : Standing) (d : DeskState) (next : Next) (t : Standing) (e : DeskState) → EndsChild me now p shutdown by s d next t e
-      → Kept past s.children s.started s.stopping me d.shard → Kept past t.children t.started t.stopping me e.shard
-  ends_kept past now p shutdown None s d next t e h k = bids_kept past p (bids shutdown) (until now shutdown) s d next t e h k
-  ends_kept past now p shutdown (Some at) s d next t e h k = over_kept past (nat_lt now at) p at s d next t e h k
+  after_kept : (past : Past) (children : List Child) (started : ℕ) (stopping : Option Reason) (now : ℕ) (p : Pid) (shutdown : Shutdown) (result : Result Ref CallFault) (s : Standing) (mid : DeskState) (next : Next) (t : Standing) (e : DeskState)
+      → after_watching me now p shutdown result s mid next t e → Kept past children started stopping me mid.shard → Kept past children started stopping me e.shard
+  after_kept past children started stopping now p shutdown (Ok m) s mid next t e h k = tells_kept past children started stopping p (bids shutdown) (stage_told shutdown m now) (at_stage p (Watched m) s) mid next t e h k
+  after_kept past children started stopping now p shutdown (Err (CallFault.Refused NoProc)) s mid next t e h k = kept_is past children started stopping me mid.shard e.shard (ap (λ (x : DeskState). x.shard) h.2) k
+  after_kept past children started stopping now p shutdown (Err (CallFault.Refused Gone)) s mid next t e h k = kept_is past children started stopping me mid.shard e.shard (ap (λ (x : DeskState). x.shard) h.2) k
+  after_kept past children started stopping now p shutdown (Err (CallFault.Refused Worn)) s mid next t e h k = kept_is past children started stopping me mid.shard e.shard (ap (λ (x : DeskState). x.shard) h.2) k
+  after_kept past children started stopping now p shutdown (Err (CallFault.Refused Memory)) s mid next t e h k = kept_is past children started stopping me mid.shard e.shard (ap (λ (x : DeskState). x.shard) h.2) k
+  after_kept past children started stopping now p shutdown (Err (CallFault.Refused Full)) s mid next t e h k = kept_is past children started stopping me mid.shard e.shard (ap (λ (x : DeskState). x.shard) h.2) k
+  after_kept past children started stopping now p shutdown (Err (CallFault.Refused Myself)) s mid next t e h k = kept_is past children started stopping me mid.shard e.shard (ap (λ (x : DeskState). x.shard) h.2) k
+  after_kept past children started stopping now p shutdown (Err Unknown) s mid next t e h k = kept_is past children started stopping me mid.shard e.shard (ap (λ (x : DeskState). x.shard) h.2) k
+
+  after_rest : (now : ℕ) (p : Pid) (shutdown : Shutdown) (result : Result Ref CallFault) (s : Standing) (mid : DeskState) (next : Next) (t : Standing) (e : DeskState) → after_watching me now p shutdown result s mid next t e → t ≡ record s { asked = t.asked }
+  after_rest now p shutdown (Ok m) s mid next t e h = tells_rest p (bids shutdown) (stage_told shutdown m now) (at_stage p (Watched m) s) mid next t e h
+  after_rest now p shutdown (Err (CallFault.Refused NoProc)) s mid next t e h = subst (λ (x : Standing). x ≡ record s { asked = x.asked }) (sym h.1) refl
+  after_rest now p shutdown (Err (CallFault.Refused Gone)) s mid next t e h = as_it_was s t h.1
+  after_rest now p shutdown (Err (CallFault.Refused Worn)) s mid next t e h = as_it_was s t h.1
+  after_rest now p shutdown (Err (CallFault.Refused Memory)) s mid next t e h = as_it_was s t h.1
+  after_rest now p shutdown (Err (CallFault.Refused Full)) s mid next t e h = as_it_was s t h.1
+  after_rest now p shutdown (Err (CallFault.Refused Myself)) s mid next t e h = as_it_was s t h.1
+  after_rest now p shutdown (Err Unknown) s mid next t e h = as_it_was s t h.1
+
+  module _ (now : ℕ) (p : Pid) (shutdown : Shutdown) (s : Standing) (d : DeskState) (next : Next) (t : Standing) (e : DeskState) where
+    watches_goes : WatchesChild me now p shutdown s d next t e → Goes me d.shard e.shard
+    watches_goes h =
+        goes_then me d.shard h.mid.shard e.shard (watched_goes me p d.shard h.mid.shard h.result (watched_as me p (knows d.shard p) d h.mid h.result h.monitor))
+        (after_goes now p shutdown h.result s h.mid next t e h.goes)
+
+    over_goes : (early : Bool) (m : Ref) (at : ℕ) → MatchBool early ((next ≡ WaitUntil (Pick.DownOf m) at) × (t ≡ s) × (e ≡ d)) (TellsToEnd me p Reason.Kill (Killed m) s d next t e) → Goes me d.shard e.shard
+    over_goes true m at h = same_desk d e h.2
+    over_goes false m at h = tells_goes p Reason.Kill (Killed m) s d next t e h
+
+    pub ends_goes : (stage : Option Stage) → EndsChild me now p shutdown stage s d next t e → Goes me d.shard e.shard
+    ends_goes None h = watches_goes h
+    ends_goes (Some far.Gone) h = watches_goes h
+    ends_goes (Some (Watched m)) h = tells_goes p (bids shutdown) (stage_told shutdown m now) s d next t e h
+    ends_goes (Some (Waiting m)) h = tells_goes p (bids shutdown) (stage_told shutdown m now) s d next t e h
+    ends_goes (Some (Until m at)) h = over_goes (nat_lt now at) m at h
+    ends_goes (Some (Killed m)) h = tells_goes p Reason.Kill (Killed m) s d next t e h
+
+    over_rest : (early : Bool) (m : Ref) (at : ℕ) → MatchBool early ((next ≡ WaitUntil (Pick.DownOf m) at) × (t ≡ s) × (e ≡ d)) (TellsToEnd me p Reason.Kill (Killed m) s d next t e) → t ≡ record s { asked = t.asked }
+    over_rest true m at h = as_it_was s t h.1
+    over_rest false m at h = tells_rest p Reason.Kill (Killed m) s d next t e h
+
+    -- nothing of it changes but how far it has come
+    pub ends_rest : (stage : Option Stage) → EndsChild me now p shutdown stage s d next t e → t ≡ record s { asked = t.asked }
+    ends_rest None h = after_rest now p shutdown h.result s h.mid next t e h.goes
+    ends_rest (Some far.Gone) h = after_rest now p shutdown h.result s h.mid next t e h.goes
+    ends_rest (Some (Watched m)) h = tells_rest p (bids shutdown) (stage_told shutdown m now) s d next t e h
+    ends_rest (Some (Waiting m)) h = tells_rest p (bids shutdown) (stage_told shutdown m now) s d next t e h
+    ends_rest (Some (Until m at)) h = over_rest (nat_lt now at) m at h
+    ends_rest (Some (Killed m)) h = tells_rest p Reason.Kill (Killed m) s d next t e h
+
+    module _ (past : Past) (children : List Child) (started : ℕ) (stopping : Option Reason) where
+      watches_kept : WatchesChild me now p shutdown s d next t e → Kept past children started stopping me d.shard → Kept past children started stopping me e.shard
+      watches_kept h k =
+          after_kept past children started stopping now p shutdown h.result s h.mid next t e h.goes
+          (watched_kept me p past children started stopping d.shard h.mid.shard h.result (watched_as me p (knows d.shard p) d h.mid h.result h.monitor) k)
+
+      over_kept : (early : Bool) (m : Ref) (at : ℕ) → MatchBool early ((next ≡ WaitUntil (Pick.DownOf m) at) × (t ≡ s) × (e ≡ d)) (TellsToEnd me p Reason.Kill (Killed m) s d next t e)
+          → Kept past children started stopping me d.shard → Kept past children started stopping me e.shard
+      over_kept true m at h k = kept_is past children started stopping me d.shard e.shard (ap (λ (x : DeskState). x.shard) h.2) k
+      over_kept false m at h k = tells_kept past children started stopping p Reason.Kill (Killed m) s d next t e h k
+
+      pub ends_kept : (stage : Option Stage) → EndsChild me now p shutdown stage s d next t e → Kept past children started stopping me d.shard → Kept past children started stopping me e.shard
+      ends_kept None h k = watches_kept h k
+      ends_kept (Some far.Gone) h k = watches_kept h k
+      ends_kept (Some (Watched m)) h k = tells_kept past children started stopping p (bids shutdown) (stage_told shutdown m now) s d next t e h k
+      ends_kept (Some (Waiting m)) h k = tells_kept past children started stopping p (bids shutdown) (stage_told shutdown m now) s d next t e h k
+      ends_kept (Some (Until m at)) h k = over_kept (nat_lt now at) m at h k
+      ends_kept (Some (Killed m)) h k = tells_kept past children started stopping p Reason.Kill (Killed m) s d next t e h k
 
   advances_goes : (now : ℕ) (last : Option (Pid × Shutdown)) (old : SupervisorScene S B) (next : Next) (new : SupervisorScene S B) → AdvancesAs starts me now last old next new → Goes me old.desk.shard new.desk.shard
-  advances_goes now (Some (p, shutdown)) old next new h = ends_goes now p shutdown (deadline p old.standing.asked) old.standing old.desk next new.standing new.desk h.0
+  advances_goes now (Some (p, shutdown)) old next new h = ends_goes now p shutdown old.standing old.desk next new.standing new.desk (stage_of old.standing.asked p) h.0
   advances_goes now None old next new h = settles_goes old.standing.stopping old next new h
 
   advances_kept : (past : Past) (now : ℕ) (last : Option (Pid × Shutdown)) (old : SupervisorScene S B) (next : Next) (new : SupervisorScene S B) → AdvancesAs starts me now last old next new → KeptAt past me old → KeptAt past me new
-  advances_kept past now (Some (p, shutdown)) old next new h k = ends_kept past now p shutdown (deadline p old.standing.asked) old.standing old.desk next new.standing new.desk h.0 k
+  advances_kept past now (Some (p, shutdown)) old next new h k =
+      subst (λ (x : Standing). Kept past x.children x.started x.stopping me new.desk.shard) (sym (ends_rest now p shutdown old.standing old.desk next new.standing new.desk (stage_of old.standing.asked p) h.0))
+      (ends_kept now p shutdown old.standing old.desk next new.standing new.desk past old.standing.children old.standing.started old.standing.stopping (stage_of old.standing.asked p) h.0 k)
   advances_kept past now None old next new h k = settles_kept past old.standing.stopping old next new refl h k
+
+  settles_asks : (past : Past) (stopping : Option Reason) (old : SupervisorScene S B) (next : Next) (new : SupervisorScene S B) → SupervisorSettles starts me stopping old next new
+      → AreAsked past old.standing.children old.standing.asked me old.desk.shard → AreAsked past new.standing.children new.standing.asked me new.desk.shard
+  settles_asks past (Some r) old next new h asks = subst (λ (x : SupervisorScene S B). AreAsked past x.standing.children x.standing.asked me x.desk.shard) (sym h.1) asks
+  settles_asks past None old next new h asks = λ a is placed. absurd (let bad : None ≡ Some a = sym (ap (λ (s : Standing). s.asked) h.3) ∙ is in cc)
+
+  advances_asks : (past : Past) (now : ℕ) (last : Option (Pid × Shutdown)) (old : SupervisorScene S B) (next : Next) (new : SupervisorScene S B) → AdvancesAs starts me now last old next new → KeptAt past me old
+      → AreAsked past old.standing.children old.standing.asked me old.desk.shard → AreAsked past new.standing.children new.standing.asked me new.desk.shard
+  advances_asks past now (Some (p, shutdown)) old next new h k asks =
+      subst (λ (xs : List Child). AreAsked past xs new.standing.asked me new.desk.shard) (sym (ap (λ (s : Standing). s.children) (ends_rest now p shutdown old.standing old.desk next new.standing new.desk (stage_of old.standing.asked p) h.0)))
+      (ends_asks past me p now shutdown old.standing old.desk next new.standing new.desk k.state k.living_is asks (stage_of old.standing.asked p) refl h.0)
+  advances_asks past now None old next new h k asks = settles_asks past old.standing.stopping old next new h asks
 
 -- what it makes of an item -----------------------------------------------------------------------------
 
@@ -219,39 +294,65 @@ waits_traps : (traps : Bool) (before : Next) (pick : Pick) (children : List Chil
 waits_traps traps before pick children (inl h) waits = h
 waits_traps traps before pick children (inr h) waits = absurd (let bad : None ≡ Some pick = sym (ap pick_of h.0) ∙ waits in cc)
 
-taken_kept : (past : Past) (me : Pid) (item : Item) (s m : Standing) (before : Next) (was d : ShardState) → Less item s m → ItemIsTaken me before (Some item) was d → Holds past s before me was → Kept past m.children m.started m.stopping me d
-taken_kept past me item s m before was d less taken h = record {
-  remembers = remembers_less past item s m me was d later (ap (λ (f : ShardState). children_by me f.journal) taken.4)
-      (λ q is were. waits_told me q past was.start were (events was.journal) (found_any (is_exit_of q) (fits taken.0) (state_in was me).waiting item taken.3 is)) less h.remembers;
-  state = t;
-  living_is = now;
-  traps = subst (λ (f : Phase). (state_of f).traps ≡ true) st.1 (waits_traps (state_in was me).traps before taken.0 s.children h.traps taken.1);
-  family = record {
-    born = λ place q is. born_then was d later q (h.family.born place q (less.sub place q is));
-    apart = λ i j q a b. h.family.apart i j q (less.sub i q a) (less.sub j q b);
-    held = λ none place q is. go q (less.out none place q is) (h.family.held (less.stop none) place q (less.sub place q is));
-  };
+-- an item was taken out of its mailbox
+record Took (me : Pid) (item : Item) (was d : ShardState) : Type 0 where
+  pick : Pick
+  state : ProcessState
+  was_is : phase_of was me ≡ living state
+  now_is : phase_of d me ≡ living (record state { waiting = without_first (fits pick) state.waiting })
+  later : IsLater was d
+  found : find (fits pick) state.waiting ≡ Some item
+  bare : children_by me d.journal ≡ children_by me was.journal
+
+took : (me : Pid) (item : Item) (before : Next) (was d : ShardState) → ItemIsTaken me before (Some item) was d → Took me item was d
+took me item before was d taken = record {
+  pick = taken.0;
+  state = st.0;
+  was_is = st.1;
+  now_is = phase_is (shard_after (TookIt me taken.0 item) was) d taken.4 me ∙ own_phase me (TookIt me taken.0 item) was st.0 (same_pid_refl me) st.1;
+  later = subst (λ (f : ShardState). IsLater was f) (sym taken.4) (later_after (TookIt me taken.0 item) was);
+  found = subst (λ (f : Phase). find (fits taken.0) (state_of f).waiting ≡ Some item) st.1 taken.3;
+  bare = ap (λ (f : ShardState). children_by me f.journal) taken.4;
 }
   where
     st : (s : ProcessState) × (phase_of was me ≡ living s)
     st = living_of (phase_of was me) taken.2
 
-    t : ProcessState
-    t = record (st.0) { waiting = without_first (fits taken.0) st.0.waiting }
+taken_kept : (past : Past) (me : Pid) (item : Item) (s m : Standing) (before : Next) (was d : ShardState) → Less item s m → ItemIsTaken me before (Some item) was d → Holds past s before me was → Kept past m.children m.started m.stopping me d
+taken_kept past me item s m before was d less taken h = record {
+  remembers = remembers_less past item s m me was d k.later k.bare
+      (λ q placed is were. waits_told me q past was.start were (events was.journal) (found_any (is_end_of q) (fits taken.0) (state_in was me).waiting item taken.3 is)) less h.remembers;
+  state = record (k.state) { waiting = without_first (fits k.pick) k.state.waiting };
+  living_is = k.now_is;
+  traps = subst (λ (f : Phase). (state_of f).traps ≡ true) k.was_is (waits_traps (state_in was me).traps before taken.0 s.children h.traps taken.1);
+  family = record {
+    born = λ place q is. born_then was d k.later q (h.family.born place q (less.sub place q is));
+    apart = λ i j q a b. h.family.apart i j q (less.sub i q a) (less.sub j q b);
+    held = λ none place q is. go q (less.out none place q is) (h.family.held (less.stop none) place q (less.sub place q is));
+  };
+}
+  where
+    k : Took me item was d
+    k = took me item before was d taken
 
-    now : phase_of d me ≡ living t
-    now = phase_is (shard_after (Took me taken.0 item) was) d taken.4 me ∙ own_phase me (Took me taken.0 item) was st.0 (same_pid_refl me) st.1
+    go : (q : Pid) → is_end_of q item ≡ false → IsHeld past me q was → IsHeld past me q d
+    go q out (inl tied) = inl (subst (λ (f : Phase). IsTied (state_of f) q) (sym k.now_is)
+        (tied_by k.state (record (k.state) { waiting = without_first (fits k.pick) k.state.waiting }) q (λ h. h) (stays_in (is_end_of q) (fits k.pick) k.state.waiting item k.found out) (subst (λ (f : Phase). IsTied (state_of f) q) k.was_is tied)))
+    go q out (inr cut) = inr (cut_later past me q was d k.later cut)
 
-    later : IsLater was d
-    later = subst (λ (f : ShardState). IsLater was f) (sym taken.4) (later_after (Took me taken.0 item) was)
+-- whom it still ends it ended before, and the item is not the DOWN of that one
+abbrev StillAsked : Item → Standing → Standing → Type 0
+StillAsked item s m =
+    (a : Asked) → m.asked ≡ Some a → (s.asked ≡ Some a) × ((n : Ref) → monitor_of a.stage ≡ Some n → is_down_item n item ≡ false)
 
-    found : find (fits taken.0) st.0.waiting ≡ Some item
-    found = subst (λ (f : Phase). find (fits taken.0) (state_of f).waiting ≡ Some item) st.1 taken.3
-
-    go : (q : Pid) → is_exit_of q item ≡ false → IsHeld past me q was → IsHeld past me q d
-    go q out (inl tied) = inl (subst (λ (f : Phase). IsTied (state_of f) q) (sym now)
-        (tied_by st.0 t q (λ k. k) (stays_in (is_exit_of q) (fits taken.0) st.0.waiting item found out) (subst (λ (f : Phase). IsTied (state_of f) q) st.1 tied)))
-    go q out (inr cut) = inr (cut_later past me q was d later cut)
+taken_asks : (past : Past) (me : Pid) (item : Item) (s m : Standing) (before : Next) (was d : ShardState) → Less item s m → StillAsked item s m → ItemIsTaken me before (Some item) was d → Holds past s before me was → AreAsked past m.children m.asked me d
+taken_asks past me item s m before was d less still taken h a is placed =
+    let k = took me item before was d taken in
+    asked_step past a me was d k.later
+    (λ n by w. subst (λ (f : Phase). IsWatched (state_of f) n a.pid) (sym k.now_is)
+    (watched_by k.state (record (k.state) { waiting = without_first (fits k.pick) k.state.waiting }) n a.pid (λ o. o) (stays_in (is_down_item n) (fits k.pick) k.state.waiting item k.found ((still a is).1 n by))
+    (subst (λ (f : Phase). IsWatched (state_of f) n a.pid) k.was_is w)))
+    (h.asks a (still a is).0 (placed.0, less.sub placed.0 a.pid placed.1))
 
 flag_goes : (me : Pid) (on : Bool) (d e : ShardState) (result : Result Bool Fault) → Calls me (Some (Flag me true)) on d result e → Goes me d e
 flag_goes me on d e (Ok x) c = goes_event me d e (Flag me true) (λ q other. same_pid_sym me q other) (λ q. refl) c.3
@@ -263,8 +364,11 @@ flag_goes me on d e (Err Myself) c = absurd c
 flag_goes me on d e (Err NoProc) c = absurd c
 
 -- what is so once it has heard: its children are held; or, where its trap was refused, all is as it was
+abbrev KeptWith : Past → Standing → Pid → ShardState → Type 0
+KeptWith past m me e = Kept past m.children m.started m.stopping me e × AreAsked past m.children m.asked me e
+
 abbrev Attended : Past → Bool → Standing → Pid → ShardState → Type 0
-Attended past answer m me e = MatchBool answer (Kept past m.children m.started m.stopping me e) (Holds past m Proceed me e)
+Attended past answer m me e = MatchBool answer (KeptWith past m me e) (Holds past m Proceed me e)
 
 -- where it goes on without an item, it does so again
 goes_again : (traps : Bool) (before : Next) (children : List Child) → (traps ≡ true) ⊎ ((before ≡ Proceed) × NoneLives children) → (traps ≡ true) ⊎ ((Proceed ≡ Proceed) × NoneLives children)
@@ -278,50 +382,129 @@ refused_holds past s m me before was d e same is as_is h =
       remembers = h.remembers;
       traps = goes_again (state_in was me).traps before s.children h.traps;
       family = h.family;
+      asks = h.asks;
     }))
 
-flag_attends : (past : Past) (me : Pid) (s m : Standing) (before : Next) (was d e : ShardState) (on answer : Bool) (result : Result Bool Fault) → Calls me (Some (Flag me true)) on d result e → answer ≡ is_ok result → m ≡ s
+refused_attends : (past : Past) (s m : Standing) (me : Pid) (now : ℕ) (before : Next) (was d e : ShardState) (answer : Bool) → answer ≡ false → m ≡ cond answer (gone_heard now s) s → d ≡ was → e ≡ d → Holds past s before me was → Attended past answer m me e
+refused_attends past s m me now before was d e answer off same is as_is h =
+    subst (λ (a : Bool). Attended past a m me e) (sym off) (refused_holds past s m me before was d e (same ∙ ap (λ (b : Bool). cond b (gone_heard now s) s) off) is as_is h)
+
+-- it hears of the end of the one that it found to have ended
+kept_less : (past : Past) (me : Pid) (item : Item) (s m : Standing) (e : ShardState) → Less item s m → ((q : Pid) → IsPlaced s.children q → is_end_of q item ≡ true → has_told me q (all_events past e) ≡ true)
+    → Kept past s.children s.started s.stopping me e → Kept past m.children m.started m.stopping me e
+kept_less past me item s m e less tells k = record {
+  state = k.state;
+  living_is = k.living_is;
+  traps = k.traps;
+  family = record {
+    born = λ place q is. k.family.born place q (less.sub place q is);
+    apart = λ i j q a b. k.family.apart i j q (less.sub i q a) (less.sub j q b);
+    held = λ none place q is. k.family.held (less.stop none) place q (less.sub place q is);
+  };
+  remembers = remembers_less past item s m me e e (later_is e e refl) refl (λ q placed is were. tells q placed is) less k.remembers;
+}
+
+gone_is : (o : Option Asked) (p : Pid) → gone_in o ≡ Some p → (a : Asked) × (o ≡ Some a) × (gone_at a.stage a.pid ≡ Some a.pid) × (a.pid ≡ p)
+gone_is None p is = absurd (cc)
+gone_is (Some a) p is = let k = at_gone a.stage a.pid p is in (a, refl, is ∙ ap (λ (q : Pid). Some q) (sym k), k)
+  where
+    at_gone : (stage : Stage) (q p : Pid) → gone_at stage q ≡ Some p → q ≡ p
+    at_gone far.Gone q p is = cc
+    at_gone (Watched m) q p is = absurd (cc)
+    at_gone (Waiting m) q p is = absurd (cc)
+    at_gone (Until m at) q p is = absurd (cc)
+    at_gone (Killed m) q p is = absurd (cc)
+
+-- the same of a supervisor that ends nobody
+less_as : (item : Item) (s m : Standing) → Less item (record s { asked = None }) m → Less item s m
+less_as item s m h = record { sub = h.sub; stop = h.stop; out = h.out; kept = h.kept; count = h.count }
+
+found_with : (past : Past) (me : Pid) (now : ℕ) (s : Standing) (e : ShardState) (o : Option Pid) → gone_in s.asked ≡ o → KeptWith past s me e → KeptWith past (heard_gone o now s) me e
+found_with past me now s e None is k = k
+found_with past me now s e (Some p) is k = (
+  kept_less past me (Exit p Reason.Noproc) s (heard now p Reason.Noproc (record s { asked = None })) e
+      (less_as (Exit p Reason.Noproc) s (heard now p Reason.Noproc (record s { asked = None })) (less_heard now p Reason.Noproc (record s { asked = None }) k.0.family.apart)) tells k.0,
+  λ a some placed. absurd (let bad : None ≡ Some a = sym (heard_asked now p Reason.Noproc (record s { asked = None })) ∙ some in cc),
+)
+  where
+    tells : (q : Pid) → IsPlaced s.children q → same_pid q p ≡ true → has_told me q (all_events past e) ≡ true
+    tells q placed same =
+        let a = gone_is s.asked p is in
+        let q_is : q ≡ a.0.pid = same_pid_is q p same ∙ sym a.3 in
+        subst (λ (x : Pid). has_told me x (all_events past e) ≡ true) (sym q_is) ((k.1 a.0 a.1 (subst (λ (x : Pid). IsPlaced s.children x) q_is placed)).gone a.2)
+
+flag_attends : (past : Past) (me : Pid) (now : ℕ) (s m : Standing) (before : Next) (was d e : ShardState) (on answer : Bool) (result : Result Bool Fault) → Calls me (Some (Flag me true)) on d result e → answer ≡ is_ok result → m ≡ cond answer (gone_heard now s) s
     → ItemIsTaken me before None was d → Holds past s before me was → Attended past answer m me e
-flag_attends past me s m before was d e on answer (Ok x) c ok same taken h =
-    subst (λ (a : Bool). Attended past a m me e) (sym ok) (record {
-      state = record (st.0) { traps = true };
-      living_is = phase_is (shard_after (Flag me true) d) e c.3 me ∙ own_phase me (Flag me true) d st.0 (same_pid_refl me) st.1;
-      traps = refl;
-      family = family_step past m.children m.stopping me d e (flag_goes me on d e (Ok x) c).later (λ q tied.
-          inl (subst (λ (f : Phase). IsTied (state_of f) q) (sym (phase_is (shard_after (Flag me true) d) e c.3 me ∙ own_phase me (Flag me true) d st.0 (same_pid_refl me) st.1))
-          (tied_by st.0 (record (st.0) { traps = true }) q (λ k. k) (λ k. k) (subst (λ (f : Phase). IsTied (state_of f) q) st.1 tied))))
-          (subst (λ (x : Standing). Family past x.children x.stopping me d) (sym same) (subst (Family past s.children s.stopping me) (sym taken.2) h.family));
-      remembers = remembers_step past m.children m.started me d e (flag_goes me on d e (Ok x) c).later (ap (λ (f : ShardState). children_by me f.journal) c.3)
-          (subst (λ (x : Standing). Remembers past x.children x.started me d) (sym same) (subst (Remembers past s.children s.started me) (sym taken.2) h.remembers));
-    })
+flag_attends past me now s m before was d e on answer (Ok x) c ok same taken h =
+    subst (λ (a : Bool). Attended past a m me e) (sym ok)
+    (subst (λ (x : Standing). KeptWith past x me e) (sym (same ∙ ap (λ (b : Bool). cond b (gone_heard now s) s) ok)) (found_with past me now s e (gone_in s.asked) refl (kept, asks)))
   where
     st : (s : ProcessState) × (phase_of d me ≡ living s)
     st = living_of (phase_of d me) c.0
-flag_attends past me s m before was d e on answer (Err Gone) c ok same taken h = subst (λ (a : Bool). Attended past a m me e) (sym ok) (refused_holds past s m me before was d e same taken.2 c.1 h)
-flag_attends past me s m before was d e on answer (Err Worn) c ok same taken h = subst (λ (a : Bool). Attended past a m me e) (sym ok) (refused_holds past s m me before was d e same taken.2 c.3 h)
-flag_attends past me s m before was d e on answer (Err Memory) c ok same taken h = subst (λ (a : Bool). Attended past a m me e) (sym ok) (refused_holds past s m me before was d e same taken.2 c.3 h)
-flag_attends past me s m before was d e on answer (Err Full) c ok same taken h = absurd c
-flag_attends past me s m before was d e on answer (Err Myself) c ok same taken h = absurd c
-flag_attends past me s m before was d e on answer (Err NoProc) c ok same taken h = absurd c
 
-less_same : (item : Item) (s : Standing) → ((q : Pid) → is_exit_of q item ≡ false) → Less item s s
+    now_is : phase_of e me ≡ living (record (st.0) { traps = true })
+    now_is = phase_is (shard_after (Flag me true) d) e c.3 me ∙ own_phase me (Flag me true) d st.0 (same_pid_refl me) st.1
+
+    later : IsLater d e
+    later = (flag_goes me on d e (Ok x) c).later
+
+    kept : Kept past s.children s.started s.stopping me e
+    kept = record {
+      state = record (st.0) { traps = true };
+      living_is = now_is;
+      traps = refl;
+      family = family_step past s.children s.stopping me d e later (λ q tied.
+          inl (subst (λ (f : Phase). IsTied (state_of f) q) (sym now_is)
+          (tied_by st.0 (record (st.0) { traps = true }) q (λ k. k) (λ k. k) (subst (λ (f : Phase). IsTied (state_of f) q) st.1 tied))))
+          (subst (Family past s.children s.stopping me) (sym taken.2) h.family);
+      remembers = remembers_step past s.children s.started me d e later (ap (λ (f : ShardState). children_by me f.journal) c.3)
+          (subst (Remembers past s.children s.started me) (sym taken.2) h.remembers);
+    }
+
+    asks : AreAsked past s.children s.asked me e
+    asks = asks_step past s.children s.asked me d e later (λ n q w.
+        subst (λ (f : Phase). IsWatched (state_of f) n q) (sym now_is) (watched_by st.0 (record (st.0) { traps = true }) n q (λ k. k) (λ k. k) (subst (λ (f : Phase). IsWatched (state_of f) n q) st.1 w)))
+        (subst (AreAsked past s.children s.asked me) (sym taken.2) h.asks)
+flag_attends past me now s m before was d e on answer (Err Gone) c ok same taken h = refused_attends past s m me now before was d e answer ok same taken.2 c.1 h
+flag_attends past me now s m before was d e on answer (Err Worn) c ok same taken h = refused_attends past s m me now before was d e answer ok same taken.2 c.3 h
+flag_attends past me now s m before was d e on answer (Err Memory) c ok same taken h = refused_attends past s m me now before was d e answer ok same taken.2 c.3 h
+flag_attends past me now s m before was d e on answer (Err Full) c ok same taken h = absurd c
+flag_attends past me now s m before was d e on answer (Err Myself) c ok same taken h = absurd c
+flag_attends past me now s m before was d e on answer (Err NoProc) c ok same taken h = absurd c
+
+less_same : (item : Item) (s : Standing) → ((q : Pid) → is_end_of q item ≡ false) → Less item s s
 less_same item s none = record { sub = λ j q is. is; stop = λ h. h; out = λ h j q is. none q; kept = λ j q is. inl is; count = refl }
 
-heard_attends : (past : Past) (me : Pid) (item : Item) (s m n : Standing) (before : Next) (was : ShardState) (d e : DeskState) (answer : Bool) → answer ≡ true → m ≡ n → e ≡ d → Less item s n
+heard_attends : (past : Past) (me : Pid) (item : Item) (s m n : Standing) (before : Next) (was : ShardState) (d e : DeskState) (answer : Bool) → answer ≡ true → m ≡ n → e ≡ d → Less item s n → StillAsked item s n
     → ItemIsTaken me before (Some item) was d.shard → Holds past s before me was → Attended past answer m me e.shard
-heard_attends past me item s m n before was d e answer on is same less taken h =
+heard_attends past me item s m n before was d e answer on is same less still taken h =
     subst (λ (a : Bool). Attended past a m me e.shard) (sym on)
-    (subst (λ (x : Standing). Kept past x.children x.started x.stopping me e.shard) (sym is)
-    (kept_is past n.children n.started n.stopping me d.shard e.shard (ap (λ (x : DeskState). x.shard) same) (taken_kept past me item s n before was d.shard less taken h)))
+    (subst (λ (x : Standing). KeptWith past x me e.shard) (sym is) (
+      kept_is past n.children n.started n.stopping me d.shard e.shard (ap (λ (x : DeskState). x.shard) same) (taken_kept past me item s n before was d.shard less taken h),
+      asks_is past n.children n.asked me d.shard e.shard (ap (λ (x : DeskState). x.shard) same) (taken_asks past me item s n before was d.shard less still taken h),
+    ))
+
+-- by a DOWN
+less_down : (m : Ref) (from : Pid) (r : Reason) (s n : Standing) → Less (Exit from r) (monitor_closed m s) n → Less (Down m from r) s n
+less_down m from r s n h = record { sub = h.sub; stop = h.stop; out = h.out; kept = h.kept; count = h.count }
+
+still_down : (m : Ref) (from : Pid) (r : Reason) (now : ℕ) (s : Standing) → StillAsked (Down m from r) s (heard now from r (monitor_closed m s))
+still_down m from r now s a is =
+    let k = unless_is m s.asked a (sym (heard_asked now from r (monitor_closed m s)) ∙ is) in
+    (k.0, λ n by. ap (λ (o : Option Ref). is_ref o m) (sym by) ∙ k.1)
 
 attends_to : (past : Past) (me : Pid) (time : ℕ) (item : Option Item) (s m : Standing) (before : Next) (was : ShardState) (d e : DeskState) (answer : Bool) → SupervisorAttends me time item s d answer m e
     → ItemIsTaken me before item was d.shard → Holds past s before me was → Attended past answer m me e.shard
 attends_to past me time (Some (Exit from r)) s m before was d e answer a taken h =
-    heard_attends past me (Exit from r) s m (heard (moment s.timed d.shard.clock time) from r s) before was d e answer a.0 a.1 a.2 (less_heard (moment s.timed d.shard.clock time) from r s h.family.apart) taken h
-attends_to past me time (Some (User from b)) s m before was d e answer a taken h = heard_attends past me (User from b) s m s before was d e answer a.0 a.1 a.2 (less_same (User from b) s (λ q. refl)) taken h
-attends_to past me time (Some (Down x from r)) s m before was d e answer a taken h = heard_attends past me (Down x from r) s m s before was d e answer a.0 a.1 a.2 (less_same (Down x from r) s (λ q. refl)) taken h
-attends_to past me time (Some (Alive x from y)) s m before was d e answer a taken h = heard_attends past me (Alive x from y) s m s before was d e answer a.0 a.1 a.2 (less_same (Alive x from y) s (λ q. refl)) taken h
-attends_to past me time None s m before was d e answer a taken h = flag_attends past me s m before was d.shard e.shard (state_in d.shard me).traps answer a.0 a.1 a.2 a.3 taken h
+    heard_attends past me (Exit from r) s m (heard (moment s.timed d.shard.clock time) from r s) before was d e answer a.0 a.1 a.2 (less_heard (moment s.timed d.shard.clock time) from r s h.family.apart)
+    (λ x is. (sym (heard_asked (moment s.timed d.shard.clock time) from r s) ∙ is, λ n by. refl)) taken h
+attends_to past me time (Some (User from b)) s m before was d e answer a taken h = heard_attends past me (User from b) s m s before was d e answer a.0 a.1 a.2 (less_same (User from b) s (λ q. refl)) (λ x is. (is, λ n by. refl)) taken h
+attends_to past me time (Some (Down x from r)) s m before was d e answer a taken h =
+    heard_attends past me (Down x from r) s m (heard (moment s.timed d.shard.clock time) from r (monitor_closed x s)) before was d e answer a.0 a.1 a.2
+    (less_down x from r s (heard (moment s.timed d.shard.clock time) from r (monitor_closed x s)) (less_heard (moment s.timed d.shard.clock time) from r (monitor_closed x s) h.family.apart))
+    (still_down x from r (moment s.timed d.shard.clock time) s) taken h
+attends_to past me time (Some (Alive x from y)) s m before was d e answer a taken h = heard_attends past me (Alive x from y) s m s before was d e answer a.0 a.1 a.2 (less_same (Alive x from y) s (λ q. refl)) (λ z is. (is, λ n by. refl)) taken h
+attends_to past me time None s m before was d e answer a taken h = flag_attends past me (moment s.timed e.shard.clock time) s m before was d.shard e.shard (state_in d.shard me).traps answer a.0 a.1 a.2 a.3 taken h
 
 attends_goes : (me : Pid) (time : ℕ) (item : Option Item) (s m : Standing) (d e : DeskState) (answer : Bool) → SupervisorAttends me time item s d answer m e → Goes me d.shard e.shard
 attends_goes me time (Some (Exit from r)) s m d e answer a = goes_is me d.shard e.shard (ap (λ (x : DeskState). x.shard) a.2)
@@ -337,13 +520,16 @@ module _ {S B : Type 0} (starts : StartsOf S B) (me : Pid) where
   then_goes now true mid next new h = advances_goes starts me now (last_alive mid.standing.children mid.standing.ending (length mid.standing.children)) mid next new h
   then_goes now false mid next new h = goes_is me mid.desk.shard new.desk.shard (ap (λ (x : SupervisorScene S B). x.desk.shard) h.1)
 
-  kept_holds : (past : Past) (s : Standing) (next : Next) (e : ShardState) → Supervises next s → Kept past s.children s.started s.stopping me e → Holds past s next me e
-  kept_holds past s next e waits k = record { waits = waits; remembers = k.remembers; traps = inl (subst (λ (f : Phase). (state_of f).traps ≡ true) (sym k.living_is) k.traps); family = k.family }
+  kept_holds : (past : Past) (s : Standing) (next : Next) (e : ShardState) → Supervises next s → KeptWith past s me e → Holds past s next me e
+  kept_holds past s next e waits k = record { waits = waits; remembers = k.0.remembers; traps = inl (subst (λ (f : Phase). (state_of f).traps ≡ true) (sym k.0.living_is) k.0.traps); family = k.0.family; asks = k.1 }
 
   then_holds : (past : Past) (now : ℕ) (answer : Bool) (mid : SupervisorScene S B) (next : Next) (new : SupervisorScene S B) → after_attending starts me now answer mid next new → Supervises next new.standing → Attended past answer mid.standing me mid.desk.shard
       → Holds past new.standing next me new.desk.shard
   then_holds past now true mid next new h waits k =
-      kept_holds past new.standing next new.desk.shard waits (advances_kept starts me past now (last_alive mid.standing.children mid.standing.ending (length mid.standing.children)) mid next new h k)
+      kept_holds past new.standing next new.desk.shard waits (
+        advances_kept starts me past now (last_alive mid.standing.children mid.standing.ending (length mid.standing.children)) mid next new h k.0,
+        advances_asks starts me past now (last_alive mid.standing.children mid.standing.ending (length mid.standing.children)) mid next new h k.0 k.1,
+      )
   then_holds past now false mid next new h waits k =
       subst (λ (x : SupervisorScene S B). Holds past x.standing next me x.desk.shard) (sym h.1) (subst (λ (n : Next). Holds past mid.standing n me mid.desk.shard) (sym h.0) k)
 
@@ -408,8 +594,12 @@ module _ (past : Past) (s : Standing) (next : Next) (me : Pid) (d : ShardState) 
   traps_still (inl h) = inl (same_traps ∙ h)
   traps_still (inr h) = inr h
 
+  came_asks : AreAsked past s.children s.asked me (handled l d)
+  came_asks = asks_step past s.children s.asked me d (handled l d) (later_handled l d) (λ m q w.
+      subst (λ (f : Phase). IsWatched (state_of f) m q) (sym now) (handled_watched m q me st.0 l.from l.signal (subst (λ (f : Phase). IsWatched (state_of f) m q) st.1 w))) holds.asks
+
   came_holds : Holds past s next me (handled l d)
-  came_holds = record { waits = holds.waits; remembers = came_remembers past s me d l holds.remembers; traps = traps_still holds.traps; family = came_family holds.traps }
+  came_holds = record { waits = holds.waits; remembers = came_remembers past s me d l holds.remembers; traps = traps_still holds.traps; family = came_family holds.traps; asks = came_asks }
 
 -- the relation is upheld ------------------------------------------------------------------------------------------
 
@@ -431,6 +621,7 @@ same_holds past (Some s) next me d e h later same = (λ alive. holds (h.0 (sym (
       remembers = remembers;
       traps = subst (λ (f : Phase). ((state_of f).traps ≡ true) ⊎ ((next ≡ Proceed) × NoneLives s.children)) (sym same.0) k.traps;
       family = family_step past s.children s.stopping me d e later (λ q tied. inl (subst (λ (f : Phase). IsTied (state_of f) q) (sym same.0) tied)) k.family;
+      asks = asks_step past s.children s.asked me d e later (λ m q w. subst (λ (f : Phase). IsWatched (state_of f) m q) (sym same.0) w) k.asks;
     }
 
 received : (past : Past) (o : Option Standing) (next : Next) (me : Pid) (d : ShardState) (l : Letter) → HoldsAs past o next me d → HoldsAs past o next me (handled l d)
@@ -466,6 +657,7 @@ begins past (Some s) next me d h = (
       apart = λ i j q a b. absurd (none_at s.children i q h.1 a);
       held = λ z place q is. absurd (none_at s.children place q h.1 is);
     };
+    asks = λ a is placed. absurd (none_at s.children placed.0 a.pid h.1 placed.1);
   },
   waits,
   remembers,
@@ -489,7 +681,7 @@ taken_lives me before (Some item) was d h = h.2
 taken_born : (me : Pid) (before : Next) (item : Option Item) (was d : ShardState) → ItemIsTaken me before item was d → is_unborn (phase_of was me) ≡ false → is_unborn (phase_of d me) ≡ false
 taken_born me before None was d h born = subst (λ (f : ShardState). is_unborn (phase_of f me) ≡ false) (sym h.2) born
 taken_born me before (Some item) was d h born = subst (λ (f : ShardState). is_unborn (phase_of f me) ≡ false) (sym h.4)
-    (born_then was (shard_after (Took me h.0 item) was) (later_after (Took me h.0 item) was) me born)
+    (born_then was (shard_after (TookIt me h.0 item) was) (later_after (TookIt me h.0 item) was) me born)
 
 module _ {B : Type 0} (past : Past) (part : PartOf B) where
   all_begin : (births : List (Role B)) → AllBegin part births → AllFirst (Keeps past part) births
@@ -514,9 +706,9 @@ module _ {B : Type 0} (past : Past) (part : PartOf B) where
 
   pub upheld : (answers : Answers B) → SuperviseAs answers part → IsUpheld answers (Keeps past part)
   upheld answers law = record {
-    acts = λ b d p item next now e births a. acts_as (part b) p item d next (part now) e (law b d p item next now e births a).0;
-    hands = λ b before p item was d next now e births h born taken a later. hands_as (part b) before p item was d next (part now) e h born taken later (law b d p item next now e births a).0;
-    bears = λ b d p item next now e births a. all_begin births (law b d p item next now e births a).1;
+    acts = λ time b d p item next now e births a. acts_as (part b) p item d next (part now) e (law time b d p item next now e births a).0;
+    hands = λ time b before p item was d next now e births h born taken a later. hands_as (part b) before p item was d next (part now) e h born taken later (law time b d p item next now e births a).0;
+    bears = λ time b d p item next now e births a. all_begin births (law time b d p item next now e births a).1;
     others = λ b next p d e h born later same. same_holds past (part b) next p d e h later same;
     ends = λ b r p d h born. ended_holds past (part b) r p d h;
     receives = λ b next p d l h born. received past (part b) next p d l h;

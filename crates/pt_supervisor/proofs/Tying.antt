@@ -16,7 +16,7 @@ use Rattle.pt_signal.specs.Process.{ProcessState, Verdict, drops, queues, ends, 
 use Rattle.pt_signal.proofs.Same.{same_pid_is}
 use Rattle.pt_laws.proofs.linking.Entries.{held-enter, held-enter-other, held-cut-other, held-removed-other}
 use Rattle.pt_crew.proofs.Waking.{by_cases}
-use Rattle.pt_supervisor.specs.Keeping.{IsTied, is_exit_of}
+use Rattle.pt_supervisor.specs.Keeping.{IsTied, is_end_of}
 
 pub or_left : (a b : Bool) → a ≡ true → (a || b) ≡ true
 or_left true b h = refl
@@ -42,17 +42,17 @@ stays_in {X} test fits (y ∷ xs) x found out any = by_cases (fits y)
     (by_cases (test y) (λ t. or_left (test y) (list_any test (without_first fits xs)) t)
     (λ f. or_right (test y) (list_any test (without_first fits xs)) (stays_in test fits xs x later out (sym (ap (λ (b : Bool). b || list_any test xs) f) ∙ any)))))
 
-more_waits : (test : Item → Bool) (items more : List Item) → list_any test items ≡ true → list_any test (items ++ more) ≡ true
+pub more_waits : (test : Item → Bool) (items more : List Item) → list_any test items ≡ true → list_any test (items ++ more) ≡ true
 more_waits test items more h = list_any-append test items more ∙ or_left (list_any test items) (list_any test more) h
 
 -- by fields
-pub tied_by : (s t : ProcessState) (q : Pid) → (is_some (held s.links q) ≡ true → is_some (held t.links q) ≡ true) → (list_any (is_exit_of q) s.waiting ≡ true → list_any (is_exit_of q) t.waiting ≡ true)
+pub tied_by : (s t : ProcessState) (q : Pid) → (is_some (held s.links q) ≡ true → is_some (held t.links q) ≡ true) → (list_any (is_end_of q) s.waiting ≡ true → list_any (is_end_of q) t.waiting ≡ true)
     → IsTied s q → IsTied t q
 tied_by s t q f g (inl h) = inl (f h)
 tied_by s t q f g (inr h) = inr (g h)
 
 queued_tied : (s : ProcessState) (item : Item) (q : Pid) → IsTied s q → IsTied (record s { waiting = s.waiting ++ item ∷ [] }) q
-queued_tied s item q = tied_by s (record s { waiting = s.waiting ++ item ∷ [] }) q (λ h. h) (more_waits (is_exit_of q) s.waiting (item ∷ []))
+queued_tied s item q = tied_by s (record s { waiting = s.waiting ++ item ∷ [] }) q (λ h. h) (more_waits (is_end_of q) s.waiting (item ∷ []))
 
 pub entered_tied : (s : ProcessState) (p q : Pid) (i : LinkId) → IsTied s q → IsTied (record s { links = enter p i s.links }) q
 entered_tied s p q i = tied_by s (record s { links = enter p i s.links }) q
@@ -77,9 +77,9 @@ link_exit_tied false me s from r q traps h = h
 link_exit_tied true me s from r q traps h =
     subst (λ (t : ProcessState). IsTied t q) (sym (trapped without s.traps (same_pid from me) from r traps))
     (by_cases (same_pid q from)
-    (λ same. inr (list_any-append (is_exit_of q) s.waiting (Item.Exit from r ∷ []) ∙ or_right (list_any (is_exit_of q) s.waiting) (same_pid q from || false) (or_left (same_pid q from) false same)))
+    (λ same. inr (list_any-append (is_end_of q) s.waiting (Item.Exit from r ∷ []) ∙ or_right (list_any (is_end_of q) s.waiting) (same_pid q from || false) (or_left (same_pid q from) false same)))
     (λ other. tied_by s (record without { waiting = s.waiting ++ Item.Exit from r ∷ [] }) q
-    (λ k. ap is_some (held-removed-other q from s.links other) ∙ k) (more_waits (is_exit_of q) s.waiting (Item.Exit from r ∷ [])) h))
+    (λ k. ap is_some (held-removed-other q from s.links other) ∙ k) (more_waits (is_end_of q) s.waiting (Item.Exit from r ∷ [])) h))
   where
     without : ProcessState
     without = record s { links = remove_entry (same_pid from) s.links }

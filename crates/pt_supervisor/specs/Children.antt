@@ -1,35 +1,17 @@
 -- The children of a supervisor, in their places.
-use Rattle.std.specs.Prelude.{◌≡◌, ℕ, zero, suc, ◌+◌, ◌-◌, ◌^◌, min, ◌<◌, ◌&&◌, not, nat_le, cond, Bool, true, false, is_some, List}
-use Rattle.std.specs.Prelude.{Option, Some, None, slice_get}
+use Rattle.std.specs.Prelude.{◌≡◌, ℕ, zero, suc, ◌<◌, ◌&&◌, ◌||◌, not, nat_le, cond, Bool, true, false, is_some, List}
+use Rattle.std.specs.Prelude.{Option, Some, None, slice_get, slice_set}
 use Rattle.std.specs.Option.{option_map}
 use Rattle.pt_signal.specs.declared.pid.Pid.{Pid}
-use Rattle.pt_signal.specs.declared.reason.Reason.{Reason}
 use Rattle.pt_signal.specs.Values.{same_pid}
 use Rattle.pt_supervisor.specs.declared.children.Child.{Child}
 use Rattle.pt_supervisor.specs.declared.restart.Restart.{Restart}
+use Rattle.pt_supervisor.specs.declared.restart.Restart.TheVariants.{Permanent, Transient, Temporary}
 use Rattle.pt_supervisor.specs.declared.children.Shutdown.{Shutdown}
-use Rattle.pt_supervisor.specs.declared.children.Shutdown.TheVariants.{Infinity, After, BrutalKill}
-
--- there is a process, and it is this one
-abbrev pub is_child : Option Pid → Pid → Bool
-is_child None p = false
-is_child (Some q) p = same_pid q p
 
 -- it is to live, and does not
 abbrev pub is_missing : Child → Bool
 is_missing c = c.wanted && not (is_some c.pid)
-
--- the reason of the exit signal by which a child is told to end
-abbrev pub bids : Shutdown → Reason
-bids Infinity = Reason.Shutdown
-bids (After time) = Reason.Shutdown
-bids BrutalKill = Reason.Kill
-
--- the time at which a child is killed that is told so now, and has not ended before
-abbrev pub until : ℕ → Shutdown → Option ℕ
-until now Infinity = None
-until now (After time) = Some (min (now + time) (2 ^ 64 - 1))
-until now BrutalKill = None
 
 -- the pid of a child that lives, and how it is ended
 abbrev pub leaving : Child → Option (Pid × Shutdown)
@@ -63,3 +45,23 @@ NoneLives children = (place : ℕ) (c : Child) → slice_get children place ≡ 
 abbrev pub PermanentAreWanted : List Child → Type 0
 PermanentAreWanted children =
     (place : ℕ) (c : Child) → slice_get children place ≡ Some c → c.restart ≡ Restart.Permanent → c.wanted ≡ true
+
+abbrev pub is_temporary : Restart → Bool
+is_temporary Permanent = false
+is_temporary Transient = false
+is_temporary Temporary = true
+
+-- a child is to live again, unless it is temporary
+abbrev pub revived_child : Child → Child
+revived_child c = record c { wanted = c.wanted || not (is_temporary c.restart) }
+
+abbrev pub revive_in : Option Child → ℕ → List Child → List Child
+revive_in None place children = children
+revive_in (Some c) place children = slice_set children place (revived_child c)
+
+-- so of the first n children each from a place on
+abbrev pub revived : List Child → ℕ → ℕ → List Child
+revived children first zero = children
+revived children first (suc n) =
+    let before = revived children first n in
+    cond (nat_le first n) (revive_in (slice_get before n) n before) before

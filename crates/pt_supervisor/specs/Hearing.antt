@@ -1,18 +1,21 @@
 -- What a supervisor knows, and what it makes of an end of which it hears.
-use Rattle.std.specs.Prelude.{ℕ, nat_le, cond, Bool, true, false, ◌&&◌, not, List, length, Option, Some, None, Result, Ok, Err}
+use Rattle.std.specs.Prelude.{ℕ, nat_le, cond, Bool, true, false, ◌&&◌, not, List, length, Option, Some, None}
 use Rattle.std.specs.Prelude.{position, slice_get, slice_set}
 use Rattle.pt_signal.specs.declared.pid.Pid.{Pid}
+use Rattle.pt_signal.specs.declared.ids.Ref.{Ref}
 use Rattle.pt_signal.specs.declared.reason.Reason.{Reason}
-use Rattle.pt_signal.specs.Values.{same_pid}
+use Rattle.pt_supervisor.specs.declared.asked.Asked.{Asked}
+use Rattle.pt_supervisor.specs.declared.asked.Stage.{Stage}
 use Rattle.pt_supervisor.specs.declared.children.Child.{Child}
 use Rattle.pt_supervisor.specs.declared.limit.Limit.{Limit}
 use Rattle.pt_supervisor.specs.declared.restart.Restart.{Restart}
-use Rattle.pt_supervisor.specs.declared.restart.Restart.TheVariants.{Permanent, Transient, Temporary}
 use Rattle.pt_supervisor.specs.declared.restart.Strategy.{Strategy}
 use Rattle.pt_supervisor.specs.declared.supervisor.Supervisor.{Supervisor}
 use Rattle.pt_supervisor.specs.Restarts.{starts_again, ends_from}
 use Rattle.pt_supervisor.specs.Limits.{recent, allows, counted_restarts}
-use Rattle.pt_supervisor.specs.Children.{is_child}
+use Rattle.pt_supervisor.specs.Children.{is_temporary, revived}
+use Rattle.pt_signal.specs.Values.{is_pid}
+use Rattle.pt_supervisor.specs.Ending.{gone_in, unless_by}
 
 pub record Standing : Type 0 where
   pub children : List Child
@@ -28,8 +31,8 @@ pub record Standing : Type 0 where
   pub ending : ℕ
   -- with what it is to end, once all its children have
   pub stopping : Option Reason
-  -- whom it has told to end within a time, and until when that is
-  pub asked : Option (Pid × ℕ)
+  -- the child that it ends, and what it has done to end it
+  pub asked : Option Asked
   -- how many children it has started
   pub started : ℕ
 
@@ -72,21 +75,13 @@ begun strategy children limit = record {
 abbrev pub stopped : Reason → Standing → Standing
 stopped reason s = record s { ending = 0; stopping = Some reason }
 
--- until when a process has to end, if it was told to end within a time
-abbrev pub deadline : Pid → Option (Pid × ℕ) → Option ℕ
-deadline p None = None
-deadline p (Some (q, at)) = cond (same_pid q p) (Some at) None
+-- it has come this far in ending a child
+abbrev pub at_stage : Pid → Stage → Standing → Standing
+at_stage p stage s = record s { asked = Some (record { pid = p; stage = stage }) }
 
--- a process that was told to end, within a time if there is one, and unless that was refused
-abbrev pub asked_until : {E : Type 0} → Pid → Result (Unit {0}) E → Option ℕ → Standing → Standing
-asked_until p (Err f) until s = s
-asked_until p (Ok done) None s = s
-asked_until p (Ok done) (Some at) s = record s { asked = Some (p, at) }
-
-abbrev pub is_temporary : Restart → Bool
-is_temporary Permanent = false
-is_temporary Transient = false
-is_temporary Temporary = true
+-- the monitor is closed: it monitors the child that it ends no more
+abbrev pub monitor_closed : Ref → Standing → Standing
+monitor_closed m s = record s { asked = unless_by m s.asked }
 
 -- whether a child is to live again: one that its supervisor ended unless it is temporary, and one that ended by itself
 -- where its rule says so
@@ -98,10 +93,11 @@ lives_again false restart reason = starts_again restart reason
 abbrev pub gone : Bool → Reason → Child → Child
 gone bidden reason c = record c { pid = None; wanted = lives_again bidden c.restart reason }
 
--- One more restart, for the child at a place, if it is allowed: those whom the strategy names are ended first. Else the
--- supervisor gives up.
+-- One more restart, for the child at a place, if it is allowed: those whom the strategy names are ended first, and each
+-- of them is to live again unless it is temporary. Else the supervisor gives up.
 abbrev pub restarted_child : Bool → ℕ → ℕ → Standing → Standing
 restarted_child true now place s = record s {
+  children = revived s.children (ends_from s.strategy place (length s.children)) (length s.children);
   times = counted_restarts true now (recent now s.span s.times);
   ending = ends_from s.strategy place (length s.children);
 }
@@ -127,5 +123,13 @@ heard_at (Some place) now reason s = lost now reason place (slice_get s.children
 -- It hears that a process has ended. With its parent it ends itself; a child is lost; of any other nothing comes.
 abbrev pub heard : ℕ → Pid → Reason → Standing → Standing
 heard now from reason s =
-    cond (is_child s.parent from) (stopped reason s)
-    (heard_at (position (λ c. is_child c.pid from) s.children) now reason s)
+    cond (is_pid s.parent from) (stopped reason s)
+    (heard_at (position (λ c. is_pid c.pid from) s.children) now reason s)
+
+-- it hears of the end of the child that it found to have ended
+abbrev pub heard_gone : Option Pid → ℕ → Standing → Standing
+heard_gone None now s = s
+heard_gone (Some p) now s = heard now p Reason.Noproc (record s { asked = None })
+
+abbrev pub gone_heard : ℕ → Standing → Standing
+gone_heard now s = heard_gone (gone_in s.asked) now s

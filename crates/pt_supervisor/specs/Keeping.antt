@@ -6,33 +6,40 @@ use Rattle.std.specs.Prelude.{◌≡◌, ⊤, ℕ, ◌&&◌, Bool, true, false, 
 use Rattle.std.specs.List.{flat_map, list_any}
 use Rattle.std.specs.Prelude.{◌⊎◌, ◌<◌, length, take, slice_get, slice_index_or}
 use Rattle.pt_signal.specs.declared.pid.Pid.{Pid}
+use Rattle.pt_signal.specs.declared.ids.Ref.{Ref}
 use Rattle.pt_signal.specs.declared.item.Item.{Item}
-use Rattle.pt_signal.specs.declared.item.Pick.{Pick}
 use Rattle.pt_signal.specs.declared.reason.Reason.{Reason}
 use Rattle.pt_signal.specs.declared.signal.Signal.{Signal}
 use Rattle.pt_signal.specs.declared.signal.Signal.TheVariants.{Unlink, LinkExit}
 use Rattle.pt_signal.specs.Values.{same_pid}
 use Rattle.pt_signal.specs.Process.{ProcessState, held}
 use Rattle.pt_events.specs.declared.event.Event.{Event}
-use Rattle.pt_events.specs.declared.event.Event.TheVariants.{Came}
+use Rattle.pt_events.specs.declared.event.Event.TheVariants.{Said, Came, Refused}
 use Rattle.pt_events.specs.declared.event.Stamped.{Stamped}
-use Rattle.pt_events.specs.History.{Past, Start, at_start, is_unborn, state_of, alive}
+use Rattle.pt_events.specs.History.{Past, Start, at_start, is_unborn, state_of, life, alive}
 use Rattle.pt_events.specs.Journal.{IsMerge, events}
 use Rattle.pt_shard.specs.ShardState.{ShardState, phase_of, state_in, lives}
 use Rattle.pt_gathered.specs.Gathered.{GatheredState, IsGathered, begins, journals}
-use Rattle.pt_gathered.specs.Lawful.{LinksStand}
+use Rattle.pt_gathered.specs.Lawful.{IsQuietNode, LinksStand, WatchesStand}
+use Rattle.pt_gathered.specs.Pasts.{GoesOnFrom}
+use Rattle.pt_laws.specs.Watch.{is_down_item, is_open}
 use Rattle.pt_crew.specs.declared.behaviour.Next.{Next}
-use Rattle.pt_crew.specs.declared.behaviour.Next.TheVariants.{Wait, Proceed}
+use Rattle.pt_crew.specs.declared.behaviour.Next.TheVariants.{Proceed}
 use Rattle.pt_crew.specs.declared.births.Role.{Role}
 use Rattle.pt_crew.specs.declared.crew.Crew.{Crew}
 use Rattle.pt_crew.specs.Visiting.{Answers}
 use Rattle.pt_crew.specs.Upholding.{Relation, ActsFor, ItemIsTaken, Upholds, child_by, children_by}
 use Rattle.pt_crew.specs.Waking.{has_work}
 use Rattle.pt_crew.specs.Crews.{roles}
+use Rattle.pt_supervisor.specs.declared.asked.Asked.{Asked}
+use Rattle.pt_supervisor.specs.declared.asked.Stage.{Stage}
+use Rattle.pt_supervisor.specs.declared.asked.Stage.TheVariants.{Waiting, Until}
 use Rattle.pt_supervisor.specs.declared.children.Child.{Child}
+use Rattle.pt_supervisor.specs.declared.children.Shutdown.{Shutdown}
 use Rattle.pt_supervisor.specs.Children.{NoneLives}
+use Rattle.pt_supervisor.specs.Ending.{gone_at, monitor_of, told_in, next_at_stage}
 use Rattle.pt_supervisor.specs.Hearing.{Standing}
-use Rattle.pt_supervisor.specs.Supervising.{StartsOf, Supervises}
+use Rattle.pt_supervisor.specs.Supervising.{EndsLast, StartsOf, Supervises}
 
 -- the pid of the child at a place, if one lives there by all that its supervisor has heard
 abbrev pub pid_of_child : Option Child → Option Pid
@@ -43,9 +50,10 @@ abbrev pub child_at : List Child → ℕ → Option Pid
 child_at children place = pid_of_child (slice_get children place)
 
 -- the item tells of the end of q
-abbrev pub is_exit_of : Pid → Item → Bool
-is_exit_of q (Item.Exit from r) = same_pid q from
-is_exit_of q _ = false
+abbrev pub is_end_of : Pid → Item → Bool
+is_end_of q (Item.Exit from r) = same_pid q from
+is_end_of q (Item.Down m from r) = same_pid q from
+is_end_of q _ = false
 
 -- q takes its link with me away
 abbrev pub is_cut : Pid → Pid → Event → Bool
@@ -62,7 +70,7 @@ all_events past d = events d.journal ++ past
 
 -- a link with q is held, or the end of q waits to be heard
 abbrev pub IsTied : ProcessState → Pid → Type 0
-IsTied s q = (is_some (held s.links q) ≡ true) ⊎ (list_any (is_exit_of q) s.waiting ≡ true)
+IsTied s q = (is_some (held s.links q) ≡ true) ⊎ (list_any (is_end_of q) s.waiting ≡ true)
 
 -- so it is with a child of me, unless the child took the link away itself
 abbrev pub IsHeld : Past → Pid → Pid → ShardState → Type 0
@@ -75,19 +83,22 @@ pub record Family (past : Past) (children : List Child) (stopping : Option Reaso
   pub apart : (i j : ℕ) (q : Pid) → child_at children i ≡ Some q → child_at children j ≡ Some q → i ≡ j
   pub held : stopping ≡ None → (place : ℕ) (q : Pid) → child_at children place ≡ Some q → IsHeld past me q d
 
--- news of the end of q came to me: by a link that the two had, or by an exit signal that q sent itself
+-- news of the end of q came to me: by a link that the two had, by a monitor, by an exit signal that q sent itself, or as
+-- a call was refused
 abbrev pub tells_end : Pid → Pid → Event → Bool
 tells_end me q (Came a b (LinkExit ids r)) = same_pid q a && same_pid me b
+tells_end me q (Came a b (Signal.Down m r)) = same_pid q a && same_pid me b
 tells_end me q (Came a b (Signal.Exit r)) = same_pid q a && same_pid me b
+tells_end me q (Refused a b) = same_pid me a && same_pid q b
 tells_end me q _ = false
 
 abbrev pub has_told : Pid → Pid → Past → Bool
 has_told me q past = list_any (tells_end me q) past
 
--- each exit that waited for me as the journal began had come before
+-- each end that waited for me as the journal began had been told before
 abbrev pub WereTold : Past → Pid → Start → Type 0
 WereTold past me start =
-    (q : Pid) → list_any (is_exit_of q) (state_of (at_start start me)).waiting ≡ true → has_told me q past ≡ true
+    (q : Pid) → list_any (is_end_of q) (state_of (at_start start me)).waiting ≡ true → has_told me q past ≡ true
 
 -- the children that p bore on a desk, the last one first
 abbrev pub all_children : Past → Pid → ShardState → List Pid
@@ -107,12 +118,45 @@ Remembers past children started me d =
     WereTold past me d.start → (q : Pid) → was_started past started me q d ≡ true
     → IsPlaced children q ⊎ (has_told me q (all_events past d) ≡ true)
 
+-- one that is ended ---------------------------------------------------------------------------
+
+-- the monitor m of q is open, or its DOWN waits to be heard
+abbrev pub IsWatched : ProcessState → Ref → Pid → Type 0
+IsWatched s m q = (list_any (is_open m q) s.watching ≡ true) ⊎ (list_any (is_down_item m) s.waiting ≡ true)
+
+-- two reasons by which a supervisor tells a child to end
+abbrev pub is_bid : Reason → Reason → Bool
+is_bid Reason.Shutdown Reason.Shutdown = true
+is_bid Reason.Kill Reason.Kill = true
+is_bid r s = false
+
+-- me says to q that it is to end
+abbrev pub bids_to : Pid → Pid → Reason → Event → Bool
+bids_to me q r (Said a b (Signal.Exit s)) = same_pid me a && same_pid q b && is_bid r s
+bids_to me q r _ = false
+
+abbrev pub has_bid_to : Pid → Pid → Reason → Past → Bool
+has_bid_to me q r past = list_any (bids_to me q r) past
+
+-- The one that me ends, as far as it has come. It is monitored, where it has a monitor. It was told to end, where it is
+-- waited for. And it has ended, where it was found so.
+pub record IsAsked (past : Past) (a : Asked) (me : Pid) (d : ShardState) : Type 0 where
+  pub watched : (m : Ref) → monitor_of a.stage ≡ Some m → IsWatched (state_in d me) m a.pid
+  pub told : (r : Reason) → told_in a.stage ≡ Some r → has_bid_to me a.pid r (all_events past d) ≡ true
+  pub gone : gone_at a.stage a.pid ≡ Some a.pid → has_told me a.pid (all_events past d) ≡ true
+
+-- so it is where that one stands in a place
+abbrev pub AreAsked : Past → List Child → Option Asked → Pid → ShardState → Type 0
+AreAsked past children asked me d =
+    (a : Asked) → asked ≡ Some a → IsPlaced children a.pid → IsAsked past a me d
+
 -- what a supervisor upholds while it lives: it traps exits, unless it has not begun
 pub record Holds (past : Past) (s : Standing) (next : Next) (me : Pid) (d : ShardState) : Type 0 where
   pub waits : Supervises next s
   pub remembers : Remembers past s.children s.started me d
   pub traps : ((state_in d me).traps ≡ true) ⊎ ((next ≡ Proceed) × NoneLives s.children)
   pub family : Family past s.children s.stopping me d
+  pub asks : AreAsked past s.children s.asked me d
 
 -- a supervisor sees to an item, or to none: it acts for itself alone, and upholds that, whatever was before
 pub record Tends (me : Pid) (item : Option Item) (s : Standing) (d : ShardState) (next : Next) (new : Standing)
@@ -164,32 +208,70 @@ ActsAs (Some s) me item d next now e = (new : Standing) × (now ≡ Some new) ×
 
 -- so the behaviours of a program answer, and whoever of those that they bear is a supervisor begins as one
 abbrev pub AnswerAs : {B : Type 0} → PartOf B → Answers B
-AnswerAs part b d me item next now e births =
+AnswerAs part time b d me item next now e births =
     ActsAs (part b) me item d next (part now) e × AllBegin part births
 
 abbrev pub SuperviseAs : {B : Type 0} → Answers B → PartOf B → Type 0
 SuperviseAs {B} answers part =
-    (b : B) (d : ShardState) (me : Pid) (item : Option Item) (next : Next) (now : B) (e : ShardState)
-    (births : List (Role B)) → answers b d me item next now e births → AnswerAs part b d me item next now e births
+    (time : ℕ) (b : B) (d : ShardState) (me : Pid) (item : Option Item) (next : Next) (now : B) (e : ShardState)
+    (births : List (Role B)) → answers time b d me item next now e births
+    → AnswerAs part time b d me item next now e births
 
 -- nobody of the crew has anything to do
 abbrev pub IsIdle : {B : Type 0} → Crew B → ShardState → Type 0
 IsIdle {B} c d = (p : Pid) (role : B × Next) → roles c p ≡ Some role → has_work role.1 (phase_of d p) ≡ false
 
--- The desk of the crew is one of the node. In each merge of the node's journals a supervisor of the crew that lives and
--- waits for any item has, for each child that is to live, a process that lives, or took its link with it away itself.
-abbrev pub ChildrenLive : {B : Type 0} → Past → PartOf B → Crew B → ShardState → GatheredState → Type 0
-ChildrenLive {B} past part c d g =
-    (merged : List Stamped) → IsMerge (journals g) merged → (p : Pid) (b : B) (s : Standing)
-    → roles c p ≡ Some (b, Wait Pick.Any) → part b ≡ Some s → lives d p ≡ true → p.shard ≡ d.number
-    → (place : ℕ) (child : Child) → slice_get s.children place ≡ Some child → child.wanted ≡ true
-    → (q : Pid) × (child.pid ≡ Some q)
+-- as an exit signal `shutdown` of me came to q, q trapped exits
+abbrev pub HasTrapped : Start → Past → Pid → Pid → Type 0
+HasTrapped start history me q =
+    (later : Past) × (before : Past) × (history ≡ later ++ Came me q (Signal.Exit Reason.Shutdown) ∷ before)
+    × ((state_of (life start before q)).traps ≡ true)
+
+-- no time ends the wait for the child, as its specification has none, or it is killed at a time
+abbrev pub IsSpared : Shutdown → Stage → Type 0
+IsSpared shutdown (Waiting m) = shutdown ≡ Shutdown.Infinity
+IsSpared shutdown (Until m at) = ⊤
+IsSpared shutdown _ = ⊥
+
+-- The supervisor p ends q, the last of its children that are to end, and waits for that. q lives. It was told to end, and
+-- trapped that, before the journals of the node or since; and it was given no time, or its time has not come. The last
+-- two are said of a past that is all that happened, or of none.
+pub record IsEnding (past : Past) (s : Standing) (next : Next) (p q : Pid) (g : GatheredState) (merged : List Stamped)
+    : Type 0 where
+  pub shutdown : Shutdown
+  pub stage : Stage
+  pub last : EndsLast q shutdown stage s
+  pub waits : next ≡ next_at_stage stage
+  pub lives : alive (begins g) (events merged) q ≡ true
+  pub trapped : GoesOnFrom past g ⊎ (past ≡ [])
+      → IsSpared shutdown stage × (HasTrapped (begins g) (events merged) p q ⊎ HasTrapped [] past p q)
+
+-- The child has a process that lives, or took its link with the supervisor p away itself.
+abbrev pub ChildLives : Past → Child → Pid → ShardState → GatheredState → List Stamped → Type 0
+ChildLives past child p d g merged =
+    (q : Pid) × (child.pid ≡ Some q)
     × ((alive (begins g) (events merged) q ≡ true) ⊎ (has_cut p q (all_events past d) ≡ true))
 
+-- The desk of the crew is one of the node. In each merge of the node's journals a supervisor of the crew that lives has,
+-- for each child that is to live, a process that lives, or took its link with it away itself; unless it is ending one
+-- that traps exits and lives on.
+abbrev pub ChildrenLive : {B : Type 0} → Past → PartOf B → Crew B → ShardState → GatheredState → Type 0
+ChildrenLive {B} past part c d g =
+    (merged : List Stamped) → IsMerge (journals g) merged → (p : Pid) (b : B) (next : Next) (s : Standing)
+    → roles c p ≡ Some (b, next) → part b ≡ Some s → lives d p ≡ true → p.shard ≡ d.number
+    → (place : ℕ) (child : Child) → slice_get s.children place ≡ Some child → child.wanted ≡ true
+    → ChildLives past child p d g merged ⊎ ((q : Pid) × IsEnding past s next p q g merged)
+
+-- the node is quiet, and links and monitors stand at both ends or at neither
+pub record IsStillNode (g : GatheredState) : Type 0 where
+  pub quiet : IsQuietNode g
+  pub links : LinksStand g
+  pub watches : WatchesStand g
+
 -- So it is in a node that is still: where the desk of a crew, whose supervisors uphold that their children are held, is
--- one of a gathered node in which links stand at both ends or at neither, and nobody of the crew has anything to do.
+-- one of a gathered node that is still, and nobody of the crew has anything to do.
 abbrev pub QuietChildrenLive : {B : Type 0} → PartOf B → Type 0
 QuietChildrenLive {B} part =
-    (past : Past) (c : Crew B) (d : ShardState) (g : GatheredState) → IsGathered g → LinksStand g
+    (past : Past) (c : Crew B) (d : ShardState) (g : GatheredState) → IsGathered g → IsStillNode g
     → d.number < length g.shards → d ≡ slice_index_or g.shards d.number d → Upholds (Keeps past part) c d
     → IsIdle c d → ChildrenLive past part c d g

@@ -1,5 +1,6 @@
 pub mod Restarts
 pub mod Limits
+pub mod Ending
 pub mod Children
 pub mod Hearing
 pub mod Supervising

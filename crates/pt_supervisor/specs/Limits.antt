@@ -1,5 +1,5 @@
 -- How many restarts a supervisor makes.
-use Rattle.std.specs.Prelude.{◌≡◌, ℕ, ◌-◌, nat_lt, cond, Bool, true, false, List, [], ◌∷◌, ◌++◌, length, filter}
+use Rattle.std.specs.Prelude.{◌≡◌, ℕ, ◌-◌, nat_le, nat_lt, cond, Bool, true, false, List, [], ◌∷◌, ◌++◌, length, filter}
 use Rattle.pt_supervisor.specs.declared.limit.Limit.{Limit}
 
 -- no restart was made
@@ -10,9 +10,9 @@ is_none most span timed l = (l.times.items ≡ []) × (l.most ≡ most) × (l.sp
 abbrev pub moment : Bool → ℕ → ℕ → ℕ
 moment timed stamp time = cond timed time stamp
 
--- of these moments those that were within the last span
+-- of these moments those that were within the last span, those too that are just so old
 abbrev pub recent : ℕ → ℕ → List ℕ → List ℕ
-recent now span times = filter (λ time. nat_lt (now - time) span) times
+recent now span times = filter (λ time. nat_le (now - time) span) times
 
 -- one more restart is allowed where there were fewer than the most
 abbrev pub allows : ℕ → ℕ → ℕ → List ℕ → Bool

@@ -1,9 +1,10 @@
 -- What a supervisor does with an item, and what it does next.
-use Rattle.std.specs.Prelude.{◌≡◌, ℕ, zero, suc, ◌+◌, ◌-◌, ◌^◌, min, ◌<◌, nat_lt, cond, Bool, true, false, List, length}
-use Rattle.std.specs.Prelude.{Option, Some, None, MatchBool, Result, Ok, Err, is_ok, is_some, slice_get, slice_set}
+use Rattle.std.specs.Prelude.{◌≡◌, ◌⊎◌, ℕ, zero, suc, ◌+◌, ◌-◌, ◌^◌, min, ◌<◌, nat_lt, cond, Bool, true, false, List, length}
+use Rattle.std.specs.Prelude.{[], ◌∷◌, ◌++◌, Option, Some, None, MatchBool, Result, Ok, Err, is_ok, is_some, slice_get, slice_set}
 use Rattle.pt_signal.specs.declared.pid.Pid.{Pid}
+use Rattle.pt_signal.specs.declared.ids.Ref.{Ref}
 use Rattle.pt_signal.specs.declared.item.Item.{Item}
-use Rattle.pt_signal.specs.declared.item.Item.TheVariants.{Exit}
+use Rattle.pt_signal.specs.declared.item.Item.TheVariants.{Exit, Down}
 use Rattle.pt_signal.specs.declared.item.Pick.{Pick}
 use Rattle.pt_signal.specs.declared.reason.Reason.{Reason}
 use Rattle.pt_signal.specs.declared.signal.Signal.{Signal}
@@ -19,15 +20,19 @@ use Rattle.pt_crew.specs.declared.births.Role.{Role}
 use Rattle.pt_crew.specs.declared.births.Births.{Births}
 use Rattle.pt_crew.specs.Births.{Bore, born}
 use Rattle.pt_crew.specs.declared.call_fault.CallFault.{CallFault}
-use Rattle.pt_crew.specs.Telling.{IfKnown}
+use Rattle.pt_crew.specs.Telling.{IfKnown, Watches}
+use Rattle.pt_crew.specs.Upholding.{children_by}
+use Rattle.pt_supervisor.specs.declared.asked.Stage.{Stage}
+use Rattle.pt_supervisor.specs.declared.asked.Stage.TheVariants.{Gone, Watched, Waiting, Until, Killed}
 use Rattle.pt_supervisor.specs.declared.children.Child.{Child}
 use Rattle.pt_supervisor.specs.declared.children.Shutdown.{Shutdown}
 use Rattle.pt_supervisor.specs.declared.restart.Restart.{Restart}
 use Rattle.pt_supervisor.specs.Children.{AreStarted, NoneLives, PermanentAreWanted}
-use Rattle.pt_supervisor.specs.Children.{bids, is_missing, last_alive, until}
+use Rattle.pt_supervisor.specs.Children.{is_missing, last_alive}
+use Rattle.pt_supervisor.specs.Ending.{bids, is_noproc, stage_of, stage_told, next_at_stage}
 use Rattle.pt_supervisor.specs.declared.supervisor.Supervisor.{Supervisor}
 use Rattle.pt_supervisor.specs.Limits.{moment}
-use Rattle.pt_supervisor.specs.Hearing.{Standing, asked_until, deadline, heard, program_of, standing}
+use Rattle.pt_supervisor.specs.Hearing.{Standing, at_stage, monitor_closed, gone_heard, heard, program_of, standing}
 
 -- the program's `Start`: it before, the supervisor, the place, what it answers, and it afterwards
 abbrev pub StartsOf : Type 0 → Type 0 → Type 1
@@ -115,29 +120,46 @@ nursery s = record {
   born = s.born;
 }
 
--- it waits for the end of one whom it has told to end, until a time if there is one, and tries again where that was
--- refused
-abbrev pub after_bid : Pid → Result (Unit {0}) CallFault → Option ℕ → Next
-after_bid p (Err f) until = Proceed
-after_bid p (Ok done) None = Wait (Pick.ExitOf p)
-after_bid p (Ok done) (Some at) = WaitUntil (Pick.ExitOf p) at
-
--- it tells one to end, by an exit signal
-pub record Bids (me p : Pid) (reason : Reason) (until : Option ℕ) (old : Standing) (d : DeskState) (next : Next)
+-- It tells one to end, by an exit signal. Where that was not refused, it has come to this stage with that one, and waits.
+-- Else it tries again.
+pub record TellsToEnd (me p : Pid) (reason : Reason) (stage : Stage) (old : Standing) (d : DeskState) (next : Next)
     (new : Standing) (e : DeskState) : Type 0 where
   pub result : Result (Unit {0}) CallFault
   pub signal : IfKnown (knows d.shard p)
       (λ r. Calls me (Some (Said me p (Signal.Exit reason))) (tt {0}) d.shard r e.shard) d result e
-  pub next_is : next ≡ after_bid p result until
-  pub new_is : new ≡ asked_until p result until old
+  pub next_is : next ≡ cond (is_ok result) (next_at_stage stage) Proceed
+  pub new_is : new ≡ cond (is_ok result) (at_stage p stage old) old
 
--- One that was not told to end within a time is told to end now. One that was is killed once its time has come, and then
--- has no further time. Before that it is told nothing, and has the time that it had.
-abbrev pub EndsChild : Pid → ℕ → Pid → Shutdown → Option ℕ → Standing → DeskState → Next → Standing → DeskState → Type 0
-EndsChild me now p shutdown None old d next new e = Bids me p (bids shutdown) (until now shutdown) old d next new e
-EndsChild me now p shutdown (Some at) old d next new e =
-    MatchBool (nat_lt now at) ((next ≡ WaitUntil (Pick.ExitOf p) at) × (new ≡ old) × (e ≡ d))
-    (Bids me p Reason.Kill None old d next new e)
+-- One that it monitors now it tells to end. One that has ended before is gone. Where the call was refused for another
+-- reason, it tries again.
+abbrev pub after_watching : Pid → ℕ → Pid → Shutdown → Result Ref CallFault → Standing → DeskState → Next → Standing → DeskState
+    → Type 0
+after_watching me now p shutdown (Ok m) old mid next new e =
+    TellsToEnd me p (bids shutdown) (stage_told shutdown m now) (at_stage p (Watched m) old) mid next new e
+after_watching me now p shutdown (Err f) old mid next new e =
+    (next ≡ Proceed) × (new ≡ cond (is_noproc f) (at_stage p Gone old) old) × (e ≡ mid)
+
+-- it monitors one that it is to end, and then tells it to
+pub record WatchesChild (me : Pid) (now : ℕ) (p : Pid) (shutdown : Shutdown) (old : Standing) (d : DeskState) (next : Next)
+    (new : Standing) (e : DeskState) : Type 0 where
+  pub result : Result Ref CallFault
+  pub mid : DeskState
+  pub monitor : Watches me p d result mid
+  pub goes : after_watching me now p shutdown result old mid next new e
+
+-- One that it does not monitor yet is monitored first. One that was told to end within a time is killed once its time has
+-- come, and then has no further time. Before that it is told nothing, and has the time that it had.
+abbrev pub EndsChild : Pid → ℕ → Pid → Shutdown → Option Stage → Standing → DeskState → Next → Standing → DeskState → Type 0
+EndsChild me now p shutdown None old d next new e = WatchesChild me now p shutdown old d next new e
+EndsChild me now p shutdown (Some Gone) old d next new e = WatchesChild me now p shutdown old d next new e
+EndsChild me now p shutdown (Some (Watched m)) old d next new e =
+    TellsToEnd me p (bids shutdown) (stage_told shutdown m now) old d next new e
+EndsChild me now p shutdown (Some (Waiting m)) old d next new e =
+    TellsToEnd me p (bids shutdown) (stage_told shutdown m now) old d next new e
+EndsChild me now p shutdown (Some (Until m at)) old d next new e =
+    MatchBool (nat_lt now at) ((next ≡ WaitUntil (Pick.DownOf m) at) × (new ≡ old) × (e ≡ d))
+    (TellsToEnd me p Reason.Kill (Killed m) old d next new e)
+EndsChild me now p shutdown (Some (Killed m)) old d next new e = TellsToEnd me p Reason.Kill (Killed m) old d next new e
 
 -- nobody is to end any more: it ends, if it is to, or starts who is missing, and tries again where that was refused
 abbrev pub SupervisorSettles : {S B : Type 0} → StartsOf S B → Pid → Option Reason → SupervisorScene S B → Next → SupervisorScene S B → Type 0
@@ -155,7 +177,7 @@ SupervisorSettles starts me None old next new =
 abbrev pub AdvancesAs : {S B : Type 0} → StartsOf S B → Pid → ℕ → Option (Pid × Shutdown) → SupervisorScene S B → Next
     → SupervisorScene S B → Type 0
 AdvancesAs starts me now (Some (p, shutdown)) old next new =
-    EndsChild me now p shutdown (deadline p old.standing.asked) old.standing old.desk next new.standing new.desk
+    EndsChild me now p shutdown (stage_of old.standing.asked p) old.standing old.desk next new.standing new.desk
     × (new.start ≡ old.start) × (new.born ≡ old.born)
 AdvancesAs starts me now None old next new = SupervisorSettles starts me old.standing.stopping old next new
 
@@ -165,16 +187,18 @@ Advances starts me now old next new =
     AdvancesAs starts me now (last_alive old.standing.children old.standing.ending (length old.standing.children)) old next
     new
 
--- It sees to an item at a time: of an end it hears, and where it goes on without one it sets its trap; whether nothing
--- was refused.
+-- It sees to an item at a time: of an end it hears, by an exit or by the DOWN of its monitor. Where it goes on without an
+-- item it sets its trap, and hears of the child that it found to have ended; whether nothing was refused.
 abbrev pub SupervisorAttends : Pid → ℕ → Option Item → Standing → DeskState → Bool → Standing → DeskState → Type 0
 SupervisorAttends me time (Some (Exit from reason)) old d answer new e =
     (answer ≡ true) × (new ≡ heard (moment old.timed d.shard.clock time) from reason old) × (e ≡ d)
+SupervisorAttends me time (Some (Down m from reason)) old d answer new e =
+    (answer ≡ true) × (new ≡ heard (moment old.timed d.shard.clock time) from reason (monitor_closed m old)) × (e ≡ d)
 SupervisorAttends me time (Some _) old d answer new e = (answer ≡ true) × (new ≡ old) × (e ≡ d)
 SupervisorAttends me time None old d answer new e =
     (result : Result Bool Fault)
     × Calls me (Some (Flag me true)) (state_in d.shard me).traps d.shard result e.shard × (answer ≡ is_ok result)
-    × (new ≡ old)
+    × (new ≡ cond answer (gone_heard (moment old.timed e.shard.clock time) old) old)
 
 abbrev pub after_attending : {S B : Type 0} → StartsOf S B → Pid → ℕ → Bool → SupervisorScene S B → Next
     → SupervisorScene S B → Type 0
@@ -191,17 +215,23 @@ pub record SupervisorHandles {S B : Type 0} (starts : StartsOf S B) (me : Pid) (
   pub goes : after_attending starts me time answer mid next new
 
 -- What it waits for tells how its children stand: for any item where each that is to live was started, and none is to
--- end; for the end of one, where that is the last of those that are to end, and until a time, where it has to end by
--- then; and it ends where none lives.
+-- end; for the DOWN of one, where that is the last of those that are to end, and it was told so, or killed; until a time,
+-- where it has to end by then. It ends where none lives.
+abbrev pub EndsLast : Pid → Shutdown → Stage → Standing → Type 0
+EndsLast p shutdown stage s =
+    (last_alive s.children s.ending (length s.children) ≡ Some (p, shutdown))
+    × (s.asked ≡ Some (record { pid = p; stage = stage }))
+
 abbrev pub WaitsFor : Pick → Standing → Type 0
 WaitsFor Pick.Any s =
     AreStarted s.children (length s.children) × (s.ending ≡ length s.children) × (s.stopping ≡ None) × (s.asked ≡ None)
-WaitsFor (Pick.ExitOf p) s =
-    (shutdown : Shutdown) × (last_alive s.children s.ending (length s.children) ≡ Some (p, shutdown))
+WaitsFor (Pick.DownOf m) s =
+    (p : Pid) × (shutdown : Shutdown)
+    × (((shutdown ≡ Shutdown.Infinity) × EndsLast p shutdown (Waiting m) s) ⊎ EndsLast p shutdown (Killed m) s)
 WaitsFor _ s = ⊥
 
 abbrev pub WaitsForUntil : Pick → ℕ → Standing → Type 0
-WaitsForUntil (Pick.ExitOf p) at s = WaitsFor (Pick.ExitOf p) s × (deadline p s.asked ≡ Some at)
+WaitsForUntil (Pick.DownOf m) at s = (p : Pid) × (shutdown : Shutdown) × EndsLast p shutdown (Until m at) s
 WaitsForUntil _ at s = ⊥
 
 abbrev pub Supervises : Next → Standing → Type 0
@@ -222,3 +252,14 @@ abbrev pub PermanentLive : Type 0
 PermanentLive =
     (s : Standing) → Supervises (Wait Pick.Any) s → PermanentAreWanted s.children → (place : ℕ) (c : Child)
     → slice_get s.children place ≡ Some c → c.restart ≡ Restart.Permanent → is_some c.pid ≡ true
+
+-- it counts one more for each child, up to the greatest number
+abbrev pub counted_with : List Pid → ℕ → ℕ
+counted_with [] n = n
+counted_with (p ∷ more) n = min (counted_with more n + 1) (2 ^ 64 - 1)
+
+-- it has counted so many, and counts each child that me bears on its desk
+pub record CountsBirths (me : Pid) (old : ℕ) (d : ShardState) (new : ℕ) (e : ShardState) : Type 0 where
+  pub more : List Pid
+  pub borne : children_by me e.journal ≡ more ++ children_by me d.journal
+  pub counted : new ≡ counted_with more old

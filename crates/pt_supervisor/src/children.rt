@@ -2,10 +2,13 @@
 
 ghost use Rattle.std.specs.Prelude.{◌≡◌, ◌<◌, IfSome, None, true, position, length};
 ghost use Rattle.std.specs.Option.{option_map};
-ghost use Rattle.pt_supervisor.specs.Children.{bids, is_missing, is_child, last_alive, leaving, until};
+ghost use Rattle.pt_supervisor.specs.Children.{is_missing, last_alive, leaving, revived, revived_child};
+ghost use Rattle.pt_signal.specs.Values.{is_pid};
+ghost use Rattle.pt_supervisor.specs.Ending.{bids, stage_told};
 
+use crate::asked::Stage;
 use crate::restart::Restart;
-use pt_node::{Pid, Reason};
+use pt_node::{Pid, Reason, Ref};
 
 /// How a supervisor ends a child: `shutdown` of a child's specification.
 #[derive(Clone, Copy, Debug, PartialEq, Eq)]
@@ -33,14 +36,15 @@ impl Shutdown {
         }
     }
 
-    /// The time at which a child is killed that is told now to exit, if it has not exited before; at most `u64::MAX`.
-    /// `None` if no time ends the wait.
-    pub fn until(&self, now: u64) -> Option<u64>
-        ensures { result ≡ until now self.now }
+    /// How far a supervisor has come with a child that it monitors and tells so now to exit. A time to be killed at is
+    /// at most `u64::MAX`.
+    pub fn told(&self, monitor: Ref, now: u64) -> Stage
+        ensures { result ≡ stage_told self.now monitor now }
     {
         match *self {
-            Shutdown::After(time) => Some(now.saturating_add(time)),
-            _ => None,
+            Shutdown::Infinity => Stage::Waiting(monitor),
+            Shutdown::After(time) => Stage::Until(monitor, now.saturating_add(time)),
+            Shutdown::BrutalKill => Stage::Killed(monitor),
         }
     }
 }
@@ -85,9 +89,19 @@ impl Child {
 
     /// Whether it is this process.
     pub fn is_of(&self, pid: Pid) -> bool
-        ensures { result ≡ is_child self.now.pid pid }
+        ensures { result ≡ is_pid self.now.pid pid }
     {
         is_process(self.pid, pid)
+    }
+
+    /// The same child, which is to live again unless it is temporary.
+    fn revived(self) -> Child
+        ensures { result ≡ revived_child self }
+    {
+        Child {
+            wanted: self.wanted || self.restart != Restart::Temporary,
+            ..self
+        }
     }
 
     /// Its pid, if it has one, and how it is ended.
@@ -103,7 +117,7 @@ impl Child {
 
 /// Whether there is a process, and it is this one.
 pub(crate) fn is_process(known: Option<Pid>, pid: Pid) -> bool
-    ensures { result ≡ is_child known pid }
+    ensures { result ≡ is_pid known pid }
 {
     match known {
         Some(own) => own == pid,
@@ -113,7 +127,7 @@ pub(crate) fn is_process(known: Option<Pid>, pid: Pid) -> bool
 
 /// The place of a child by its pid.
 pub fn place_of(children: &[Child], pid: Pid) -> Option<usize>
-    ensures place { result ≡ position (λ c. is_child c.pid pid) children.now }
+    ensures place { result ≡ position (λ c. is_pid c.pid pid) children.now }
     ensures within { IfSome result (λ i. i < length children.now) }
 {
     children.iter().position(|child| child.is_of(pid))
@@ -130,4 +144,15 @@ pub fn last_alive(children: &[Child], first: usize) -> Option<(Pid, Shutdown)>
         }
     }
     last
+}
+
+/// Each child from the place `first` on is to live again, unless it is temporary.
+pub(crate) fn revive(children: &mut [Child], first: usize)
+    ensures { children.new ≡ revived children.old first (length children.old) }
+{
+    for place in 0..children.len() {
+        if place >= first {
+            children[place] = children[place].revived();
+        }
+    }
 }

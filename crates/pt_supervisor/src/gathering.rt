@@ -8,11 +8,12 @@ ghost use Rattle.pt_supervisor.specs.Keeping.{Keeps};
 ghost use Rattle.pt_supervisor.specs.Gathering.{GatheredChildrenLive};
 
 use crate::supervised::Supervised;
-use pt_laws::laws;
+use pt_laws::{laws, links};
 use pt_node::Gate;
 
 /// On each desk of a gathered node, each child that its supervisor wants alive is alive, or unlinked itself from the
-/// supervisor. The function does nothing: its contract is the promise.
+/// supervisor; unless the supervisor is ending a child that traps exits and lives on. The function does nothing: its
+/// contract is the promise.
 ///
 /// It needs something of the crews, each over the desk at its place, after what happened on their node before (`past`):
 /// [] if nothing is known of it. A run of them at this gate keeps it, on threads
@@ -28,4 +29,8 @@ pub fn gathered_children_live<B: Supervised + Drop, G: Gate>(gate: &G)
 {
     laws::journals_tell_their_pids();
     laws::journals_have_one_merge();
+    laws::merge_is_legal();
+    links::merge_known();
+    laws::one_down();
+    laws::stamps_make_new_ids();
 }

@@ -10,19 +10,23 @@
 //! # What is proved
 //!
 //! - **Restarts.** After an exit, which children are started again, and which others the strategy ends, is one function
-//!   of what the supervisor knows. (`starts_again`, `ends_from`)
+//!   of what the supervisor knows. A transient child that was done is started again with the others that the strategy
+//!   names. (`starts_again`, `ends_from`, `revived`)
 //! - **Limits.** When a restart is still allowed is exact, by stamps or by time. (`Limit::allows`, `Limit::moment`)
-//! - **Shutdown.** A child that has a time to exit is killed only if its supervisor runs at that time or later and has
-//!   not got its exit. (`EndsChild`)
+//! - **Shutdown.** A supervisor monitors a child before it tells it to exit, and then waits for the `DOWN`. A child that
+//!   has a time to exit is killed only if its supervisor runs at that time or later and has not got that. (`EndsChild`)
 //! - **Handling.** The contract of `handle` says all that it does on the desk, also if a call fails.
 //!   (`SupervisorHandles`)
-//! - **Children are restarted.** Once the node is quiet and the crew idle, each child that a live supervisor wants
-//!   alive is alive, or unlinked itself. (`quiet_children_live`, `gathered_children_live`)
+//! - **Children are restarted.** Once the node is quiet and the crew idle, each child that a live supervisor wants is
+//!   alive, or unlinked itself. One case is left: the supervisor is ending a child that traps exits and lives on, and
+//!   has time left to. (`quiet_children_live`, `gathered_children_live`)
+//! - **Children are counted.** A supervisor counts each child that it spawns. (`CountsBirths`)
 //! - **No orphans.** No child of a supervisor that stopped by itself is alive, unless that child sent it an exit
 //!   signal. (`stopped_children_ended`)
 //! - **Permanent children.** A supervisor always wants its permanent children alive. (`permanent_children_live`)
 #![tactic(auto)]
 
+mod asked;
 mod children;
 mod gathering;
 mod laws;
@@ -31,6 +35,7 @@ mod restart;
 mod supervised;
 mod supervisor;
 
+pub use asked::{Asked, Stage};
 pub use children::{Child, Shutdown};
 pub use gathering::gathered_children_live;
 pub use laws::permanent_children_live;

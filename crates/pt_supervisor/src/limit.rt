@@ -58,12 +58,13 @@ impl Limit {
 
     /// Whether one more restart is allowed at this moment; if so, it is counted.
     ///
+    /// A restart counts as long as it is not older than the span, as Erlang's does: one that is just so old still counts.
     /// A restart of a later moment counts as one of now, if the clock went backwards.
     pub fn allows(&mut self, now: u64) -> bool
         ensures { Allows now self.old result self.new }
     {
         let span = self.span;
-        self.times.retain(|time| now.saturating_sub(*time) < span);
+        self.times.retain(|time| now.saturating_sub(*time) <= span);
         if self.times.len() >= self.most {
             return false;
         }

@@ -38,7 +38,8 @@ pub trait Supervised: Behaviour {
 }
 
 /// In a node that is still, each child that its supervisor wants alive is alive, or unlinked itself from the
-/// supervisor. The function does nothing: its contract is the promise.
+/// supervisor; unless the supervisor is ending a child that traps exits and lives on. Such a child has no time to be
+/// killed by, or its time has not come. The function does nothing: its contract is the promise.
 ///
 /// What it needs of the crew holds for an empty crew (`nobody`). A step, a step with a turn, and a receipt keep it. So
 /// does spawning a process that begins as it should. A crew is idle if its queue is empty, and each process that has
@@ -62,6 +63,10 @@ pub fn quiet_children_live<B: Supervised + Drop>()
 {
     laws::journals_tell_their_pids();
     laws::journals_have_one_merge();
+    laws::merge_is_legal();
+    links::merge_known();
+    laws::one_down();
+    laws::stamps_make_new_ids();
 }
 
 /// If a supervisor stopped by itself, no child that it ever started is alive, unless that child sent it an exit signal.

@@ -6,11 +6,12 @@ ghost use Rattle.pt_signal.specs.declared.pid.Pid.{Pid};
 ghost use Rattle.pt_shard.specs.declared.fault.Fault.{Fault};
 ghost use Rattle.pt_crew.specs.declared.behaviour.Next.{Next};
 
-use crate::children::{Child, Shutdown, is_process, last_alive, place_of};
+use crate::asked::{Asked, Stage, gone_in, is_noproc, stage_of, unless_by};
+use crate::children::{Child, Shutdown, is_process, last_alive, place_of, revive};
 use crate::limit::Limit;
 use crate::restart::{Restart, Strategy};
-use pt_crew::{Births, Next, exit_signal, spawn_child, trap};
-use pt_node::{Desk, Fault, Item, Pick, Pid, Reason};
+use pt_crew::{Births, CallFault, Next, exit_signal, monitor, spawn_child, trap};
+use pt_node::{Desk, Fault, Item, Pick, Pid, Reason, Ref};
 use std::mem;
 
 /// What the children of a supervisor do, as the program says.
@@ -40,24 +41,27 @@ pub struct Supervisor<S> {
     ending: usize,
     /// The reason with which it is to exit, once all its children have.
     stopping: Option<Reason>,
-    /// The child that it has told to exit within a time, and until when.
-    asked: Option<(Pid, u64)>,
+    /// The child that it ends, and what it has done to end it.
+    asked: Option<Asked>,
     /// The number of children that it has started.
     started: u64,
     ghost all: { ForSome stopping (λ r. ending ≡ 0) },
 }
 
 impl<S> Supervisor<S> {
-    ghost use Rattle.std.specs.Prelude.{◌<◌, true, length, slice_get};
+    ghost use Rattle.std.specs.Prelude.{◌<◌, true, cond, length, slice_get};
     ghost use Rattle.pt_desk.specs.DeskState.{GoesOn};
     ghost use Rattle.pt_crew.specs.Births.{born, kept_roles, time_told};
     ghost use Rattle.pt_crew.specs.Visiting.{takes};
     ghost use Rattle.pt_supervisor.specs.Children.{AreStarted, PermanentAreWanted};
-    ghost use Rattle.pt_supervisor.specs.Hearing.{begun, deadline, heard, lost, program_of, standing, started_again};
-    ghost use Rattle.pt_supervisor.specs.Hearing.{stopped};
-    ghost use Rattle.pt_supervisor.specs.Supervising.{Advances, Bids, EndsChild, SupervisorAttends, SupervisorHandles};
-    ghost use Rattle.pt_supervisor.specs.Supervising.{SetsAt, StartsAll, StartsOne, Supervises, nursery};
-    ghost use Rattle.pt_supervisor.specs.Supervising.{supervisor_scene};
+    ghost use Rattle.pt_supervisor.specs.declared.asked.Stage.TheVariants.{Gone};
+    ghost use Rattle.pt_supervisor.specs.Ending.{child_end_heard, is_noproc, stage_of};
+    ghost use Rattle.pt_supervisor.specs.Hearing.{at_stage, begun, monitor_closed, gone_heard, heard, lost, program_of, standing};
+    ghost use Rattle.pt_supervisor.specs.Limits.{moment};
+    ghost use Rattle.pt_supervisor.specs.Hearing.{started_again, stopped};
+    ghost use Rattle.pt_supervisor.specs.Supervising.{Advances, EndsChild, SupervisorAttends, SupervisorHandles, TellsToEnd};
+    ghost use Rattle.pt_supervisor.specs.Supervising.{CountsBirths, SetsAt, StartsAll, StartsOne, Supervises, WatchesChild};
+    ghost use Rattle.pt_supervisor.specs.Supervising.{nursery, supervisor_scene};
     ghost use Rattle.pt_supervisor.specs.Keeping.{BearsFrom, Tends};
 
     /// A supervisor of these children, each with the rule by which it is started again. It has no parent: see
@@ -119,6 +123,26 @@ impl<S> Supervisor<S> {
         self.children.as_slice()
     }
 
+    /// The child that it ends now, and what it has done to end it.
+    pub fn asked(&self) -> Option<Asked>
+        ensures { result ≡ (standing self.now).asked }
+    {
+        self.asked
+    }
+
+    /// The process of whose exit it hears by this item. Without an item it hears of the child that it found to have
+    /// exited.
+    pub fn hears(&self, item: Option<Item>) -> Option<Pid>
+        ensures { result ≡ child_end_heard item (standing self.now).asked }
+    {
+        match item {
+            Some(Item::Exit(from, _)) => Some(from),
+            Some(Item::Down(_, from, _)) => Some(from),
+            Some(_) => None,
+            None => gone_in(self.asked),
+        }
+    }
+
     /// The number of children that it has started, counting each time those that it started again; at most `u64::MAX`.
     pub fn started(&self) -> u64
         ensures { result ≡ (standing self.now).started }
@@ -148,7 +172,7 @@ impl<S> Supervisor<S> {
     /// Handles an item, or begins, and returns what the supervisor does next.
     ///
     /// If a call fails for want of memory or stamps, or the program fails to start a child, it proceeds, and tries
-    /// again when it runs next. An item that is neither an exit signal of its parent nor of a child changes nothing.
+    /// again when it runs next. An item that tells neither of the exit of its parent nor of a child changes nothing.
     #[tactic(auto, using(pt_workers::proofs::GoingOn::stays, pt_desk::proofs::Turning::goes_on_then))]
     pub fn handle<B: Drop>(
         &mut self,
@@ -166,6 +190,8 @@ impl<S> Supervisor<S> {
         ensures supervises { Supervises result (standing self.new) }
         ensures tends { Tends me item (standing self.old) desk.old.shard result (standing self.new) desk.new.shard }
         ensures bears { BearsFrom S.starts me (born births.old) (born births.new) }
+        ensures counts { CountsBirths me (standing self.old).started desk.old.shard (standing self.new).started
+            desk.new.shard }
         ensures permanent { PermanentAreWanted (standing self.old).children
             → PermanentAreWanted (standing self.new).children }
         ensures takes { takes desk.new.shard.journal ≡ takes desk.old.shard.journal }
@@ -191,18 +217,69 @@ impl<S> Supervisor<S> {
     {
         match item {
             Some(Item::Exit(from, reason)) => {
-                let moment = self.limit.moment(desk.clock(), now);
-                self.hear(moment, from, reason);
+                self.hear(desk, now, from, reason);
+                true
+            }
+            Some(Item::Down(monitor, from, reason)) => {
+                self.hear_down(desk, now, monitor, from, reason);
                 true
             }
             Some(_) => true,
-            None => trap(desk, me, true).is_ok(),
+            None => self.begin(desk, now, me),
         }
     }
 
+    /// Traps exits, and hears of the child that it found to have exited. Returns whether no call failed.
+    #[tactic(auto, using(pt_workers::proofs::GoingOn::stays))]
+    fn begin(&mut self, desk: &mut Desk, now: u64, me: Pid) -> bool
+        ensures does { SupervisorAttends me now None (standing self.old) desk.old result (standing self.new) desk.new }
+        ensures permanent { PermanentAreWanted (standing self.old).children
+            → PermanentAreWanted (standing self.new).children }
+        ensures start { program_of self.new ≡ program_of self.old }
+        ensures takes { takes desk.new.shard.journal ≡ takes desk.old.shard.journal }
+        ensures goes_on { GoesOn desk.old desk.new }
+    {
+        if trap(desk, me, true).is_err() {
+            return false;
+        }
+        self.find(desk, now);
+        true
+    }
+
+    /// Notes that the child which it found to have exited has exited, if there is one.
+    fn find(&mut self, desk: &Desk, now: u64)
+        ensures standing { standing self.new
+            ≡ gone_heard (moment (standing self.old).timed desk.now.shard.clock now) (standing self.old) }
+        ensures start { program_of self.new ≡ program_of self.old }
+    {
+        if let Some(pid) = gone_in(self.asked) {
+            self.set_asked(None);
+            self.hear(desk, now, pid, Reason::Noproc);
+        }
+    }
+
+    /// Notes that a process which it monitored has exited. It does not monitor it any more.
+    fn hear_down(&mut self, desk: &Desk, now: u64, monitor: Ref, from: Pid, reason: Reason)
+        ensures standing { standing self.new ≡ heard (moment (standing self.old).timed desk.now.shard.clock now) from reason
+            (monitor_closed monitor (standing self.old)) }
+        ensures start { program_of self.new ≡ program_of self.old }
+    {
+        self.set_asked(unless_by(self.asked, monitor));
+        self.hear(desk, now, from, reason);
+    }
+
+    /// Notes which child it ends, and how far it has come.
+    fn set_asked(&mut self, asked: Option<Asked>)
+        ensures standing { standing self.new ≡ record (standing self.old) { asked = asked } }
+        ensures start { program_of self.new ≡ program_of self.old }
+    {
+        self.asked = asked;
+    }
+
     /// Notes that a process has exited, and what is to be done about it.
-    fn hear(&mut self, now: u64, from: Pid, reason: Reason)
-        ensures standing { standing self.new ≡ heard now from reason (standing self.old) }
+    fn hear(&mut self, desk: &Desk, now: u64, from: Pid, reason: Reason)
+        ensures standing { standing self.new
+            ≡ heard (moment (standing self.old).timed desk.now.shard.clock now) from reason (standing self.old) }
         ensures start { program_of self.new ≡ program_of self.old }
     {
         if is_process(self.parent, from) {
@@ -210,7 +287,8 @@ impl<S> Supervisor<S> {
             return;
         }
         if let Some(place) = place_of(self.children.as_slice(), from) {
-            self.lose(now, place, reason);
+            let moment = self.limit.moment(desk.clock(), now);
+            self.lose(moment, place, reason);
         }
     }
 
@@ -239,14 +317,16 @@ impl<S> Supervisor<S> {
     }
 
     /// Notes that the child at a place is to be started again. If that is allowed, those that the strategy names end
-    /// first. Else all do, and the supervisor.
+    /// first, and are then started again, also one that was done. Else all end, and the supervisor.
     fn restart(&mut self, now: u64, place: usize)
         requires { 0 < self.old.ending }
         ensures standing { standing self.new ≡ started_again true now place (standing self.old) }
         ensures start { program_of self.new ≡ program_of self.old }
     {
         if self.limit.allows(now) {
-            self.ending = self.strategy.ends_from(place, self.children.len());
+            let first = self.strategy.ends_from(place, self.children.len());
+            revive(self.children.as_mut_slice(), first);
+            self.ending = first;
         } else {
             self.stop(Reason::Shutdown);
         }
@@ -289,57 +369,85 @@ impl<S> Supervisor<S> {
         }
     }
 
-    /// Tells a child to exit. If it was told to exit within a time before, it is killed once the time has come.
+    /// Ends a child: it monitors it, and tells it to exit. If it told it to exit within a time before, it kills it once
+    /// the time has come.
     #[tactic(auto, using(pt_workers::proofs::GoingOn::stays))]
     fn end(&mut self, desk: &mut Desk, now: u64, me: Pid, pid: Pid, shutdown: Shutdown) -> Next
-        ensures does { EndsChild me now pid shutdown (deadline pid (standing self.old).asked) (standing self.old) desk.old
-            result (standing self.new) desk.new }
+        ensures does { EndsChild me now pid shutdown (stage_of (standing self.old).asked pid) (standing self.old)
+            desk.old result (standing self.new) desk.new }
         ensures rest { standing self.new ≡ record (standing self.old) { asked = (standing self.new).asked } }
         ensures start { program_of self.new ≡ program_of self.old }
         ensures takes { takes desk.new.shard.journal ≡ takes desk.old.shard.journal }
         ensures goes_on { GoesOn desk.old desk.new }
     {
-        match self.deadline(pid) {
-            None => self.bid(desk, me, pid, shutdown.bids(), shutdown.until(now)),
-            Some(at) if now < at => Next::WaitUntil(Pick::ExitOf(pid), at),
-            Some(_) => self.bid(desk, me, pid, Reason::Kill, None),
-        }
-    }
-
-    /// Until when a process has to exit, if it was told to exit within a time.
-    fn deadline(&self, pid: Pid) -> Option<u64>
-        ensures { result ≡ deadline pid (standing self.now).asked }
-    {
-        match self.asked {
-            Some((asked, at)) if asked == pid => Some(at),
-            _ => None,
-        }
-    }
-
-    /// Sends a child an exit signal, and waits for its exit, until a time if there is one. Proceeds if the call fails.
-    #[tactic(auto, using(pt_workers::proofs::GoingOn::stays))]
-    fn bid(
-        &mut self,
-        desk: &mut Desk,
-        me: Pid,
-        pid: Pid,
-        reason: Reason,
-        until: Option<u64>,
-    ) -> Next
-        ensures does { Bids me pid reason until (standing self.old) desk.old result (standing self.new) desk.new }
-        ensures rest { standing self.new ≡ record (standing self.old) { asked = (standing self.new).asked } }
-        ensures start { program_of self.new ≡ program_of self.old }
-        ensures takes { takes desk.new.shard.journal ≡ takes desk.old.shard.journal }
-        ensures goes_on { GoesOn desk.old desk.new }
-    {
-        match (exit_signal(desk, me, pid, reason), until) {
-            (Err(_), _) => Next::Proceed,
-            (Ok(()), None) => Next::Wait(Pick::ExitOf(pid)),
-            (Ok(()), Some(at)) => {
-                self.asked = Some((pid, at));
-                Next::WaitUntil(Pick::ExitOf(pid), at)
+        match stage_of(self.asked, pid) {
+            None | Some(Stage::Gone) => self.watch(desk, now, me, pid, shutdown),
+            Some(Stage::Watched(monitor)) | Some(Stage::Waiting(monitor)) => {
+                self.tell(desk, me, pid, shutdown.bids(), shutdown.told(monitor, now))
+            }
+            Some(Stage::Until(monitor, at)) if now < at => {
+                Next::WaitUntil(Pick::DownOf(monitor), at)
+            }
+            Some(Stage::Until(monitor, _)) | Some(Stage::Killed(monitor)) => {
+                self.tell(desk, me, pid, Reason::Kill, Stage::Killed(monitor))
             }
         }
+    }
+
+    /// Monitors a child, and tells it to exit. If it has exited before, that is noted, and the supervisor proceeds. It
+    /// also proceeds if a call fails.
+    #[tactic(auto, using(pt_workers::proofs::GoingOn::stays, pt_desk::proofs::Turning::goes_on_then))]
+    fn watch(&mut self, desk: &mut Desk, now: u64, me: Pid, pid: Pid, shutdown: Shutdown) -> Next
+        ensures does { WatchesChild me now pid shutdown (standing self.old) desk.old result (standing self.new) desk.new }
+        ensures rest { standing self.new ≡ record (standing self.old) { asked = (standing self.new).asked } }
+        ensures start { program_of self.new ≡ program_of self.old }
+        ensures takes { takes desk.new.shard.journal ≡ takes desk.old.shard.journal }
+        ensures goes_on { GoesOn desk.old desk.new }
+    {
+        match monitor(desk, me, pid) {
+            Ok(made) => {
+                self.set_asked(Some(Asked {
+                    pid,
+                    stage: Stage::Watched(made),
+                }));
+                self.tell(desk, me, pid, shutdown.bids(), shutdown.told(made, now))
+            }
+            Err(fault) => {
+                self.find_gone(pid, fault);
+                Next::Proceed
+            }
+        }
+    }
+
+    /// Notes that a child has exited before, if a call was refused for that.
+    fn find_gone(&mut self, pid: Pid, fault: CallFault)
+        ensures standing { standing self.new ≡ cond (is_noproc fault) (at_stage pid Gone (standing self.old))
+            (standing self.old) }
+        ensures start { program_of self.new ≡ program_of self.old }
+    {
+        if is_noproc(fault) {
+            self.set_asked(Some(Asked {
+                pid,
+                stage: Stage::Gone,
+            }));
+        }
+    }
+
+    /// Sends a child that it monitors an exit signal. It has come to that stage then, and waits for the `DOWN`. Proceeds
+    /// if the call fails.
+    #[tactic(auto, using(pt_workers::proofs::GoingOn::stays))]
+    fn tell(&mut self, desk: &mut Desk, me: Pid, pid: Pid, reason: Reason, stage: Stage) -> Next
+        ensures does { TellsToEnd me pid reason stage (standing self.old) desk.old result (standing self.new) desk.new }
+        ensures rest { standing self.new ≡ record (standing self.old) { asked = (standing self.new).asked } }
+        ensures start { program_of self.new ≡ program_of self.old }
+        ensures takes { takes desk.new.shard.journal ≡ takes desk.old.shard.journal }
+        ensures goes_on { GoesOn desk.old desk.new }
+    {
+        if exit_signal(desk, me, pid, reason).is_err() {
+            return Next::Proceed;
+        }
+        self.set_asked(Some(Asked { pid, stage }));
+        stage.waits()
     }
 
     /// Starts the children that are missing, in order. Returns whether no call failed.

@@ -26,8 +26,8 @@ use Rattle.pt_structs.specs.declared.types.PtItem.{PtItem}
 use Rattle.pt_structs.specs.declared.types.PtTurned.{PtTurned}
 use Rattle.pt_structs.specs.declared.types.PtPick.{PtPick}
 use Rattle.pt_structs.specs.declared.types.PtReason.{PtReason}
-use Rattle.pt_structs.specs.Codes.{code_at, found_code, stop_code, unknown, bad_code}
-use Rattle.pt_structs.specs.Crossing.{pid_out, ref_out, item_out, pick_in, reason_in}
+use Rattle.pt_structs.specs.Codes.{IfCrosses, code_at, found_code, unknown}
+use Rattle.pt_structs.specs.Crossing.{pid_out, ref_out, item_out, pick_in, reason_in, turned_out}
 
 -- what is passed out ---------------------------------------------------------------------
 
@@ -67,12 +67,6 @@ LooksOnDesk old new = HasSameEnds old new × GoesOn old new
 abbrev pub IfKnownCode : Bool → ℕ → Type 0 → Type 0 → Type 0
 IfKnownCode true code kept P = P
 IfKnownCode false code kept P = (code ≡ unknown) × kept
-
--- a call that gets a struct with a code. If the code is none of its enumeration, that comes before all else that the desk
--- would refuse: the call's code says so, and nothing has changed
-abbrev pub IfCrosses : {A : Type 0} → Option A → ℕ → Type 0 → (A → Type 0) → Type 0
-IfCrosses (Some a) code kept P = P a
-IfCrosses None code kept P = (code ≡ bad_code) × kept
 
 unfoldable pub SpawnsOnDesk : ℕ → PtPid → PtPid → DeskState → DeskState → Type 0
 SpawnsOnDesk code before after old new =
@@ -143,9 +137,6 @@ unfoldable pub Exits : Pid → PtReason → ℕ → DeskState → DeskState → 
 Exits p reason code old new =
     IfCrosses (reason_in reason) code (new ≡ old)
     (λ why. AnswersCode code (λ r. Calls p (Some (Event.Left p why)) tt old.shard r new.shard) × StaysOnDesk old new)
-
-abbrev pub turned_out : Turned → PtTurned
-turned_out t = record { posted = t.posted; handled = t.handled; stopped = stop_code t.stopped }
 
 unfoldable pub TurnsOnce : ℕ → PtTurned → DeskState → DeskState → Type 0
 TurnsOnce budget out old new = (t : Turned) × (out ≡ turned_out t) × Turns budget old t new × GoesOn old new

@@ -22,12 +22,11 @@ use Rattle.pt_structs.specs.declared.types.PtJob.{PtJob}
 use Rattle.pt_structs.specs.declared.types.PtNext.{PtNext}
 use Rattle.pt_structs.specs.declared.types.PtPid.{PtPid}
 use Rattle.pt_structs.specs.declared.types.PtTurned.{PtTurned}
-use Rattle.pt_structs.specs.Codes.{not_running, some_code}
-use Rattle.pt_structs.specs.Crossing.{pid_crossed, pid_out}
+use Rattle.pt_structs.specs.Codes.{IfCrosses, IfOwn, not_running, some_code}
+use Rattle.pt_structs.specs.Crossing.{loss_numbered, pid_crossed, pid_out, turned_out}
 use Rattle.pt_structs.specs.Jobs.{job_out, next_in}
-use Rattle.pt_table.specs.Losing.{loss_numbered}
-use Rattle.pt_table.specs.Answers.{GivesCode, IfCrosses, ShowsCode, turned_out}
-use Rattle.pt_table.specs.Owning.{IfOwn, is_own}
+use Rattle.pt_table.specs.Answers.{GivesCode, ShowsCode}
+use Rattle.pt_table.specs.Owning.{is_own}
 
 -- spawning -------------------------------------------------------------------------------
 

@@ -6,11 +6,7 @@ use Rattle.pt_shard.specs.Losses.{items_lost, loser, reason_lost}
 use Rattle.pt_desk.specs.DeskState.{DeskState, GoesOn}
 use Rattle.pt_structs.specs.declared.types.PtLoss.{PtLoss}
 use Rattle.pt_structs.specs.Codes.{some_code}
-use Rattle.pt_structs.specs.Crossing.{pid_out, reason_or_none}
-
--- the loss with this number among those kept, the oldest first
-abbrev pub loss_numbered : DeskState → ℕ → Option Loss
-loss_numbered d place = slice_get d.shard.lost place
+use Rattle.pt_structs.specs.Crossing.{loss_numbered, pid_out, reason_or_none}
 
 abbrev pub loss_out : Loss → PtLoss
 loss_out l = record {

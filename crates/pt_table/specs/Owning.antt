@@ -1,23 +1,13 @@
 -- Whether a crew is used with its own desk.
-use Rattle.std.specs.Prelude.{◌≡◌, ℕ, ◌+◌, ◌==◌, ◌&&◌, Bool, true, false, List, [], ◌∷◌, Option, Some, None}
+use Rattle.std.specs.Prelude.{ℕ, ◌+◌, ◌&&◌, Bool, true, List, [], ◌∷◌, Option, Some, None}
 use Rattle.pt_desk.specs.DeskState.{DeskState}
 use Rattle.pt_hands.specs.declared.hands.Hands.{Hands}
 use Rattle.pt_hands.specs.Owning.{desk_of}
 use Rattle.pt_table.specs.Answers.{HandlePlace, value_behind}
-use Rattle.pt_structs.specs.Codes.{wrong_desk}
-
--- this is the number of the crew's desk, or the crew may be that of any
-abbrev pub is_number_of : Option ℕ → ℕ → Bool
-is_number_of (Some own) number = own == number
-is_number_of None number = true
+use Rattle.pt_structs.specs.Codes.{is_number_of}
 
 abbrev pub is_own : Hands → DeskState → Bool
 is_own h d = is_number_of (desk_of h) d.shard.number
-
--- a call of a crew over a desk: where that is another's the code says so, and nothing has changed
-abbrev pub IfOwn : Bool → ℕ → Type 0 → Type 0 → Type 0
-IfOwn true code kept P = P
-IfOwn false code kept P = (code ≡ wrong_desk) × kept
 
 -- a crew, if there is one, may be used with the desk of this place
 abbrev pub fits_at : ℕ → Option Hands → Bool

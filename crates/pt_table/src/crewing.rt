@@ -14,7 +14,8 @@ ghost use Rattle.pt_hands.specs.Pulling.{AttendsHands, crew_of, hand_views};
 ghost use Rattle.pt_table.specs.Answers.{ShowsCode};
 ghost use Rattle.pt_table.specs.Crewing.{AnswersOne, CrewBeginsAgain, CrewSteps, CrewTells, HandsOutRow, NotesIfOwn};
 ghost use Rattle.pt_table.specs.Crewing.{PullsRow, SpawnsChildInCrew, SpawnsInCrew, TakesAnswers, TellsTime};
-ghost use Rattle.pt_table.specs.Owning.{IfOwn, is_own};
+ghost use Rattle.pt_structs.specs.Codes.{IfOwn};
+ghost use Rattle.pt_table.specs.Owning.{is_own};
 ghost use Rattle.pt_structs.specs.Jobs.{next_out};
 
 use pt_hands::Hands;

@@ -3,7 +3,8 @@
 ghost use Rattle.std.specs.Prelude.{◌≡◌};
 ghost use Rattle.pt_table.specs.Answers.{ShowsCode};
 ghost use Rattle.pt_structs.specs.Crossing.{item_out};
-ghost use Rattle.pt_table.specs.Losing.{KeepsLosses, PassesLoss, item_lost, loss_numbered, loss_out};
+ghost use Rattle.pt_structs.specs.Crossing.{loss_numbered};
+ghost use Rattle.pt_table.specs.Losing.{KeepsLosses, PassesLoss, item_lost, loss_out};
 
 use pt_node::{Desk, Loss};
 use pt_structs::codes::{DONE, NOTHING};

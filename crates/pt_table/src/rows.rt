@@ -5,7 +5,8 @@ ghost use Rattle.std.specs.Vec.{vec_capacity};
 ghost use Rattle.pt_table.specs.Answers.{value_behind, values, full};
 ghost use Rattle.pt_table.specs.InOrder.{are_in_order, is_desk_at};
 ghost use Rattle.pt_table.specs.GoingOn.{AllCrewsGoOn, CrewGoesOn};
-ghost use Rattle.pt_table.specs.Owning.{are_own, fits_at, is_number_of};
+ghost use Rattle.pt_structs.specs.Codes.{is_number_of};
+ghost use Rattle.pt_table.specs.Owning.{are_own, fits_at};
 ghost use Rattle.pt_hands.specs.Owning.{desk_of};
 
 use crate::crew_handle::{CrewHandle, claim as claim_crew, hold as hold_crew, is_full as has_crew};

@@ -20,8 +20,8 @@ use Rattle.pt_structs.specs.Crossing.{no_pid}
 use Rattle.pt_structs.specs.Jobs.{no_next}
 use Rattle.pt_team_handles.specs.declared.types.PtChildSpec.{PtChildSpec}
 use Rattle.pt_team_handles.specs.Crossing.{child_in, child_or, children_in, notice_out}
-use Rattle.pt_team_handles.specs.Owning.{IfTeamsDesk}
-use Rattle.pt_team_handles.specs.Teaming.{TeamAnswersAll, TeamAnswersOne, HandsOutNotices, IfCodesFit, IsNewTeam, KeepsTeam, PullsNoticeRow, TeamTakesAnswers}
+use Rattle.pt_structs.specs.Codes.{IfCrosses, IfOwn}
+use Rattle.pt_team_handles.specs.Teaming.{TeamAnswersAll, TeamAnswersOne, HandsOutNotices, IsNewTeam, KeepsTeam, PullsNoticeRow, TeamTakesAnswers}
 use Rattle.pt_team_handles.specs.Through.{OpensTeam}
 
 -- a row of notices ----------------------------------------------------------------------
@@ -187,12 +187,12 @@ keeps_then old mid new h k = (λ d a. k.0 d (h.0 d a), λ past d u. k.1 past d (
 -- what a call comes to that gets a struct with a code and a desk -------------------------
 
 -- the code is one of its enumeration
-pub codes_fit : {A : Type 0} (o : Option A) (a : A) (code : ℕ) (kept : Type 0) (P : A → Type 0) → o ≡ Some a → P a → IfCodesFit o code kept P
-codes_fit o a code kept P is p = subst (λ (q : Option _). IfCodesFit q code kept P) (sym is) p
+pub codes_fit : {A : Type 0} (o : Option A) (a : A) (code : ℕ) (kept : Type 0) (P : A → Type 0) → o ≡ Some a → P a → IfCrosses o code kept P
+codes_fit o a code kept P is p = subst (λ (q : Option _). IfCrosses q code kept P) (sym is) p
 
 -- and the desk is the team's own
-pub desk_fits : (own : Bool) (code : ℕ) (kept P : Type 0) → own ≡ true → P → IfTeamsDesk own code kept P
-desk_fits own code kept P is p = subst (λ (b : Bool). IfTeamsDesk b code kept P) (sym is) p
+pub desk_fits : (own : Bool) (code : ℕ) (kept P : Type 0) → own ≡ true → P → IfOwn own code kept P
+desk_fits own code kept P is p = subst (λ (b : Bool). IfOwn b code kept P) (sym is) p
 
 -- the children of a row whose codes all are of their enumerations
 pub children_known : (cs : List PtChildSpec) → list_all (λ (c : PtChildSpec). is_some (child_in c)) cs ≡ true → children_in cs ≡ Some (map (λ c. child_or (child_in c)) cs)

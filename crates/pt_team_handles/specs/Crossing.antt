@@ -19,8 +19,7 @@ use Rattle.pt_teams.specs.declared.member.Notice.{Notice}
 use Rattle.pt_teams.specs.declared.plan.ChildSpec.{ChildSpec}
 use Rattle.pt_teams.specs.declared.plan.Origin.{Origin}
 use Rattle.pt_teams.specs.declared.plan.SupervisorSpec.{SupervisorSpec}
-use Rattle.pt_structs.specs.declared.types.PtPid.{PtPid}
-use Rattle.pt_structs.specs.Crossing.{no_pid, pid_crossed, pid_out}
+use Rattle.pt_structs.specs.Crossing.{pid_crossed, pid_or_none}
 use Rattle.pt_structs.specs.Jobs.{job_out}
 use Rattle.pt_team_handles.specs.declared.types.PtChild.{PtChild}
 use Rattle.pt_team_handles.specs.declared.types.PtChildSpec.{PtChildSpec}
@@ -90,16 +89,11 @@ abbrev pub shutdown_time : Shutdown → ℕ
 shutdown_time (After time) = time
 shutdown_time _ = 0
 
--- a process, if there is one
-abbrev pub some_pid : Option Pid → PtPid
-some_pid (Some p) = pid_out p
-some_pid None = no_pid
-
 abbrev pub child_out : Child → PtChild
 child_out c = record {
   has_pid = is_some c.pid;
   wanted = c.wanted;
-  pid = some_pid c.pid;
+  pid = pid_or_none c.pid;
   restart = restart_code c.restart;
   shutdown = shutdown_code c.shutdown;
   time = shutdown_time c.shutdown;
@@ -129,5 +123,5 @@ notice_out n = record {
   job = job_out (job_of_notice n);
   has_supervisor = is_some (origin_told n.news);
   again = is_again (origin_told n.news);
-  supervisor = some_pid (option_map (λ (o : Origin). o.supervisor) (origin_told n.news));
+  supervisor = pid_or_none (option_map (λ (o : Origin). o.supervisor) (origin_told n.news));
 }

@@ -1,5 +1,5 @@
 -- What the calls of a team answer C, and what they leave.
-use Rattle.std.specs.Prelude.{◌≡◌, ◌≢◌, ◌⊎◌, ℕ, ◌+◌, Bool, true, false, List, [], ◌∷◌, ◌++◌, length, map, take, drop, slice_get, slice_set}
+use Rattle.std.specs.Prelude.{◌≡◌, ◌≢◌, ◌⊎◌, ℕ, ◌+◌, Bool, true, false, List, [], ◌∷◌, ◌++◌, length, map, take, drop, slice_set}
 use Rattle.std.specs.Prelude.{Option, Some, None, Result, Ok, Err}
 use Rattle.pt_signal.specs.declared.pid.Pid.{Pid}
 use Rattle.pt_events.specs.History.{Past}
@@ -29,8 +29,8 @@ use Rattle.pt_structs.specs.declared.types.PtAnswer.{PtAnswer}
 use Rattle.pt_structs.specs.declared.types.PtNext.{PtNext}
 use Rattle.pt_structs.specs.declared.types.PtPid.{PtPid}
 use Rattle.pt_structs.specs.declared.types.PtTurned.{PtTurned}
-use Rattle.pt_structs.specs.Codes.{bad_code, code_at, not_running, some_code, stop_code}
-use Rattle.pt_structs.specs.Crossing.{pid_crossed, pid_out}
+use Rattle.pt_structs.specs.Codes.{IfCrosses, IfOwn, code_at, not_running, some_code}
+use Rattle.pt_structs.specs.Crossing.{loss_numbered, pid_crossed, pid_out, turned_out}
 use Rattle.pt_structs.specs.Jobs.{next_in}
 use Rattle.pt_places.specs.Places.{ShowsCode}
 use Rattle.pt_team_handles.specs.declared.desk_team.DeskTeam.{DeskTeam}
@@ -39,7 +39,7 @@ use Rattle.pt_team_handles.specs.declared.types.PtChildSpec.{PtChildSpec}
 use Rattle.pt_team_handles.specs.declared.types.PtNotice.{PtNotice}
 use Rattle.pt_team_handles.specs.declared.types.PtSupervisorSpec.{PtSupervisorSpec}
 use Rattle.pt_team_handles.specs.Crossing.{child_out, children_in, notice_out, spec_in}
-use Rattle.pt_team_handles.specs.Owning.{IfTeamsDesk, is_teams_desk}
+use Rattle.pt_team_handles.specs.Owning.{is_teams_desk}
 
 -- with no process, for whichever desk
 pub record IsNewTeam (t : DeskTeam) : Type 0 where
@@ -51,12 +51,6 @@ pub record IsNewTeam (t : DeskTeam) : Type 0 where
   pub upholds : (past : Past) (d : ShardState) → TeamUpholds past t.team d
 
 -- spawning -------------------------------------------------------------------------------
-
--- a call that gets a struct with a code. If the code is none of its enumeration, that comes before all else that would be
--- refused: the call's code says so, and nothing has changed
-abbrev pub IfCodesFit : {A : Type 0} → Option A → ℕ → Type 0 → (A → Type 0) → Type 0
-IfCodesFit (Some a) code kept P = P a
-IfCodesFit None code kept P = (code ≡ bad_code) × kept
 
 -- the pid of an answer, and what stood there where there is none
 abbrev pub pid_or : PtPid → Result Pid Fault → PtPid
@@ -78,8 +72,8 @@ StillUpholds old d new e = (past : Past) → TeamUpholds past old d.shard → Te
 
 abbrev pub SpawnsInTeam : ℕ → PtNext → ℕ → PtPid → PtPid → DeskTeam → DeskState → DeskTeam → DeskState → Type 0
 SpawnsInTeam tag first code before after old d new e =
-    IfCodesFit (next_in first) code ((new ≡ old) × (e ≡ d) × (after ≡ before))
-    (λ next. IfTeamsDesk (is_teams_desk old d) code ((new ≡ old) × (e ≡ d) × (after ≡ before))
+    IfCrosses (next_in first) code ((new ≡ old) × (e ≡ d) × (after ≡ before))
+    (λ next. IfOwn (is_teams_desk old d) code ((new ≡ old) × (e ≡ d) × (after ≡ before))
     (SpawnsAs code before after
     (λ r. Enters (new_member tag None) next (team_crew old.team) d.shard r (team_crew new.team) e.shard)
     old.desk d.shard.number new.desk
@@ -97,8 +91,8 @@ SpawnsChildNext parent linked tag code before after old d new e next =
 abbrev pub SpawnsChildInTeam : Pid → Bool → ℕ → PtNext → ℕ → PtPid → PtPid → DeskTeam → DeskState → DeskTeam → DeskState
     → Type 0
 SpawnsChildInTeam parent linked tag first code before after old d new e =
-    IfCodesFit (next_in first) code ((new ≡ old) × (e ≡ d) × (after ≡ before))
-    (λ next. IfTeamsDesk (is_teams_desk old d) code ((new ≡ old) × (e ≡ d) × (after ≡ before))
+    IfCrosses (next_in first) code ((new ≡ old) × (e ≡ d) × (after ≡ before))
+    (λ next. IfOwn (is_teams_desk old d) code ((new ≡ old) × (e ≡ d) × (after ≡ before))
     (SpawnsChildNext parent linked tag code before after old d new e next))
 
 -- so, once what is passed in and the desk fit
@@ -114,15 +108,12 @@ SpawnsBossOf tag code before after old d new e known kids =
 abbrev pub SpawnsBossInTeam : ℕ → PtSupervisorSpec → List PtChildSpec → ℕ → PtPid → PtPid → DeskTeam → DeskState → DeskTeam
     → DeskState → Type 0
 SpawnsBossInTeam tag spec children code before after old d new e =
-    IfCodesFit (spec_in spec) code ((new ≡ old) × (e ≡ d) × (after ≡ before))
-    (λ known. IfCodesFit (children_in children) code ((new ≡ old) × (e ≡ d) × (after ≡ before))
-    (λ kids. IfTeamsDesk (is_teams_desk old d) code ((new ≡ old) × (e ≡ d) × (after ≡ before))
+    IfCrosses (spec_in spec) code ((new ≡ old) × (e ≡ d) × (after ≡ before))
+    (λ known. IfCrosses (children_in children) code ((new ≡ old) × (e ≡ d) × (after ≡ before))
+    (λ kids. IfOwn (is_teams_desk old d) code ((new ≡ old) × (e ≡ d) × (after ≡ before))
     (SpawnsBossOf tag code before after old d new e known kids)))
 
 -- a step ---------------------------------------------------------------------------------
-
-abbrev pub turn_out : Turned → PtTurned
-turn_out t = record { posted = t.posted; handled = t.handled; stopped = stop_code t.stopped }
 
 -- The first of the queue is come to. What it is told stands at that place then, if it is told anything.
 abbrev pub WritesNoticeRow : ℕ → List PtNotice → Option Notice → ℕ → List PtNotice → Type 0
@@ -148,7 +139,7 @@ pub record HandsOutNotices (notices : List PtNotice) (old : Team) (d : ShardStat
 pub record TeamSteps (budget : ℕ) (notices : List PtNotice) (old : Team) (d : DeskState) (out : PtTurned) (count : ℕ)
     (later : List PtNotice) (new : Team) (e : DeskState) : Type 0 where
   pub turned : Turned
-  pub turned_is : out ≡ turn_out turned
+  pub turned_is : out ≡ turned_out turned
   pub mid : DeskState
   pub turns : Turns budget d turned mid
   pub begun : Team
@@ -180,7 +171,7 @@ pub record TeamAnswersNext (p : Pid) (next : Next) (code : ℕ) (old new : Team)
 
 abbrev pub TeamAnswersOne : PtAnswer → ℕ → Team → Team → Type 0
 TeamAnswersOne a code old new =
-    IfCodesFit (next_in a.next) code (new ≡ old) (λ next. TeamAnswersNext (pid_crossed a.pid) next code old new)
+    IfCrosses (next_in a.next) code (new ≡ old) (λ next. TeamAnswersNext (pid_crossed a.pid) next code old new)
 
 -- all of these were taken, one after the other
 abbrev pub TeamAnswersAll : List PtAnswer → Team → Team → Type 0
@@ -211,14 +202,10 @@ pub record SupervisesAs (p : Pid) (spec : SupervisorSpec) (children : List Child
 
 abbrev pub TeamSupervises : Pid → PtSupervisorSpec → List PtChildSpec → ℕ → Team → Team → Type 0
 TeamSupervises p spec children code old new =
-    IfCodesFit (spec_in spec) code (new ≡ old)
-    (λ known. IfCodesFit (children_in children) code (new ≡ old) (λ kids. SupervisesAs p known kids code old new))
+    IfCrosses (spec_in spec) code (new ≡ old)
+    (λ known. IfCrosses (children_in children) code (new ≡ old) (λ kids. SupervisesAs p known kids code old new))
 
 -- losses ---------------------------------------------------------------------------------
-
--- the loss with this number among those kept, the oldest first
-abbrev pub loss_in_place : DeskState → ℕ → Option Loss
-loss_in_place d place = slice_get d.shard.lost place
 
 -- what a loss tells is noted, if there is one
 abbrev pub TeamNotesIfAny : Option Loss → Team → Team → Type 0
@@ -233,7 +220,7 @@ pub record TeamNotes (loss : Option Loss) (code : ℕ) (old new : DeskTeam) : Ty
 
 -- so, if the desk is the team's own
 abbrev pub TeamNotesIfOwn : ℕ → ℕ → DeskTeam → DeskState → DeskTeam → Type 0
-TeamNotesIfOwn place code old d new = IfTeamsDesk (is_teams_desk old d) code (new ≡ old) (TeamNotes (loss_in_place d place) code old new)
+TeamNotesIfOwn place code old d new = IfOwn (is_teams_desk old d) code (new ≡ old) (TeamNotes (loss_numbered d place) code old new)
 
 -- going on, and what is read -------------------------------------------------------------
 
@@ -258,7 +245,7 @@ pub record TellsTeamIdle (t : Team) (d : DeskState) (yes : Bool) : Type 0 where
 
 -- so, if the desk is the team's own
 abbrev pub TeamTells : ℕ → DeskTeam → DeskState → Bool → Bool → Type 0
-TeamTells code t d before after = IfTeamsDesk (is_teams_desk t d) code (after ≡ before) ((code ≡ 0) × TellsTeamIdle t.team d after)
+TeamTells code t d before after = IfOwn (is_teams_desk t d) code (after ≡ before) ((code ≡ 0) × TellsTeamIdle t.team d after)
 
 abbrev pub TellsTeamTime : Team → ℕ → ℕ → ℕ → Type 0
 TellsTeamTime t code before after =

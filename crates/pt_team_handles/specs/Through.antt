@@ -9,12 +9,12 @@ use Rattle.pt_teams.specs.Teaming.{TeamGoesOn, team_crew}
 use Rattle.pt_places.specs.Places.{HandlePlace, empty, full}
 use Rattle.pt_structs.specs.declared.types.PtAnswer.{PtAnswer}
 use Rattle.pt_structs.specs.declared.types.PtTurned.{PtTurned}
-use Rattle.pt_structs.specs.Codes.{filled}
+use Rattle.pt_structs.specs.Codes.{IfOwn, filled}
 use Rattle.pt_team_handles.specs.declared.desk_team.DeskTeam.{DeskTeam}
 use Rattle.pt_team_handles.specs.declared.types.PtChildSpec.{PtChildSpec}
 use Rattle.pt_team_handles.specs.declared.types.PtNotice.{PtNotice}
 use Rattle.pt_team_handles.specs.declared.types.PtSupervisorSpec.{PtSupervisorSpec}
-use Rattle.pt_team_handles.specs.Owning.{IfTeamsDesk, is_teams_desk}
+use Rattle.pt_team_handles.specs.Owning.{is_teams_desk}
 use Rattle.pt_team_handles.specs.Teaming.{IsNewTeam, KeepsTeam, TeamSupervises, TeamTakesAnswers, TeamBeginsAgain, TeamSteps}
 
 -- The handle has a new team; or there was no memory, or it had one already, and it is as it was.
@@ -56,7 +56,7 @@ pub record SetsTeamTime (now code : ℕ) (old new : DeskTeam) : Type 0 where
 abbrev pub StepsIfOwn : ℕ → ℕ → List PtNotice → List PtNotice → ℕ → ℕ → PtTurned → PtTurned → DeskTeam → DeskState → DeskTeam
     → DeskState → Type 0
 StepsIfOwn budget code notices later before count out turned old d new e =
-    IfTeamsDesk (is_teams_desk old d) code
+    IfOwn (is_teams_desk old d) code
     ((new ≡ old) × (e ≡ d) × (later ≡ notices) × (count ≡ before) × (turned ≡ out))
     ((code ≡ 0) × (new.desk ≡ Some d.shard.number)
     × TeamSteps budget notices old.team d turned count later new.team e)

@@ -4,7 +4,8 @@ ghost use Rattle.std.specs.Prelude.{◌≡◌, IfOk, is_some, map};
 ghost use Rattle.std.specs.List.{list_all};
 ghost use Rattle.pt_team_handles.specs.Crossing.{child_in, child_or, child_out, notice_out, origin_told};
 ghost use Rattle.pt_team_handles.specs.Crossing.{restart_code, restart_in, shutdown_code, shutdown_in, shutdown_time};
-ghost use Rattle.pt_team_handles.specs.Crossing.{some_pid, spec_in, strategy_code, strategy_in, what_told};
+ghost use Rattle.pt_structs.specs.Crossing.{pid_or_none};
+ghost use Rattle.pt_team_handles.specs.Crossing.{spec_in, strategy_code, strategy_in, what_told};
 
 use crate::types::{PtChild, PtChildSpec, PtNotice, PtSupervisorSpec};
 use pt_hands::{Job, What};
@@ -161,8 +162,8 @@ fn shutdown_time(shutdown: Shutdown) -> u64
 }
 
 /// The process, if there is one; else all fields are zero.
-fn some_pid(pid: Option<Pid>) -> PtPid
-    ensures { result ≡ some_pid pid }
+fn pid_or_none(pid: Option<Pid>) -> PtPid
+    ensures { result ≡ pid_or_none pid }
 {
     match pid {
         Some(pid) => pid_out(pid),
@@ -180,7 +181,7 @@ pub fn child_out(child: Child) -> PtChild
     PtChild {
         has_pid: child.pid.is_some(),
         wanted: child.wanted,
-        pid: some_pid(child.pid),
+        pid: pid_or_none(child.pid),
         restart: restart_code(child.restart),
         shutdown: shutdown_code(child.shutdown),
         time: shutdown_time(child.shutdown),
@@ -228,7 +229,7 @@ pub fn notice_out(notice: Notice) -> PtNotice
             job,
             has_supervisor: false,
             again: false,
-            supervisor: some_pid(None),
+            supervisor: pid_or_none(None),
         },
     }
 }

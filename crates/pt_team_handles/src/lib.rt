@@ -10,9 +10,9 @@
 //! - **Structs.** What a supervisor is made of crosses to its struct and back, and so does what is told of a process.
 //!   (`spec_in`, `children_in`, `notice_out`)
 //! - **Bad codes.** A supervisor or a child with a code that means nothing is refused, before all else, and nothing has
-//!   changed. So is what a process does next. (`IfCodesFit`)
+//!   changed. So is what a process does next. (`IfCrosses`)
 //! - **One desk.** A call over a desk with another number than that of the team's own is refused, and nothing has changed.
-//!   (`IfTeamsDesk`, `are_teams_own`)
+//!   (`IfOwn`, `are_teams_own`)
 //! - **Steps.** A step hands out what `Team` hands out, each notice as its struct. A start is told with the tag of its
 //!   place, its supervisor, and whether a child in that place had exited. (`TeamSteps`, `HandsOutNotices`)
 //! - **Answers.** Of a row of answers each is taken up to the first that is refused. A running process may be answered

@@ -3,7 +3,8 @@
 ghost use Rattle.std.specs.Prelude.{◌≡◌, length, map, reverse};
 ghost use Rattle.pt_places.specs.Places.{value_behind, values};
 ghost use Rattle.pt_team_handles.specs.GoingOn.{AllTeamsGoOn, TeamOfHandleGoesOn};
-ghost use Rattle.pt_team_handles.specs.Owning.{are_teams_own, is_teams_number, team_fits_at};
+ghost use Rattle.pt_structs.specs.Codes.{is_number_of};
+ghost use Rattle.pt_team_handles.specs.Owning.{are_teams_own, team_fits_at};
 
 use crate::desk_team::DeskTeam;
 use crate::team_handle::{TeamHandle, claim, hold, is_full};
@@ -53,7 +54,7 @@ fn fits_at(alloc: Global, h: &mut TeamHandle, place: usize) -> bool
 
 /// Whether this is the number of the team's desk, or the team may be that of any desk.
 fn has_number(own: &DeskTeam, number: usize) -> bool
-    ensures { result ≡ is_teams_number own.now.desk number }
+    ensures { result ≡ is_number_of own.now.desk number }
 {
     match own.desk {
         Some(desk) => usize::from(desk) == number,

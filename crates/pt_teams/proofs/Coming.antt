@@ -53,7 +53,7 @@ module _ (time : ℕ) (p : Pid) (b : Member) (n : Next) (births : List (Role Mem
     pub taken : takes mid.journal ≡ item_handed p item ++ takes d.journal
     pub next : Next
     pub later : Supervisor Plan
-    pub handles : BossHandles boss mid p item next later e births
+    pub handles : BossHandles time boss mid p item next later e births
     pub now_is : now ≡ Some (record b { boss = Some later }, next)
     pub takes : takes e.journal ≡ item_handed p item ++ takes d.journal
     pub stays : leaves_crew t ≡ false
@@ -97,13 +97,13 @@ dead_told true n noted lost p journal dead is = absurd (cc)
 dead_told false n noted lost p journal dead is = ap (λ (o : Option Reason). noted_reason o lost) is
 
 module _ (time : ℕ) (p : Pid) (b : Member) (n : Next) (d e : ShardState) (t : Tended) (now : Option (Member × Next)) (births : List (Role Member)) where
-  hands_it : (item : Option Item) (mid : ShardState) → MayBeHanded time n item → takes mid.journal ≡ item_handed p item ++ takes d.journal → HandsTo member_answers p b item mid t now e births → MemberComes time p b n births d t now e
+  hands_it : (item : Option Item) (mid : ShardState) → MayBeHanded time n item → takes mid.journal ≡ item_handed p item ++ takes d.journal → HandsTo (member_answers time) p b item mid t now e births → MemberComes time p b n births d t now e
   hands_it item mid may took h = go b.boss refl h.answer.1
     where
       stays : leaves_crew t ≡ false
       stays = ap leaves_crew h.tended ∙ handed_stays h.next (phase_of e p)
 
-      go : (o : Option (Supervisor Plan)) → b.boss ≡ o → AnswersBy o b mid p item h.next h.behaviour e births → MemberComes time p b n births d t now e
+      go : (o : Option (Supervisor Plan)) → b.boss ≡ o → AnswersBy o time b mid p item h.next h.behaviour e births → MemberComes time p b n births d t now e
       go None is a = inl (record {
         item = item;
         outside = is;
@@ -164,12 +164,12 @@ module _ (time : ℕ) (p : Pid) (b : Member) (n : Next) (d e : ShardState) (t : 
   asked r is (Err Myself) calls ends = absurd calls
   asked r is (Err NoProc) calls ends = absurd calls
 
-  none_left : (over : Bool) (mid : ShardState) → mid ≡ d → (over ≡ true → MayBeHanded time n None) → MatchBool over (HandsTo member_answers p b None mid t now e births) (StaysAs Idle (b, n) mid t now e) → MemberComes time p b n births d t now e
+  none_left : (over : Bool) (mid : ShardState) → mid ≡ d → (over ≡ true → MayBeHanded time n None) → MatchBool over (HandsTo (member_answers time) p b None mid t now e births) (StaysAs Idle (b, n) mid t now e) → MemberComes time p b n births d t now e
   none_left true mid same may h = hands_it None mid (may refl) (ap (λ (x : ShardState). takes x.journal) same) h
   none_left false mid same may h = stays_so Idle mid same (inl refl) h
 
   took : (k : Pick) (over : Bool) (result : Result (Option Item) Fault) (mid : ShardState) → pick_of n ≡ Some k → (over ≡ true → MayBeHanded time n None) → Calls p (take_event d p k) (first_match d p k) d result mid
-      → TakesAs member_answers p (b, n) over mid result t now e births → MemberComes time p b n births d t now e
+      → TakesAs (member_answers time) p (b, n) over mid result t now e births → MemberComes time p b n births d t now e
   took k over (Ok None) mid picks may calls h = none_left over mid (calls.3 ∙ ap (λ (o : Option Item). after_if (option_map (Took p k) o) d) (sym calls.2)) may h
   took k over (Ok (Some i)) mid picks may calls h = hands_it (Some i) mid (k, picks, found_fits (fits k) (state_in d p).waiting i calls.2) (one_taken p k i d mid calls) h
   took k over (Err Gone) mid picks may calls h = left_so mid calls.1 calls.0 h
@@ -179,7 +179,7 @@ module _ (time : ℕ) (p : Pid) (b : Member) (n : Next) (d e : ShardState) (t : 
   took k over (Err Myself) mid picks may calls h = absurd calls
   took k over (Err NoProc) mid picks may calls h = absurd calls
 
-  proceeds : (alive : Bool) → lives d p ≡ alive → n ≡ Proceed → MatchBool alive (HandsTo member_answers p b None d t now e births) (LeavesAs d t now e) → MemberComes time p b n births d t now e
+  proceeds : (alive : Bool) → lives d p ≡ alive → n ≡ Proceed → MatchBool alive (HandsTo (member_answers time) p b None d t now e births) (LeavesAs d t now e) → MemberComes time p b n births d t now e
   proceeds true is goes_on h = hands_it None d (inl goes_on) refl h
   proceeds false is goes_on h = left_so d refl is h
 

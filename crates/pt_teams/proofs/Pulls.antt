@@ -214,7 +214,7 @@ module _ (old noted : Team) (d e : ShardState) (run : Crew Member) (p : Pid) (w 
       born_fresh : HasHandled (time_of old.crew) p w.member w.next (bore (waiting noted.crew) (waiting run)) d w.visits.tended (roles run p) e → AreUntold (bore (waiting noted.crew) (waiting run))
       born_fresh h =
           let k = h.handles in
-          let b : BearsFrom starts_post p k.waited (k.waited ++ bore (waiting noted.crew) (waiting run)) = handles_bear starts_post p k.time h.item _ h.next _ k.handles in
+          let b : BearsFrom starts_post p k.waited (k.waited ++ bore (waiting noted.crew) (waiting run)) = handles_bear starts_post p (time_of old.crew) h.item _ h.next _ k.handles in
           let same : bore (waiting noted.crew) (waiting run) ≡ b.0 =
           sym (drop-append_seam k.waited (bore (waiting noted.crew) (waiting run))) ∙ ap (bore k.waited) b.1 ∙ drop-append_seam k.waited b.0 in
           subst AreUntold (sym same) (all_fresh p b.0 b.2)

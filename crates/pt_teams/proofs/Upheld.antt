@@ -54,7 +54,7 @@ module _ (past : Past) where
   holds = Keeps past boss_part
 
   pub team_upheld : IsUpheld member_answers (Keeps past boss_part)
-  team_upheld = upheld past boss_part member_answers (λ b d me item next now e births h. h.0)
+  team_upheld = upheld past boss_part member_answers (λ time b d me item next now e births h. h.0)
 
   -- of what is seen of a member
   abbrev pub HoldsSeen : MemberView → Pid → ShardState → Type 0

@@ -11,6 +11,7 @@ use Rattle.pt_crew.specs.declared.births.Role.{Role}
 use Rattle.pt_crew.specs.Visiting.{Answers}
 use Rattle.pt_hands.specs.Pulling.{noted_reason, reason_told}
 use Rattle.pt_supervisor.specs.declared.supervisor.Supervisor.{Supervisor}
+use Rattle.pt_supervisor.specs.Ending.{child_end_heard}
 use Rattle.pt_supervisor.specs.Hearing.{program_of, standing}
 use Rattle.pt_supervisor.specs.Supervising.{SupervisorHandles}
 use Rattle.pt_supervisor.specs.Keeping.{AnswerAs, PartOf}
@@ -26,17 +27,17 @@ use Rattle.pt_teams.specs.Planning.{posts_heard, posts_of, starts_post}
 abbrev pub boss_part : PartOf Member
 boss_part b = option_map standing b.boss
 
--- A supervisor handles an item, or none, on its desk. It notes before which child has exited, and its plan says what those
--- whom it starts begin as.
-pub record BossHandles (old : Supervisor Plan) (d : ShardState) (me : Pid) (item : Option Item) (next : Next)
+-- A supervisor handles an item, or none, on its desk at this time. It notes before which child has exited, and its plan
+-- says what those whom it starts begin as.
+pub record BossHandles (time : ℕ) (old : Supervisor Plan) (d : ShardState) (me : Pid) (item : Option Item) (next : Next)
     (new : Supervisor Plan) (e : ShardState) (births : List (Role Member)) : Type 0 where
   pub plan : Plan
-  pub heard : posts_of plan ≡ posts_heard item (standing old).children (posts_of (program_of old))
+  pub heard : posts_of plan
+      ≡ posts_heard (child_end_heard item (standing old).asked) (standing old).children (posts_of (program_of old))
   pub desk : DeskState
   pub later : DeskState
   pub before : desk.shard ≡ d
   pub after : later.shard ≡ e
-  pub time : ℕ
   pub waited : List (Role Member)
   pub handles : SupervisorHandles starts_post me time item
       (record { start = plan; standing = standing old; desk = desk; born = waited }) next
@@ -44,16 +45,16 @@ pub record BossHandles (old : Supervisor Plan) (d : ShardState) (me : Pid) (item
 
 -- one whose handler is outside has what it was handed then, and is running; a supervisor handles it
 abbrev pub AnswersBy : Option (Supervisor Plan) → Answers Member
-AnswersBy None old d me item next new e births =
+AnswersBy None time old d me item next new e births =
     (next ≡ Running) × (new ≡ record old { notes = record (old.notes) { handed = Some item } }) × (e ≡ d) × (births ≡ [])
-AnswersBy (Some boss) old d me item next new e births =
+AnswersBy (Some boss) time old d me item next new e births =
     (later : Supervisor Plan) × (new ≡ record old { boss = Some later })
-    × BossHandles boss d me item next later e births
+    × BossHandles time boss d me item next later e births
 
 -- so it is a supervisor as `Supervised` asks, or acts for itself alone
 abbrev pub member_answers : Answers Member
-member_answers old d me item next new e births =
-    AnswerAs boss_part old d me item next new e births × AnswersBy old.boss old d me item next new e births
+member_answers time old d me item next new e births =
+    AnswerAs boss_part time old d me item next new e births × AnswersBy old.boss time old d me item next new e births
 
 -- what a process is told that was handed this, by whether it has begun, who started it, and what it was to do
 abbrev pub news_of : Bool → Option Origin → Option Next → Option Item → News

@@ -1,13 +1,11 @@
 -- What a supervisor starts: the tag of each place, and whether a child that was there has exited.
 use Rattle.std.specs.Prelude.{◌≡◌, ℕ, true, false, List, [], map, Option, Some, None, Result, Ok, Err, length, position, slice_get, slice_set}
 use Rattle.pt_signal.specs.declared.pid.Pid.{Pid}
-use Rattle.pt_signal.specs.declared.item.Item.{Item}
-use Rattle.pt_signal.specs.declared.item.Item.TheVariants.{Exit as Exits}
 use Rattle.pt_shard.specs.declared.fault.Fault.{Fault}
 use Rattle.pt_crew.specs.declared.behaviour.Next.{Next}
 use Rattle.pt_crew.specs.declared.behaviour.Next.TheVariants.{Proceed}
 use Rattle.pt_supervisor.specs.declared.children.Child.{Child}
-use Rattle.pt_supervisor.specs.Children.{is_child}
+use Rattle.pt_signal.specs.Values.{is_pid}
 use Rattle.pt_supervisor.specs.Hearing.{Standing}
 use Rattle.pt_supervisor.specs.Supervising.{StartsOf}
 use Rattle.pt_teams.specs.declared.member.Member.{Member}
@@ -33,10 +31,10 @@ abbrev pub again_at : Option ℕ → List Post → List Post
 again_at None posts = posts
 again_at (Some place) posts = with_again place posts
 
--- so it is of a child of whose exit the supervisor gets the item
-abbrev pub posts_heard : Option Item → List Child → List Post → List Post
-posts_heard (Some (Exits from r)) children posts = again_at (position (λ c. is_child c.pid from) children) posts
-posts_heard item children posts = posts
+-- so it is of a child of whose exit the supervisor hears
+abbrev pub posts_heard : Option Pid → List Child → List Post → List Post
+posts_heard (Some from) children posts = again_at (position (λ c. is_pid c.pid from) children) posts
+posts_heard None children posts = posts
 
 -- what a child begins as
 abbrev pub new_child : Post → Pid → Member

@@ -3,10 +3,10 @@ use Rattle.std.specs.Prelude.{◌≡◌, ℕ, ◌<◌, true, List, length, map, 
 use Rattle.pt_events.specs.History.{Past}
 use Rattle.pt_desk.specs.DeskState.{DeskState}
 use Rattle.pt_gathered.specs.Gathered.{GatheredState, IsGathered}
-use Rattle.pt_gathered.specs.Lawful.{LinksStand}
 use Rattle.pt_workers.specs.Desks.{all_shards}
 use Rattle.pt_crew.specs.Running.{is_idle}
 use Rattle.pt_supervisor.specs.Gathering.{AllChildrenLive}
+use Rattle.pt_supervisor.specs.Keeping.{IsStillNode}
 use Rattle.pt_teams.specs.declared.team.Team.{Team}
 use Rattle.pt_teams.specs.Members.{boss_part}
 use Rattle.pt_teams.specs.Teaming.{AttendsTeam, TeamUpholds, team_crew}
@@ -25,10 +25,11 @@ AreTeamsIdle teams desks =
     (d : ℕ) (t : Team) (x : DeskState) → d < length desks
     → is_idle (team_crew (slice_index_or teams d t)) (slice_index_or desks d x).shard ≡ true
 
--- Where no team of a node has anything to do, the node is gathered with its desks as they were, and links stand at both
--- ends or at neither, each child that its supervisor wants alive lives, or took its link away itself.
+-- Where no team of a node has anything to do, and the node is gathered with its desks as they were, and is still, each
+-- child that its supervisor wants alive lives, or took its link away itself; unless the supervisor is ending one that traps
+-- exits and lives on.
 abbrev pub TeamsChildrenLive : Type 0
 TeamsChildrenLive =
     (past : Past) (teams : List Team) (desks : List DeskState) (g : GatheredState) → AllTeamsUphold past teams desks
-    → AreTeamsIdle teams desks → g.shards ≡ all_shards desks → IsGathered g → LinksStand g
+    → AreTeamsIdle teams desks → g.shards ≡ all_shards desks → IsGathered g → IsStillNode g
     → AllChildrenLive past boss_part (map team_crew teams) g

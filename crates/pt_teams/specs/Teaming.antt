@@ -155,7 +155,8 @@ pub record TellsMemberExit (p : Pid) (old : Team) (d : ShardState) (notice : Not
   pub stands : (past : Past) → TeamUpholds past old d → (b : Member) → b.boss ≡ view.boss
       → StandsStill (Keeps past boss_part) (record { pid = p; behaviour = b; next = view.next }) e
 
--- p is a supervisor, and handles an item that was taken out of its mailbox, or none; those whom it starts wait to enter
+-- p is a supervisor, and handles an item that was taken out of its mailbox, or none, at the time of the step; those whom it
+-- starts wait to enter
 pub record RunsBoss (p : Pid) (old : Team) (d : ShardState) (new : Team) (e : ShardState) : Type 0 where
   pub view : MemberView
   pub was : member_views old p ≡ Some view
@@ -169,7 +170,7 @@ pub record RunsBoss (p : Pid) (old : Team) (d : ShardState) (new : Team) (e : Sh
   pub next : Next
   pub later : Supervisor Plan
   pub births : List (Role Member)
-  pub handles : BossHandles boss mid p item next later e births
+  pub handles : BossHandles (time_of old.crew) boss mid p item next later e births
   pub now : AreSeenWith p (Some (record view { next = next; boss = Some later })) old new
   pub born : waiting new.crew ≡ waiting old.crew ++ births
   pub takes : takes e.journal ≡ item_handed p item ++ takes d.journal

@@ -17,7 +17,7 @@ use crate::member::Member;
 use pt_supervisor::{quiet_children_live, stopped_children_ended};
 
 /// In a node that is still, each child that a supervisor of a team wants alive is alive, or unlinked itself from the
-/// supervisor (`live`). If a supervisor stopped by itself, no child that it ever started is alive, unless that child sent
+/// supervisor, unless that is ending a child that traps exits and lives on (`live`). If a supervisor stopped by itself, no child that it ever started is alive, unless that child sent
 /// it an exit signal (`ended`). The function does nothing: its contract is the promise.
 ///
 /// Both need what the supervisors of the team uphold. Each call of the team keeps it. So does a turn of the desk (`turn`),

@@ -34,7 +34,8 @@
 //!   keeps; and so does the program, if it does nothing for a supervisor. So they hold of every program with a team.
 //!   (`team_children_live`, `TeamUpholds`)
 //! - **Whole nodes.** Once no team of a node has anything to do, and the node was gathered and settled, each child that a
-//!   supervisor wants alive lives, on each desk, or unlinked itself. (`TeamsChildrenLive`)
+//!   supervisor wants alive lives, on each desk, or unlinked itself; unless the supervisor is ending one that traps exits
+//!   and lives on. (`TeamsChildrenLive`)
 #![tactic(auto)]
 
 mod laws;

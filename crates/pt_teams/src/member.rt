@@ -5,7 +5,8 @@ ghost use Rattle.std.specs.Option.{option_copied, option_map};
 ghost use Rattle.pt_crew.specs.declared.behaviour.Next.TheVariants.{Running};
 ghost use Rattle.pt_hands.specs.Pulling.{noted_reason, reason_told};
 ghost use Rattle.pt_supervisor.specs.Hearing.{program_of, standing};
-ghost use Rattle.pt_supervisor.specs.Children.{is_child};
+ghost use Rattle.pt_signal.specs.Values.{is_pid};
+ghost use Rattle.pt_supervisor.specs.Ending.{child_end_heard};
 ghost use Rattle.pt_teams.specs.Planning.{again_at, new_child, posts_heard, posts_of};
 ghost use Rattle.pt_teams.specs.Members.{boss_part, member_answers, news_of, notice_of_exit};
 
@@ -244,7 +245,7 @@ pub(crate) fn notice_of_exit(left: Role<Member>, alive: bool) -> Notice
 
 /// The place of a child by its pid.
 fn place_of(children: &[Child], pid: Pid) -> Option<usize>
-    ensures { result ≡ position (λ c. is_child c.pid pid) children.now }
+    ensures { result ≡ position (λ c. is_pid c.pid pid) children.now }
 {
     children.iter().position(|child| child.is_of(pid))
 }
@@ -253,33 +254,22 @@ fn place_of(children: &[Child], pid: Pid) -> Option<usize>
 fn heed_exit(boss: &mut Supervisor<Plan>, from: Pid)
     ensures standing { standing boss.new ≡ standing boss.old }
     ensures posts { posts_of (program_of boss.new)
-        ≡ again_at (position (λ c. is_child c.pid from) (standing boss.old).children) (posts_of (program_of boss.old)) }
+        ≡ again_at (position (λ c. is_pid c.pid from) (standing boss.old).children) (posts_of (program_of boss.old)) }
 {
     if let Some(place) = place_of(boss.children(), from) {
         mark(boss, place);
     }
 }
 
-/// Notes which child of a supervisor has exited, if this item says so of one.
-fn heed_item(boss: &mut Supervisor<Plan>, item: Item)
-    ensures standing { standing boss.new ≡ standing boss.old }
-    ensures posts { posts_of (program_of boss.new)
-        ≡ posts_heard (Some item) (standing boss.old).children (posts_of (program_of boss.old)) }
-{
-    match item {
-        Item::Exit(from, _) => heed_exit(boss, from),
-        _ => {}
-    }
-}
-
-/// Notes which child of a supervisor has exited, if there is an item that says so of one.
+/// Notes which child of a supervisor has exited, if it hears so of one by this item, or without an item.
 fn heed(boss: &mut Supervisor<Plan>, item: Option<Item>)
     ensures standing { standing boss.new ≡ standing boss.old }
     ensures posts { posts_of (program_of boss.new)
-        ≡ posts_heard item (standing boss.old).children (posts_of (program_of boss.old)) }
+        ≡ posts_heard (child_end_heard item (standing boss.old).asked) (standing boss.old).children
+        (posts_of (program_of boss.old)) }
 {
-    match item {
-        Some(found) => heed_item(boss, found),
+    match boss.hears(item) {
+        Some(from) => heed_exit(boss, from),
         None => {}
     }
 }
@@ -311,5 +301,5 @@ impl Behaviour for Member {
 impl Supervised for Member {
     ghost supervisor = { boss_part };
 
-    ghost supervises = { λ b d me item next now e births h. h.0 };
+    ghost supervises = { λ time b d me item next now e births h. h.0 };
 }

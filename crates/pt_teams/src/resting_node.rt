@@ -2,10 +2,11 @@
 
 ghost use Rattle.pt_teams.specs.Quieting.{TeamsChildrenLive};
 
-use pt_laws::laws;
+use pt_laws::{laws, links};
 
 /// Once no team of a node has anything to do, and the node is gathered and settled, each child that a live supervisor wants
-/// alive is alive, on each desk, or unlinked itself. The function does nothing: its contract is the promise.
+/// alive is alive, on each desk, or unlinked itself; unless the supervisor is ending a child that traps exits and lives on.
+/// The function does nothing: its contract is the promise.
 ///
 /// It needs what each call of a team keeps (`AttendsTeam`, `TeamUpholds`), and that [`Team::is_idle`](crate::Team::is_idle)
 /// is true of each over its desk.
@@ -14,4 +15,8 @@ pub fn node_children_live()
 {
     laws::journals_tell_their_pids();
     laws::journals_have_one_merge();
+    laws::merge_is_legal();
+    links::merge_known();
+    laws::one_down();
+    laws::stamps_make_new_ids();
 }

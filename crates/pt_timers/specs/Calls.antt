@@ -27,6 +27,8 @@ module _ {T : Type 0} where
     pub timer : t ≡ record { at = at; number = old.started }
     pub is_new : body_of old t ≡ None
     pub pending : AreWith t (Some body) old new
+    -- one more is pending
+    pub more : length new.pending ≡ length old.pending + 1
     pub counted : new.started ≡ suc old.started
 
   abbrev pub Starts : ℕ → T → TimersState T → Result Timer (StartError T) → TimersState T → Type 0

@@ -30,7 +30,8 @@
 //! - **Cancelled for good.** `cancel` returns `true` exactly if the timer was pending, and it never fires then.
 //! - **Any clock.** Each promise holds for any times that the calls are given, so a clock that goes backwards fires
 //!   nothing twice.
-//! - **Names are unique.** `start` returns a name that no timer had before, or fails and changes nothing. (`Starts`)
+//! - **Names are unique.** `start` returns a name that no timer had before, and one timer more is pending; or it fails and
+//!   changes nothing. (`Starts`)
 #![tactic(auto)]
 
 ghost use Rattle.std.specs.Prelude.{◌≡◌, ◌+◌, cond, length, MatchOption};
@@ -140,7 +141,7 @@ impl<T: Drop> Timers<T> {
         }
     }
 
-    /// Starts a timer that is due at a time, which may have passed already.
+    /// Starts a timer that is due at a time, which may have passed already. One timer more is pending then.
     ///
     /// Fails with `Worn` if 2^64 - 1 timers were started before, and otherwise with `Memory` if there is no memory for
     /// one more. Then nothing has changed.

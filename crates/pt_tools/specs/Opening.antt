@@ -3,7 +3,7 @@ use Rattle.std.specs.Prelude.{◌≡◌, ◌⊎◌, ℕ}
 use Rattle.pt_timers.specs.State.{TimersState}
 use Rattle.pt_timers.specs.Calls.{IsNone}
 use Rattle.pt_places.specs.Places.{HandlePlace, full}
-use Rattle.pt_handles.specs.Handles.{IfEmpty}
+use Rattle.pt_places.specs.Filling.{IfEmpty}
 
 -- the handle has no timers yet, and gets some of which none is pending; or there was no memory, or it had some already,
 -- and it is as it was: 10 is the code of that

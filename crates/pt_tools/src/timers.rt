@@ -7,13 +7,13 @@ ghost use Rattle.std.specs.Prelude.{◌≡◌, length};
 ghost use Rattle.pt_timers.specs.State.{body_of};
 ghost use Rattle.pt_places.specs.Places.{CallsThrough, ReadsThrough, ShowsCode};
 ghost use Rattle.pt_tools.specs.Timing.{CancelsTimer, FiresTimer, ShowsDue, ShowsNextTimer, StartsTimer, timer_in};
-ghost use Rattle.pt_handles.specs.Handles.{GivesUp};
+ghost use Rattle.pt_places.specs.Filling.{GivesUp};
 ghost use Rattle.pt_tools.specs.Opening.{OpensTimers};
 
 use crate::timers_handle::{TimersHandle, claim, filled, hold, is_full, spare};
 use crate::timing::{self, DONE, MEMORY};
 use crate::types::{PtFired, PtTimer};
-use pt_handles::ending::end_code;
+use pt_places::ending::end_code;
 use pt_timers::Timers;
 use std::alloc::Global;
 

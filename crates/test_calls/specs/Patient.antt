@@ -11,7 +11,7 @@ use Rattle.pt_crew.specs.Upholding.{Relation, IsUpheld, AllFirst, children_by}
 
 -- it does nothing to its desk, bears nobody, and waits for any item
 abbrev pub Listens : {B : Type 0} → Answers B
-Listens {B} old d me item next new e births = (e ≡ d) × (births ≡ []) × (next ≡ Wait Any)
+Listens {B} time old d me item next new e births = (e ≡ d) × (births ≡ []) × (next ≡ Wait Any)
 
 -- a process does not ask to stop
 abbrev pub GoesOnWith : Next → Type 0
@@ -26,11 +26,11 @@ NeverStops {B} b next me d = GoesOnWith next
 
 pub listeners_never_stop : {B : Type 0} → IsUpheld {B = B} Listens NeverStops
 listeners_never_stop {B} = record {
-  acts = λ b d p item next now e births a q other born.
+  acts = λ time b d p item next now e births a q other born.
       (ap (λ (x : ShardState). phase_of x q) a.0, ap (λ (x : ShardState). children_by q x.journal) a.0);
-  hands = λ b before p item was d next now e births h born taken a later.
+  hands = λ time b before p item was d next now e births h born taken a later.
       subst (λ (n : Next). GoesOnWith n) (sym a.2) (tt {0});
-  bears = λ b d p item next now e births a.
+  bears = λ time b d p item next now e births a.
       subst (λ (roles : List (Role B)). AllFirst {B = B} NeverStops roles) (sym a.1) (tt {0});
   others = λ b next p d e h born later same. h;
   ends = λ b r p d h born. h;

@@ -41,14 +41,18 @@ fn restarts_are_limited_by_time(rt: HostRuntime) {
     let mut limit = Limit::by_time(rt.alloc(), 1, 10).expect(&rt, "memory");
     same(&rt, limit.moment(7, 3), 3);
     holds(&rt, limit.allows(3));
-    holds(&rt, !limit.allows(12));
-    holds(&rt, limit.allows(13));
+    holds(&rt, !limit.allows(13));
+    holds(&rt, limit.allows(14));
     holds(&rt, !limit.allows(5));
 }
 
 /// It has started no child.
 fn look(rt: &impl Abort, supervisor: &Supervisor<Nobody>) {
     same(rt, supervisor.started(), 0);
+    holds(
+        rt,
+        supervisor.asked().is_none() && supervisor.hears(None).is_none(),
+    );
     same(rt, supervisor.children().len(), 1);
 }
 

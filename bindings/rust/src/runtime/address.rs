@@ -21,7 +21,8 @@ impl<M: Send + 'static> Address<M> {
         Address { mailbox: Arc::new(Mailbox::new(pid, name)), hub: hub.clone() }
     }
 
-    /// The name of the process in the table.
+    /// The name of the process in the table. It says nothing of the run, and a process of another run may have the same:
+    /// where a call takes a [`Target`](super::Target), give it the address.
     #[must_use]
     pub fn pid(&self) -> Pid {
         self.mailbox.pid()
@@ -69,11 +70,5 @@ impl<M: Send + 'static> fmt::Debug for Address<M> {
 impl<M: Send + 'static> fmt::Display for Address<M> {
     fn fmt(&self, f: &mut fmt::Formatter<'_>) -> fmt::Result {
         self.pid().fmt(f)
-    }
-}
-
-impl<M: Send + 'static> From<&Address<M>> for Pid {
-    fn from(address: &Address<M>) -> Pid {
-        address.pid()
     }
 }

@@ -4,7 +4,7 @@ use super::ANSWER;
 use super::hub::Hub;
 use super::payloads::{Given, Slot};
 use super::timing::Key;
-use crate::{Reason, Ref};
+use crate::{Fault, Reason, Ref};
 use std::any::Any;
 use std::collections::HashMap;
 use std::fmt;
@@ -23,6 +23,8 @@ pub enum CallFault {
     Timeout,
     /// The request was dropped unanswered: its [`Reply`] was, or the server had exited.
     Dropped,
+    /// The address is of another run than the one that was to call. Nothing was asked.
+    OtherRun,
 }
 
 impl fmt::Display for CallFault {
@@ -32,6 +34,7 @@ impl fmt::Display for CallFault {
             CallFault::Down(reason, None) => write!(f, "the server exited: {reason}"),
             CallFault::Timeout => f.write_str("there was no answer in time"),
             CallFault::Dropped => f.write_str("the request was dropped unanswered"),
+            CallFault::OtherRun => Fault::OtherRun.fmt(f),
         }
     }
 }

@@ -5,6 +5,7 @@ use super::behaviour::Behaviour;
 use super::calls::{Call, Calls, Open, Reply, fresh_number, number_of};
 use super::inbox::Task;
 use super::payloads::News;
+use super::target::Target;
 use super::timing::{Key, Timer};
 use super::worker::{Parent, Worker};
 use super::{ANSWER, MESSAGE, OVER};
@@ -53,6 +54,8 @@ impl<M: Send + 'static> Context<'_, M> {
     ///
     /// It returns `false`, and the message is dropped, if the receiver is known to have exited. If it exits later, the
     /// message is dropped then.
+    ///
+    /// A process of another run gets it as from outside: see [`Address::send`]. So it is with [`send_after`](Context::send_after).
     pub fn send<N: Send + 'static>(&mut self, to: &Address<N>, message: N) -> bool {
         self.worker.send(self.me.pid(), to, message)
     }
@@ -64,13 +67,14 @@ impl<M: Send + 'static> Context<'_, M> {
         let alarm = move |worker: &mut Worker| {
             worker.send(worker.porter, &to, message);
         };
-        Timer { desk: self.worker.number, key: self.worker.alarms.set(at, Box::new(alarm)) }
+        Timer { run: self.worker.hub.run, desk: self.worker.number, key: self.worker.alarms.set(at, Box::new(alarm)) }
     }
 
     /// Takes back what was to be sent later. It returns `false` if that was sent or taken back before, or is another
-    /// desk's.
+    /// desk's or another run's.
     pub fn cancel(&mut self, timer: Timer) -> bool {
-        timer.desk == self.worker.number && self.worker.alarms.cancel(timer.key).is_some()
+        let is_own = (timer.run, timer.desk) == (self.worker.hub.run, self.worker.number);
+        is_own && self.worker.alarms.cancel(timer.key).is_some()
     }
 
     /// Spawns a process on the same desk.
@@ -109,10 +113,10 @@ impl<M: Send + 'static> Context<'_, M> {
     ///
     /// # Errors
     ///
-    /// [`Fault::NoProc`] if it is known to have exited, [`Fault::Myself`], [`Fault::Unknown`], [`Fault::Worn`] or
-    /// [`Fault::Memory`].
-    pub fn monitor(&mut self, target: impl Into<Pid>) -> Result<Ref, Fault> {
-        let (me, target) = (self.me.pid(), target.into());
+    /// [`Fault::OtherRun`], [`Fault::NoProc`] if it is known to have exited, [`Fault::Myself`], [`Fault::Unknown`],
+    /// [`Fault::Worn`] or [`Fault::Memory`].
+    pub fn monitor(&mut self, target: impl Into<Target>) -> Result<Ref, Fault> {
+        let (me, target) = (self.me.pid(), target.into().pid_in(&self.worker.hub)?);
         let made = self.worker.desk().monitor(me, target);
         self.worker.noted(made)
     }
@@ -126,9 +130,10 @@ impl<M: Send + 'static> Context<'_, M> {
     ///
     /// # Errors
     ///
-    /// [`Fault::NoProc`] if that is known to have exited, [`Fault::Unknown`], [`Fault::Worn`] or [`Fault::Memory`].
-    pub fn link(&mut self, to: impl Into<Pid>) -> Result<(), Fault> {
-        let (me, to) = (self.me.pid(), to.into());
+    /// [`Fault::OtherRun`], [`Fault::Outside`], [`Fault::NoProc`] if that is known to have exited, [`Fault::Unknown`],
+    /// [`Fault::Worn`] or [`Fault::Memory`].
+    pub fn link(&mut self, to: impl Into<Target>) -> Result<(), Fault> {
+        let (me, to) = (self.me.pid(), to.into().mortal_in(&self.worker.hub)?);
         let made = self.worker.desk().link(me, to);
         self.worker.noted(made)
     }
@@ -137,9 +142,9 @@ impl<M: Send + 'static> Context<'_, M> {
     ///
     /// # Errors
     ///
-    /// [`Fault::Unknown`], [`Fault::Worn`] or [`Fault::Memory`].
-    pub fn unlink(&mut self, to: impl Into<Pid>) -> Result<(), Fault> {
-        let (me, to) = (self.me.pid(), to.into());
+    /// [`Fault::OtherRun`], [`Fault::Unknown`], [`Fault::Worn`] or [`Fault::Memory`].
+    pub fn unlink(&mut self, to: impl Into<Target>) -> Result<(), Fault> {
+        let (me, to) = (self.me.pid(), to.into().pid_in(&self.worker.hub)?);
         self.me.mailbox.take_panic(News::Exit(to));
         let done = self.worker.desk().unlink(me, to);
         self.worker.noted(done)
@@ -150,9 +155,9 @@ impl<M: Send + 'static> Context<'_, M> {
     ///
     /// # Errors
     ///
-    /// [`Fault::Unknown`], [`Fault::Worn`] or [`Fault::Memory`].
-    pub fn exit(&mut self, to: impl Into<Pid>, reason: Reason) -> Result<(), Fault> {
-        let (me, to) = (self.me.pid(), to.into());
+    /// [`Fault::OtherRun`], [`Fault::Outside`], [`Fault::Unknown`], [`Fault::Worn`] or [`Fault::Memory`].
+    pub fn exit(&mut self, to: impl Into<Target>, reason: Reason) -> Result<(), Fault> {
+        let (me, to) = (self.me.pid(), to.into().mortal_in(&self.worker.hub)?);
         let sent = self.worker.desk().exit_signal(me, to, reason);
         self.worker.noted(sent)
     }

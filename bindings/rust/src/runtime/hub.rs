@@ -21,6 +21,8 @@ pub(crate) const KILL: u8 = 3;
 
 /// What all threads of a runtime share.
 pub(crate) struct Hub {
+    /// The number of the run among all of the program.
+    pub(crate) run: u64,
     begun: Instant,
     pub(crate) places: Vec<Place>,
     pub(crate) meeting: Meeting,
@@ -35,7 +37,9 @@ pub(crate) struct Hub {
 
 impl Hub {
     pub(crate) fn new(desks: usize, every: usize, meeting: Meeting) -> Hub {
+        static RUNS: AtomicU64 = AtomicU64::new(0);
         Hub {
+            run: RUNS.fetch_add(1, SeqCst),
             begun: Instant::now(),
             places: (0..desks).map(|_| Place::default()).collect(),
             meeting,
@@ -66,6 +70,11 @@ impl Hub {
 
     pub(crate) fn place(&self, pid: Pid) -> &Place {
         &self.places[usize::from(pid.shard)]
+    }
+
+    /// Whether this is the process of a desk in whose name things are sent from outside.
+    pub(crate) fn is_porter(&self, pid: Pid) -> bool {
+        self.places.get(usize::from(pid.shard)).and_then(|place| place.porter.get()) == Some(&pid)
     }
 
     /// Sends a message from outside.
@@ -130,13 +139,19 @@ impl Hub {
         self.order() >= END && self.alive.load(SeqCst) == 0
     }
 
+    /// The process of a desk whose handler runs, and the name of its behaviour.
+    pub(crate) fn running(&self, desk: usize) -> Option<(Pid, &'static str)> {
+        let shard = u8::try_from(desk).ok()?;
+        let slot = self.slot(self.places.get(desk)?.running(shard)?)?;
+        Some((slot.pid(), slot.name()))
+    }
+
     /// A live process, and the name of its behaviour: one whose handler runs, if there is one, and else no supervisor,
     /// since that may wait for a child.
     pub(crate) fn somebody(&self) -> Option<(Pid, &'static str)> {
-        let mut running = (0..).zip(&self.places).filter_map(|(shard, place)| self.slot(place.running(shard)?));
         let living = || self.places.iter().flat_map(Place::slots);
         let waits = |slot: &Arc<dyn Slot>| slot.name() == type_name::<Supervisor>();
-        let found = running.next().or_else(|| living().min_by_key(waits));
-        found.map(|slot| (slot.pid(), slot.name()))
+        let found = (0..self.places.len()).find_map(|desk| self.running(desk));
+        found.or_else(|| living().min_by_key(waits).map(|slot| (slot.pid(), slot.name())))
     }
 }

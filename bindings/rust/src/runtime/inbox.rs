@@ -5,7 +5,7 @@ use super::worker::Worker;
 use crate::Pid;
 use std::collections::{HashMap, VecDeque};
 use std::sync::atomic::{AtomicBool, AtomicU64, Ordering::SeqCst};
-use std::sync::{Arc, Condvar, Mutex, MutexGuard, PoisonError};
+use std::sync::{Arc, Condvar, Mutex, MutexGuard, OnceLock, PoisonError};
 use std::time::Duration;
 
 /// What somebody outside wants of a desk's thread.
@@ -46,6 +46,8 @@ pub(crate) struct Place {
     short: AtomicBool,
     /// Whose handler runs, by its slot and its version, and 0 if none does.
     running: AtomicU64,
+    /// The process of the desk in whose name things are sent from outside, once it is spawned.
+    pub(crate) porter: OnceLock<Pid>,
 }
 
 pub(crate) fn locked<T>(of: &Mutex<T>) -> MutexGuard<'_, T> {

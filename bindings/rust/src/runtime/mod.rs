@@ -80,6 +80,7 @@ mod process;
 mod run;
 mod start;
 mod supervisor;
+mod target;
 mod timing;
 mod worker;
 
@@ -95,6 +96,7 @@ pub use name::Name;
 pub use run::{Handle, Runtime, SpawnFault};
 pub use start::{Builder, StartFault};
 pub use supervisor::{Supervisor, ToSupervisor};
+pub use target::Target;
 pub use timing::Timer;
 
 /// The reason of a process whose handler has panicked. No behaviour should stop with it.

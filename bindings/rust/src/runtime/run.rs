@@ -8,12 +8,14 @@ use super::hub::{END, Hub, KILL, STOP};
 use super::inbox::Task;
 use super::meeting::{Outcome, Stuck};
 use super::start::{Builder, Closing, Threads, is_inside};
+use super::target::Target;
 use super::worker::{Parent, Worker};
 use crate::{Fault, Pid, Reason};
 use std::error::Error;
 use std::fmt;
 use std::ops::Deref;
 use std::sync::Arc;
+use std::sync::atomic::{AtomicBool, Ordering::SeqCst};
 use std::sync::mpsc::{RecvTimeoutError, sync_channel};
 use std::time::Duration;
 
@@ -164,29 +166,63 @@ impl Handle {
     ///
     /// [`SpawnFault`] says why not. The behaviour is dropped.
     pub fn spawn<B: Behaviour>(&self, behaviour: B) -> Result<Address<B::Message>, SpawnFault> {
-        self.spawn_at(self.0.next_desk(), behaviour)
+        self.spawn_at(self.0.next_desk(), None, behaviour)
     }
 
-    /// Spawns a process on this desk. It waits until the desk's thread has done so.
+    /// Spawns a process on this desk. It waits until the desk's thread has done so, which is as long as a handler of the desk
+    /// does not return: see [`spawn_within`](Handle::spawn_within).
     ///
     /// # Errors
     ///
     /// [`SpawnFault`] says why not. The behaviour is dropped.
     pub fn spawn_on<B: Behaviour>(&self, desk: u8, behaviour: B) -> Result<Address<B::Message>, SpawnFault> {
-        self.spawn_at(usize::from(desk), behaviour)
+        self.spawn_at(usize::from(desk), None, behaviour)
     }
 
-    fn spawn_at<B: Behaviour>(&self, desk: usize, behaviour: B) -> Result<Address<B::Message>, SpawnFault> {
+    /// Spawns a process on this desk, if the desk's thread comes to it in this time.
+    ///
+    /// # Errors
+    ///
+    /// [`SpawnFault`] says why not. After [`SpawnFault::Timeout`] no process is spawned, and the behaviour is dropped as the
+    /// desk's thread comes to it.
+    pub fn spawn_within<B: Behaviour>(
+        &self,
+        limit: Duration,
+        desk: u8,
+        behaviour: B,
+    ) -> Result<Address<B::Message>, SpawnFault> {
+        self.spawn_at(usize::from(desk), Some(limit), behaviour)
+    }
+
+    fn spawn_at<B: Behaviour>(
+        &self,
+        desk: usize,
+        limit: Option<Duration>,
+        behaviour: B,
+    ) -> Result<Address<B::Message>, SpawnFault> {
         // (a handler would wait for a desk that may wait for it)
         if is_inside(&self.0) {
             return Err(SpawnFault::Inside);
         }
         let place = self.0.places.get(desk).ok_or(SpawnFault::Table(Fault::BadDesks))?;
         let (give, get) = sync_channel(1);
+        // whoever sets it first says what comes of the request: the desk's thread, or this one as the time is over
+        let (decided, is_decided) = (Arc::new(AtomicBool::new(false)), |by: &AtomicBool| by.swap(true, SeqCst));
+        let by_desk = decided.clone();
         place.post(Task::Ask(Box::new(move |worker| {
-            let _ = give.send(worker.spawn(Parent::Outside, behaviour));
+            if !is_decided(&by_desk) {
+                let _ = give.send(worker.spawn(Parent::Outside, behaviour));
+            }
         })));
-        get.recv().map_err(|_| SpawnFault::Over)?.map_err(SpawnFault::Table)
+        let in_time = limit.map(|limit| get.recv_timeout(limit));
+        let spawned = match in_time {
+            Some(Ok(spawned)) => Ok(spawned),
+            Some(Err(RecvTimeoutError::Timeout)) if !is_decided(&decided) => {
+                return Err(SpawnFault::Timeout(self.0.running(desk)));
+            }
+            _ => get.recv(),
+        };
+        spawned.map_err(|_| SpawnFault::Over)?.map_err(SpawnFault::Table)
     }
 
     /// Asks a server from outside, and waits for its answer: it gets the message that `ask` makes of a [`Reply`].
@@ -195,14 +231,17 @@ impl Handle {
     ///
     /// # Errors
     ///
-    /// [`CallFault::Timeout`], if there is no answer in time; [`CallFault::Dropped`], if the server has exited or has
-    /// dropped the request.
+    /// [`CallFault::OtherRun`], if the server is of another run, and then nothing was asked; [`CallFault::Timeout`], if there
+    /// is no answer in time; [`CallFault::Dropped`], if the server has exited or has dropped the request.
     pub fn call<M: Send + 'static, R: Send + 'static>(
         &self,
         server: &Address<M>,
         limit: Duration,
         ask: impl FnOnce(Reply<R>) -> M,
     ) -> Result<R, CallFault> {
+        if !Arc::ptr_eq(&self.0, &server.hub) {
+            return Err(CallFault::OtherRun);
+        }
         let (give, get) = sync_channel(1);
         server.send(ask(Reply::to_thread(give)));
         get.recv_timeout(limit).map_err(|fault| match fault {
@@ -211,12 +250,16 @@ impl Handle {
         })
     }
 
-    /// Sends an exit signal from outside: Erlang's `exit/2`.
-    pub fn exit(&self, process: impl Into<Pid>, reason: Reason) {
-        let pid = process.into();
-        if let Some(place) = self.0.places.get(usize::from(pid.shard)) {
-            place.post(Task::Do(Box::new(move |worker| worker.signal(pid, reason))));
-        }
+    /// Sends an exit signal from outside: Erlang's `exit/2`. It is nothing to a process that has exited.
+    ///
+    /// # Errors
+    ///
+    /// [`Fault::OtherRun`], [`Fault::Outside`], or [`Fault::Unknown`] if there is no such desk. Then nothing is sent.
+    pub fn exit(&self, process: impl Into<Target>, reason: Reason) -> Result<(), Fault> {
+        let pid = process.into().mortal_in(&self.0)?;
+        let place = self.0.places.get(usize::from(pid.shard)).ok_or(Fault::Unknown)?;
+        place.post(Task::Do(Box::new(move |worker| worker.signal(pid, reason))));
+        Ok(())
     }
 
     /// How many epochs have ended.
@@ -229,6 +272,14 @@ impl Handle {
     #[must_use]
     pub fn is_over(&self) -> bool {
         self.0.meeting.is_over()
+    }
+
+    /// Tells all processes to exit, as [`Runtime::stop`] does, and waits for nothing. [`Runtime::wait`] returns once they have
+    /// exited, and those that do not are killed by `Runtime::stop` alone.
+    pub fn stop(&self) {
+        if !self.is_over() {
+            self.0.give(STOP);
+        }
     }
 
     /// Ends the epoch now, as soon as each handler that runs has returned, and goes on.
@@ -245,6 +296,9 @@ pub enum SpawnFault {
     Table(Fault),
     /// The run is over, or halts.
     Over,
+    /// The thread of the desk did not come to it in time: the process whose handler was running then, if one was, and the
+    /// name of the type of its behaviour. Nothing is spawned.
+    Timeout(Option<(Pid, &'static str)>),
     /// A handler of this run asked, and would wait for itself: it takes [`Context::spawn`](super::Context::spawn) or
     /// [`Context::spawn_on`](super::Context::spawn_on).
     Inside,
@@ -255,6 +309,10 @@ impl fmt::Display for SpawnFault {
         match self {
             SpawnFault::Table(fault) => write!(f, "the process is not spawned: {fault}"),
             SpawnFault::Over => f.write_str("the process is not spawned: the run is over"),
+            SpawnFault::Timeout(Some((pid, behaviour))) => {
+                write!(f, "the process is not spawned in time: the desk is held up by {pid}, a {behaviour}")
+            }
+            SpawnFault::Timeout(None) => f.write_str("the process is not spawned in time"),
             SpawnFault::Inside => f.write_str("the process is not spawned: a handler takes a call of its context"),
         }
     }

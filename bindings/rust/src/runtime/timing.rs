@@ -6,6 +6,7 @@ use std::collections::BTreeMap;
 /// A message that is to be sent later: what [`Context::cancel`](super::Context::cancel) takes.
 #[derive(Clone, Copy, Debug, PartialEq, Eq, Hash)]
 pub struct Timer {
+    pub(crate) run: u64,
     pub(crate) desk: u8,
     pub(crate) key: Key,
 }

@@ -73,6 +73,7 @@ impl Worker {
     pub(crate) fn new(hub: &Arc<Hub>, mut desk: Desk) -> Result<Worker, Fault> {
         let (number, crew, porter) = (desk.number(), Crew::new(&desk)?, desk.spawn()?);
         desk.keep_losses(true);
+        let _ = hub.places[usize::from(number)].porter.set(porter);
         Ok(Worker {
             hub: hub.clone(),
             number,

@@ -8,4 +8,4 @@ returns-clause-desks c =
     λ still. ap (λ (g : GatheredState). g.shards) (c.in_ok-quiet.ensures.again (c.in_ok-gather.ensures.still still)).0 ∙ c.in_ok-gather.ensures.gathers.shards
 
 pub returns-clause-lawful : goal.returns-clause-lawful
-returns-clause-lawful c = (c.desks-desks.ensures.gathered, c.in_ok-quiet.ensures.links)
+returns-clause-lawful c = (c.desks-desks.ensures.gathered, record { quiet = c.in_ok-quiet.ensures.quiet; links = c.in_ok-quiet.ensures.links; watches = c.in_ok-quiet.ensures.watches })

@@ -1,5 +1,5 @@
 -- `calls_end_once`: its contract.
-use Rattle.pt_crew.proofs.Ends.{ends_first}
+use Rattle.pt_pending.proofs.Ends.{ends_first}
 use Rattle.pt_asking.specs.Calls.{pending_of}
 use Rattle.pt_asking.proofs.hearing.calls_end_once.Goals as goal
 

@@ -1,7 +1,7 @@
 -- `hand`: its clauses `bears` and `answers`.
-use Rattle.std.proofs.Common.{List, subst}
+use Rattle.std.proofs.Common.{List, ℕ, subst}
 use Rattle.pt_crew.specs.declared.births.Role.{Role}
-use Rattle.pt_crew.specs.Births.{bore, born}
+use Rattle.pt_crew.specs.Births.{bore, born, time_told}
 use Rattle.pt_crew.proofs.Bearing.{grown}
 use Rattle.pt_crew.proofs.crew.hand.Goals as goal
 
@@ -11,5 +11,7 @@ returns-clause-bears g c = grown c.args.births.now c.begin.new.self c.handle-mem
 pub returns-clause-answers : goal.returns-clause-answers
 returns-clause-answers g c =
     let m = c.args.member.now in
-    subst (λ (waited : List (Role g.row.B.Denot)). g.B.Behaviour.answers m.behaviour c.args.desk.now.shard c.args.p c.args.item c.handle-member.result c.handle-member.new.self c.handle-member.new.desk.shard (bore waited (born c.handle-member.new.births)))
-    c.begin.ensures.same c.handle-member.ensures.answers
+    subst (λ (time : ℕ). g.B.Behaviour.answers time m.behaviour c.args.desk.now.shard c.args.p c.args.item c.handle-member.result c.handle-member.new.self c.handle-member.new.desk.shard (bore (born c.args.births.now) (born c.handle-member.new.births)))
+    c.begin.ensures.told
+    (subst (λ (waited : List (Role g.row.B.Denot)). g.B.Behaviour.answers (time_told c.begin.new.self) m.behaviour c.args.desk.now.shard c.args.p c.args.item c.handle-member.result c.handle-member.new.self c.handle-member.new.desk.shard (bore waited (born c.handle-member.new.births)))
+    c.begin.ensures.same c.handle-member.ensures.answers)

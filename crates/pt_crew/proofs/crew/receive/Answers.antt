@@ -23,7 +23,7 @@ returns-else-not-is_over-clause-sees g c =
     let e = c.hand.new.desk.shard in
     let t = c.handed.result in
     let births = bore (born c.args.births.now) (born c.hand.new.births) in
-    let hands : HandsTo g.B.Behaviour.answers p was.behaviour None mid t (kept_as t now) e births = record {
+    let hands : HandsTo (g.B.Behaviour.answers c.args.time) p was.behaviour None mid t (kept_as t now) e births = record {
       behaviour = now.behaviour;
       next = now.next;
       answer = c.hand.ensures.answers;
@@ -35,5 +35,5 @@ returns-else-not-is_over-clause-sees g c =
       Ok None,
       mid,
       subst (λ (o : Option Item). Calls p (take_event d p c.args.pick) (first_match d p c.args.pick) d (Ok o) mid) c.in-Ok-None.field-0-is c.in-Ok-None.ensures.does,
-      subst (λ (over : Bool). MatchBool over (HandsTo g.B.Behaviour.answers p was.behaviour None mid t (kept_as t now) e births) (StaysAs Idle (role was) mid t (kept_as t now) e)) (sym c.if-not-is_over.false) hands,
+      subst (λ (over : Bool). MatchBool over (HandsTo (g.B.Behaviour.answers c.args.time) p was.behaviour None mid t (kept_as t now) e births) (StaysAs Idle (role was) mid t (kept_as t now) e)) (sym c.if-not-is_over.false) hands,
     )

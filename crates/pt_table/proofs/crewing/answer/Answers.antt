@@ -1,6 +1,6 @@
 -- `answer`: its clause `does`.
 use Rattle.std.proofs.Common.{◌≡◌, inr, refl, sym, subst, ◌∙◌}
-use Rattle.pt_table.specs.Answers.{IfCrosses}
+use Rattle.pt_structs.specs.Codes.{IfCrosses}
 use Rattle.pt_table.specs.Crewing.{AnswersNext}
 use Rattle.pt_structs.specs.Crossing.{pid_crossed}
 use Rattle.pt_table.proofs.crewing.answer.Goals as goal

@@ -1,11 +1,12 @@
 -- `answer`: its clause `does`.
 use Rattle.std.proofs.Common.{◌≡◌, inr, refl, sym, subst, ◌∙◌}
 use Rattle.pt_structs.specs.Crossing.{pid_crossed}
-use Rattle.pt_team_handles.specs.Teaming.{TeamAnswersNext, IfCodesFit}
+use Rattle.pt_structs.specs.Codes.{IfCrosses}
+use Rattle.pt_team_handles.specs.Teaming.{TeamAnswersNext}
 use Rattle.pt_team_handles.proofs.teaming.answer.Goals as goal
 
 pub returns-in-Err-clause-does : goal.returns-in-Err-clause-does
 returns-in-Err-clause-does c =
-    subst (λ next. IfCodesFit next 2 (c.answer.new.self ≡ c.args.team.now) (λ n. TeamAnswersNext (pid_crossed c.args.answer.pid) n 2 c.args.team.now c.answer.new.self))
+    subst (λ next. IfCrosses next 2 (c.answer.new.self ≡ c.args.team.now) (λ n. TeamAnswersNext (pid_crossed c.args.answer.pid) n 2 c.args.team.now c.answer.new.self))
     (sym c.in-Some.is ∙ c.next_in.ensures)
     (record { does = inr (inr (refl, c.in-Err.ensures.refused)); memory = λ d a is. absurd (cc (c.in-Err.ensures.ok d a)) })

@@ -8,5 +8,14 @@ use Rattle.pt_teams.proofs.resting_node.node_children_live.Goals as goal
 
 pub returns : goal.returns
 returns c = λ past teams desks g u idle.
-    all_children_live boss_part c.journals_tell_their_pids.ensures.journals c.journals_have_one_merge.ensures.there past (map team_crew teams) desks g
+    all_children_live boss_part
+    (record {
+      say = c.journals_tell_their_pids.ensures.journals;
+      there = c.journals_have_one_merge.ensures.there;
+      legal = c.merge_is_legal.ensures;
+      known = c.merge_known.ensures;
+      once = c.one_down.ensures.over;
+      stamps = c.stamps_make_new_ids.ensures.new;
+    })
+    past (map team_crew teams) desks g
     (crews_uphold past teams desks u) (crews_idle past teams desks u idle)

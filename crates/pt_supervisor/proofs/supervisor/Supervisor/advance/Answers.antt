@@ -1,7 +1,8 @@
--- `Supervisor::advance`: its clause `supervises`.
-use Rattle.std.proofs.Common.{◌≡◌, length, None, Some, refl, sym, ap, ◌∙◌, arith}
-use Rattle.pt_supervisor.specs.Children.{last_alive}
-use Rattle.pt_supervisor.specs.Hearing.{Standing, deadline, standing}
+-- `Supervisor::advance`: its clauses `supervises` and `permanent`.
+use Rattle.std.proofs.Common.{◌≡◌, length, None, Some, refl, sym, ap, subst, ◌∙◌, arith}
+use Rattle.pt_supervisor.specs.Children.{PermanentAreWanted, last_alive}
+use Rattle.pt_supervisor.specs.Ending.{stage_of}
+use Rattle.pt_supervisor.specs.Hearing.{Standing, standing}
 use Rattle.pt_supervisor.proofs.Ending.{ends_supervise}
 use Rattle.pt_supervisor.proofs.Starting.{none_live}
 use Rattle.pt_supervisor.proofs.supervisor.Supervisor.advance.Goals as goal
@@ -10,8 +11,11 @@ pub returns-in-Some-clause-supervises : goal.returns-in-Some-clause-supervises
 returns-in-Some-clause-supervises g c =
     let s = standing c.args.self.now in
     let last : last_alive s.children s.ending (length s.children) ≡ Some (c.in-Some.pid, c.in-Some.shutdown) = cc in
-    ends_supervise c.args.me c.in-Some.pid s c.args.desk.now c.end.result (standing c.end.new.self) c.end.new.desk (c.in-Some.shutdown, last) c.args.now c.in-Some.shutdown
-    (deadline c.in-Some.pid s.asked) refl c.end.ensures.does
+    ends_supervise c.args.me c.in-Some.pid c.in-Some.shutdown s c.args.desk.now c.end.result (standing c.end.new.self) c.end.new.desk last c.args.now
+    (stage_of s.asked c.in-Some.pid) refl c.end.ensures.does
+
+pub returns-in-Some-clause-permanent : goal.returns-in-Some-clause-permanent
+returns-in-Some-clause-permanent g c = λ k. subst (λ (s : Standing). PermanentAreWanted s.children) (sym c.end.ensures.rest) k
 
 pub returns-in-Some-stopping-clause-supervises : goal.returns-in-Some-stopping-clause-supervises
 returns-in-Some-stopping-clause-supervises g c =

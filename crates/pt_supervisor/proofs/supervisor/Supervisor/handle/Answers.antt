@@ -1,8 +1,9 @@
--- `Supervisor::handle`: its clauses `does`, `tends` and `bears`.
+-- `Supervisor::handle`: its clauses `does`, `tends`, `bears` and `counts`.
 use Rattle.std.proofs.Common.{ℕ, true, false, refl, subst}
 use Rattle.pt_supervisor.specs.Hearing.{standing}
 use Rattle.pt_supervisor.specs.Supervising.{Advances, SupervisorAttends, supervisor_scene}
 use Rattle.pt_supervisor.proofs.Bearing.{handles_bear}
+use Rattle.pt_supervisor.proofs.Counted.{handles_count}
 use Rattle.pt_supervisor.proofs.Tending.{handles_tend}
 use Rattle.pt_supervisor.proofs.supervisor.Supervisor.handle.Goals as goal
 
@@ -41,3 +42,10 @@ returns-then-not-attend-clause-bears g c =
 
 pub returns-clause-bears : goal.returns-clause-bears
 returns-clause-bears g c = handles_bear g.S.Start.starts c.args.me _ c.args.item _ _ _ (returns-clause-does g c)
+
+pub returns-then-not-attend-clause-counts : goal.returns-then-not-attend-clause-counts
+returns-then-not-attend-clause-counts g c =
+    handles_count c.args.me g.S.Start.starts _ c.args.item _ _ _ (returns-then-not-attend-clause-does g c)
+
+pub returns-clause-counts : goal.returns-clause-counts
+returns-clause-counts g c = handles_count c.args.me g.S.Start.starts _ c.args.item _ _ _ (returns-clause-does g c)

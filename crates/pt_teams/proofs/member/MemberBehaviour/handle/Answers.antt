@@ -32,14 +32,13 @@ returns-in-Some-clause-answers c =
     let births = bore waited waits in
     let tends : Tends me item (standing was) d.shard c.handle.result (standing new) e.shard =
     subst (λ (s : Standing). Tends me item s d.shard c.handle.result (standing new) e.shard) c.heed.ensures.standing h.tends in
-    let handles : BossHandles was d.shard me item c.handle.result new e.shard births = record {
+    let handles : BossHandles (time_told c.args.births.now) was d.shard me item c.handle.result new e.shard births = record {
       plan = program_of heard;
       heard = c.heed.ensures.posts;
       desk = d;
       later = e;
       before = refl;
       after = refl;
-      time = time_told c.args.births.now;
       waited = waited;
       handles = subst (λ (b : List (Role Member)). SupervisorHandles starts_post me (time_told c.args.births.now) item
           (record { start = program_of heard; standing = standing was; desk = d; born = waited }) c.handle.result
@@ -52,7 +51,7 @@ returns-in-Some-clause-answers c =
         subst (λ (o : Option (Supervisor Plan)). ActsAs (option_map standing o) me item d.shard c.handle.result (Some (standing new)) e.shard) (sym c.in-Some.is) (standing new, refl, tends),
         bore_begin starts_post me boss_part (begins_outside me) waited waits h.bears,
       ),
-      subst (λ (o : Option (Supervisor Plan)). AnswersBy o c.args.self.now d.shard me item c.handle.result (record c.args.self.now { boss = Some new }) e.shard births) (sym c.in-Some.is) (new, refl, handles),
+      subst (λ (o : Option (Supervisor Plan)). AnswersBy o (time_told c.args.births.now) c.args.self.now d.shard me item c.handle.result (record c.args.self.now { boss = Some new }) e.shard births) (sym c.in-Some.is) (new, refl, handles),
     )
 
 pub returns-in-None-clause-answers : goal.returns-in-None-clause-answers
@@ -65,5 +64,5 @@ returns-in-None-clause-answers c =
         subst (λ (o : Option (Supervisor Plan)). ActsAs (option_map standing o) me item d Running (option_map standing o) d) (sym c.in-None.is) (refl, acts_is me d d refl),
         subst (λ (bs : List (Role Member)). AllBegin boss_part bs) (sym (bore_same waited)) tt,
       ),
-      subst (λ (o : Option (Supervisor Plan)). AnswersBy o c.args.self.now d me item Running (record c.args.self.now { notes = record (c.args.self.now.notes) { handed = Some item } }) d (bore waited waited)) (sym c.in-None.is) (refl, refl, refl, bore_same waited),
+      subst (λ (o : Option (Supervisor Plan)). AnswersBy o (time_told c.args.births.now) c.args.self.now d me item Running (record c.args.self.now { notes = record (c.args.self.now.notes) { handed = Some item } }) d (bore waited waited)) (sym c.in-None.is) (refl, refl, refl, bore_same waited),
     )

@@ -1,0 +1,3 @@
+pub mod Custody
+pub mod Nodes
+pub mod Examples

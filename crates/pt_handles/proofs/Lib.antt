@@ -1,2 +1,0 @@
--- The lemma that the crates above cite.
-pub mod Empty
