@@ -1,2 +1,2 @@
 -- The lemmas that the functions use.
-mod Telling
+mod Told
