@@ -24,7 +24,7 @@ from dataclasses import dataclass
 from pathlib import Path
 
 sys.dont_write_bytecode = True
-from unproved import Fault, command, kit, toolchain_with  # noqa: E402
+from unproved import Fault, command, keeping_toolchain, kit  # noqa: E402
 
 ROOT = Path(__file__).resolve().parent.parent
 PROGRAM = "pt_c_unproved"
@@ -99,9 +99,7 @@ def program(all_exports: list[Export], folder: Path) -> None:
 
 def module(tools: Path, folder: Path) -> str:
     """The program's module, as text."""
-    kept = folder / "toolchain"
-    # (it keeps the module, and then fails)
-    toolchain_with(tools, kept, f'cp module.bc "{kept}/module.bc"; exit 1')
+    kept = keeping_toolchain(tools, folder / "toolchain")
     words = [str(kept) if it == f"{tools}/toolchain" else it for it in command(folder, PROGRAM, ["--seconds", "60"])]
     ran = subprocess.run(words, cwd=folder / "crates" / PROGRAM, stdin=subprocess.DEVNULL, capture_output=True, text=True,
                          check=False)

@@ -18,14 +18,14 @@ from pathlib import Path
 sys.dont_write_bytecode = True
 REPOSITORY = Path(__file__).resolve().parent.parent
 sys.path.insert(0, str(REPOSITORY / ".ci"))
-from unproved import Fault, command, kit  # noqa: E402
-from unproved_archive import clang, toolchain_with_a_copy  # noqa: E402
+from unproved import Fault, command, keeping_toolchain, kit  # noqa: E402
+from unproved_archive import clang  # noqa: E402
 
 
 def module(root: Path, name: str, folder: Path) -> Path:
     """The program's module, as the toolchain writes it for `rt try`."""
     tools = kit()
-    kept = toolchain_with_a_copy(tools, folder / "toolchain")
+    kept = keeping_toolchain(tools, folder / "toolchain")
     words = [str(kept) if it == f"{tools}/toolchain" else it for it in command(root, name, ["--seconds", "60"])]
     ran = subprocess.run(words, cwd=root / "crates" / name, stdin=subprocess.DEVNULL, capture_output=True, text=True,
                          check=False)

@@ -360,10 +360,7 @@ def twins_of(crate: str, edits: list[Edit]) -> list[Edit]:
     texts = sources_of(crate)
     made = (deciding.twin_of(crate, texts, path) for path in by_hand(crate, texts))
     have = {path for it in edits if it.neutral for path in it.functions}
-    twins = [it for it in made if it and not have & set(it.named)]
-    for twin in twins:
-        twin.find_functions(texts)
-    return twins
+    return [it for it in made if it and not have & set(it.named)]
 
 
 def by_hand(crate: str, texts: dict[str, str]) -> list[str]:

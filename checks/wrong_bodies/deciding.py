@@ -456,6 +456,8 @@ def reason_of(edit: Edit, clause: Clause, goal: Goal, proof: str, asks: bool) ->
 def found_in(edit: Edit, said: Said, proofs: dict[str, str], is_alone: bool, asks: bool = False) -> Finding:
     """What a sound check says of an edit. In a batch, a goal that waits for another function decides nothing."""
     own = [name for name in said.verdicts if any(same(name, it) for it in edit.functions)]
+    if not own and edit.neutral:
+        return Finding("bad", "", f"the prover says nothing of {', '.join(edit.functions)}")
     if not own:
         raise Broken(f"{edit.label}: the prover says nothing of {', '.join(edit.functions)}: name it by a line 'fn: PATH'")
     goals = [(name, it) for name in own for it in said.own(name)]
@@ -501,8 +503,10 @@ def twin_of(crate: str, texts: dict[str, str], path: str) -> Edit | None:
             if function.path == path:
                 old = lines[function.first : function.last + 1]
                 new = renamed(old)
-                is_fit = new is not None and text.count("\n".join(old)) == 1
-                return Edit(crate, path, [(file, "\n".join(old), "\n".join(new or []))], [path], neutral=True) if is_fit else None
+                if new is None or text.count("\n".join(old)) != 1:
+                    return None
+                pairs = [(file, "\n".join(old), "\n".join(new))]
+                return Edit(crate, path, pairs, [path], neutral=True, functions=[path])
     return None
 
 
@@ -513,10 +517,32 @@ def renamed(lines: list[str]) -> list[str] | None:
         if bound and not bound[4].rstrip().endswith("{"):
             indent, name, kind, value = bound[1], bound[2], bound[3] or "", bound[4]
             return [*lines[:at], f"{indent}let here_first{kind} = {value};", f"{indent}let {name}{kind} = here_first;", *lines[at + 1 :]]
-    if len(lines) > 2 and re.match(r" *[\w&*(\"!].*[^;{},]$", lines[-2]) and re.search(r"[;{}]$", lines[-3]):
-        indent = re.match(" *", lines[-2])
-        if indent and len(indent[0]) == len(lines[-1]) - len(lines[-1].lstrip()) + 4:
-            return [*lines[:-2], f"{indent[0]}let here_first = {lines[-2].strip()};", f"{indent[0]}here_first", lines[-1]]
+    return result_renamed(lines) or argument_renamed(lines)
+
+
+def result_renamed(lines: list[str]) -> list[str] | None:
+    """A function whose result is a line of its own, and has a name."""
+    if len(lines) < 3 or not re.match(r" *[\w&*(\"!].*[^;{},]$", lines[-2]) or not re.search(r"[;{}]$", lines[-3]):
+        return None
+    indent = lines[-2][: len(lines[-2]) - len(lines[-2].lstrip())]
+    if len(indent) != len(lines[-1]) - len(lines[-1].lstrip()) + 4:
+        return None
+    return [*lines[:-2], f"{indent}let here_first = {lines[-2].strip()};", f"{indent}here_first", lines[-1]]
+
+
+def argument_renamed(lines: list[str]) -> list[str] | None:
+    """A function with a contract, whose first argument that is no `&mut` has one more name."""
+    indent = lines[0][: len(lines[0]) - len(lines[0].lstrip())]
+    opens = next((at for at, line in enumerate(lines) if line == indent + "{"), None)
+    header = " ".join(it.strip() for it in lines[:opens])
+    given = re.search(r"\((.*?)\)(?: ->| ensures| requires| where|$)", header)
+    if opens is None or not given:
+        return None
+    for argument in parts_of(given[1]):
+        named = re.fullmatch(r"([a-z]\w*): (?!&(?:'\w+ )?mut)(.+)", argument)
+        if named:
+            added = f"{indent}    let here_first = {named[1]};", f"{indent}    let {named[1]} = here_first;"
+            return [*lines[: opens + 1], *added, *lines[opens + 1 :]]
     return None
 
 

@@ -134,8 +134,16 @@ class Twins(unittest.TestCase):
         two, one = (deciding.twin_of("pt", texts, it) for it in ("two", "one"))
         self.assertTrue(two and one)
         if two and one:
+            self.assertEqual((two.functions, two.neutral), (["two"], True))
             self.assertIn("let here_first = a + 1;\n    let b = here_first;", (two.apply(texts) or {})["src/lib.rt"])
             self.assertIn("let here_first = a + 1;\n    here_first\n}", (one.apply(texts) or {})["src/lib.rt"])
+
+
+    def test_an_argument_has_one_more_name(self) -> None:
+        text = "fn three(a: &mut A, b: u8) -> u8\n    ensures { result ≡ b }\n{\n    match b {\n        _ => b,\n    }\n}\n"
+        three = deciding.twin_of("pt", {"src/lib.rt": text}, "three")
+        changed = three.apply({"src/lib.rt": text}) if three else None
+        self.assertIn("{\n    let here_first = b;\n    let b = here_first;\n    match", (changed or {}).get("src/lib.rt", ""))
 
 
 class Files(unittest.TestCase):

@@ -10,10 +10,10 @@
 //!
 //! # What is proved
 //!
-//! - **The team.** On each desk every child that its supervisor wants alive is alive, once the node is gathered.
-//!   (`AllChildrenLive`)
-//! - **The shifts.** Behind the pauses of its node each such child is alive, or unlinked itself. What happened until the
-//!   last pause is one legal history. (`AllChildrenLive`, `IsLegal`)
+//! - **The team.** On each desk every child that its supervisor wants alive is alive, once the node is gathered, or
+//!   unlinked itself, or the supervisor is ending a child that traps exits and lives on. (`AllChildrenLive`)
+//! - **The shifts.** So it is behind the pauses of its node. What happened until the last pause is one legal history.
+//!   (`AllChildrenLive`, `IsLegal`)
 //! - **The others.** Nothing goes wrong in a scene. That it ends, and what it prints, is seen by its run.
 #![tactic(auto)]
 

@@ -13,7 +13,8 @@ use pt_supervisor::Supervised;
 ///
 /// The end of an epoch keeps it (`ends`), and so does a run of epochs by this drive (`run`) and one on threads
 /// (`threads`). If one of these epochs ends since nothing is left to do, each child that its supervisor wants alive is
-/// alive at its end, or unlinked itself (`idle`, and `idle_threads` on threads).
+/// alive at its end, or unlinked itself, unless the supervisor is ending one that traps exits and lives on (`idle`, and
+/// `idle_threads` on threads).
 pub fn epochs_children_live<B: Supervised + Drop, D: Drive<B>, S: Sink>(drive: &D)
     ensures ends { EpochsHold B.supervisor S.takes S.refuses }
     ensures run { RunsHold B.supervisor S.takes S.refuses (λ plan. InTurns B.answers (D.lets drive.now) plan.budget) }

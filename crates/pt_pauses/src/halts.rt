@@ -20,8 +20,9 @@ use pt_supervisor::Supervised;
 /// A node that is halted may be gathered. What is upheld on a gathered node comes of the desks that are gathered
 /// (`gathers`). It stays so as the node is settled, as far as that comes (`settles`), and is upheld behind a resumption
 /// (`resumes`). On such a node both theorems hold. If no letter is left over and no process has anything to do, each
-/// child that a supervisor wants alive is alive, or unlinked itself (`live`). If a supervisor stopped by itself, no child
-/// that it ever started is alive, unless that child sent it an exit signal (`ended`).
+/// child that a supervisor wants alive is alive, or unlinked itself, unless the supervisor is ending one that traps exits
+/// and lives on (`live`). If a supervisor stopped by itself, no child that it ever started is alive, unless that child
+/// sent it an exit signal (`ended`).
 ///
 /// A run until nothing is left to do keeps it too, by this drive, however it ends (`until_idle`).
 pub fn halted_children_live<B: Supervised + Drop, D: Drive<B>, S: Sink>(drive: &D)

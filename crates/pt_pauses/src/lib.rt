@@ -17,12 +17,12 @@
 //! - **Epochs.** So it is over a run of epochs, on one thread or on many, and all that its sink took is what happened
 //!   before. (`EpochsHold`, `RunsHold`)
 //! - **Idle epochs.** If an epoch ends since nothing is left to do, each child that a live supervisor wants alive is
-//!   alive at its end, or unlinked itself. (`IdleEpochsLive`)
+//!   alive at its end, or unlinked itself, unless the supervisor is ending one that lives on. (`IdleEpochsLive`)
 //! - **Halts.** If a run of epochs halts, the supervisors uphold it on the node as it is then, and also where it goes on.
 //!   (`HaltedRunHolds`, `GoingOnHolds`, `HaltingAgainHolds`)
 //! - **Gathered nodes.** It holds of a node that is gathered, and as it is settled. On such a node each child that is to
-//!   live does, once all is still. If a supervisor stopped by itself, none that it started lives. (`AllHoldIn`,
-//!   `HeldChildrenLive`, `HeldChildrenEnded`)
+//!   live does, once all is still, with the same exceptions. If a supervisor stopped by itself, none that it started
+//!   lives. (`AllHoldIn`, `HeldChildrenLive`, `HeldChildrenEnded`)
 #![tactic(auto)]
 
 mod epochs;

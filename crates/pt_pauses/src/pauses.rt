@@ -13,7 +13,8 @@ use pt_supervisor::Supervised;
 /// It needs that the node was gathered, settled and resumed, and that each crew began again (`hold`). What happened
 /// until then counts as what was before, from the first opening of the node on: an unlink of a child, or news of its
 /// exit. So by [`gathered_children_live`](pt_supervisor::gathered_children_live) each child that a supervisor wants
-/// alive is alive once the node is still again, or unlinked itself.
+/// alive is alive once the node is still again, or unlinked itself, unless the supervisor is ending one that traps exits
+/// and lives on.
 ///
 /// A run of the crews at this gate keeps it, on threads (`run`) or in rounds (`rounds`), and so does turning the node
 /// until it is still (`rests`). What the desks go on from stays through every other call of them, too (`from`).
