@@ -18,14 +18,14 @@ log = logging.getLogger("pundewo")
 ROOT = Path(__file__).resolve().parents[3]
 AUDIT = ROOT / "bin" / "pt_audit"
 # (ends it after 100 seconds of a processor)
-BOUNDED = [ROOT / ".ci" / "bounded", "100"]
+BOUNDED = [str(ROOT / ".ci" / "bounded"), "100"]
 
 
 def audit(test: unittest.TestCase, file: Path) -> None:
     """Has the history judged, if the program that does is built."""
     if AUDIT.exists():
         with open(file, "rb") as history:
-            judged = subprocess.run([*BOUNDED, AUDIT], stdin=history, capture_output=True, check=False)
+            judged = subprocess.run([*BOUNDED, str(AUDIT)], stdin=history, capture_output=True, check=False)
         test.assertTrue(judged.stdout.startswith(b"legal"), judged.stdout)
 
 
