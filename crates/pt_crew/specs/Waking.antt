@@ -1,5 +1,5 @@
 -- Who of a crew has something to do, and who of it stands in the queue.
-use Rattle.std.specs.Prelude.{◌≡◌, ℕ, ◌≤◌, cond, Bool, true, false, List, length, ◌++◌, Option, Some, None}
+use Rattle.std.specs.Prelude.{◌≡◌, ℕ, ◌≤◌, nat_le, cond, Bool, true, false, List, length, ◌++◌, Option, Some, None}
 use Rattle.std.specs.List.{IsDistinct, list_any}
 use Rattle.std.specs.Option.{option_map}
 use Rattle.pt_timers.specs.declared.Timer.{Timer}
@@ -34,6 +34,11 @@ pick_of _ = None
 abbrev pub limit_of : Next → Option ℕ
 limit_of (WaitUntil k at) = Some at
 limit_of _ = None
+
+-- whether it waits until a time that has come
+abbrev pub is_over : Next → ℕ → Bool
+is_over (WaitUntil k at) time = nat_le at time
+is_over _ time = false
 
 abbrev pub in_queue : Pid → List Pid → Bool
 in_queue p queue = list_any (same_pid p) queue

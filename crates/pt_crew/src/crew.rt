@@ -20,7 +20,7 @@ ghost use Rattle.pt_crew.specs.Stepping.{is_running};
 ghost use Rattle.pt_crew.specs.Parts.{Admits, AdmitsFirst, AllMarked, CanEnter, MemberTends, Wakes, WakesAt};
 ghost use Rattle.pt_crew.specs.Parts.{PutsMember, SleepsUntil, Stops, WakesBy, sleeper};
 ghost use Rattle.pt_crew.specs.Parts.{is_marked, kept_as};
-ghost use Rattle.pt_crew.specs.Waking.{IsAwake, is_queued, pick_of, timer_of, limit_of};
+ghost use Rattle.pt_crew.specs.Waking.{IsAwake, is_over, is_queued, pick_of, timer_of, limit_of};
 ghost use Rattle.pt_timers.specs.Calls.{NoneDue};
 ghost use Rattle.pt_crew.specs.Running.{is_idle};
 
@@ -737,14 +737,27 @@ fn tend<B: Behaviour + Drop>(
                 Tended::Gone
             }
         }
-        Next::Wait(pick) => receive(member, births, desk, time, p, pick, false),
-        Next::WaitUntil(pick, at) => receive(member, births, desk, time, p, pick, at <= time),
+        // (one call, so that it becomes a part of this function)
+        Next::Wait(pick) | Next::WaitUntil(pick, _) => {
+            let is_over = is_over(member.next, time);
+            receive(member, births, desk, time, p, pick, is_over)
+        }
+    }
+}
+
+/// Whether a process waits until a time that has come.
+#[inline(always)]
+fn is_over(next: Next, time: u64) -> bool
+    ensures { result ≡ is_over next time }
+{
+    match next {
+        Next::WaitUntil(_, at) => at <= time,
+        _ => false,
     }
 }
 
 /// Passes a process its first matching item, or `None` if there is no such item and its time is over.
 #[tactic(auto, using(pt_desk::proofs::Turning::goes_on_then, crate::proofs::Takes::idle_is))]
-#[inline(always)]
 fn receive<B: Behaviour + Drop>(
     member: &mut Member<B>,
     births: &mut Births<B>,
@@ -764,21 +777,16 @@ fn receive<B: Behaviour + Drop>(
     ensures tends { MemberTends p result member.new desk.new.shard }
     ensures goes_on { GoesOn desk.old desk.new }
 {
-    match desk.receive(p, pick) {
-        Ok(None) => {
-            if !is_over {
-                return Tended::Idle;
-            }
-            hand(member, births, desk, time, p, None);
-            handed(member.next, desk, p)
-        }
-        Ok(Some(item)) => {
-            hand(member, births, desk, time, p, Some(item));
-            handed(member.next, desk, p)
-        }
-        Err(Fault::Gone) => Tended::Gone,
-        Err(_) => Tended::Refused,
+    let got = match desk.receive(p, pick) {
+        Ok(got) => got,
+        Err(Fault::Gone) => return Tended::Gone,
+        Err(_) => return Tended::Refused,
+    };
+    if got.is_none() && !is_over {
+        return Tended::Idle;
     }
+    hand(member, births, desk, time, p, got);
+    handed(member.next, desk, p)
 }
 
 /// What follows when a process got something: it joins the queue's end, unless it waits with an empty mailbox. One that

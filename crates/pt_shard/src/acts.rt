@@ -300,5 +300,5 @@ pub(crate) fn end_by(
     let estate = processes.end(letter.to, reason);
     let event = Event::Came(letter.from, letter.to, letter.signal);
     ledger.write_end(letter.stamp, event, letter.to, &estate);
-    ledger.lose(Loss::Exited(letter.to, reason, estate.into_mailbox()));
+    ledger.lose_estate(letter.to, reason, estate);
 }

@@ -245,6 +245,20 @@ impl Ledger {
         self.losses.add(loss);
     }
 
+    /// Keeps what a process loses by its exit until it is told, if losses are kept. There is room for it then.
+    ///
+    /// Else its mailbox is not even taken out of its estate.
+    #[inline(always)]
+    pub(crate) fn lose_estate(&mut self, p: Pid, reason: Reason, estate: Estate)
+        requires { HasLossRoom self.old }
+        ensures { self.new.book ≡ losing (Some (Exited p reason estate.waiting)) self.old.book }
+    {
+        if self.losses.keeps() {
+            self.losses
+                .add(Loss::Exited(p, reason, estate.into_mailbox()));
+        }
+    }
+
     /// Sets whether losses are kept from now on.
     pub(crate) fn keep_losses(&mut self, on: bool)
         ensures { self.new.book ≡ record self.old.book { keeps = on } }

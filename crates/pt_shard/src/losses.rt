@@ -49,6 +49,14 @@ impl Losses {
         self.keeps = on;
     }
 
+    /// Whether losses are kept.
+    #[inline(always)]
+    pub(crate) fn keeps(&self) -> bool
+        ensures { result ≡ self.now.keeps }
+    {
+        self.keeps
+    }
+
     /// Makes room for one more, if losses are kept.
     #[inline(always)]
     pub(crate) fn reserve(&mut self) -> Result<(), AllocError>

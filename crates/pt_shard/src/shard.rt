@@ -548,8 +548,7 @@ impl Shard {
         self.ledger.prepare_end(0, process)?;
         let estate = self.processes.end(p, reason);
         self.ledger.write_end(0, Event::Left(p, reason), p, &estate);
-        self.ledger
-            .lose(Loss::Exited(p, reason, estate.into_mailbox()));
+        self.ledger.lose_estate(p, reason, estate);
         Ok(())
     }
 
