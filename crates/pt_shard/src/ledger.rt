@@ -15,6 +15,7 @@ ghost use Rattle.pt_signal.specs.Boxes.{one_more};
 ghost use Rattle.pt_shard.specs.LedgerState.{Book, wrote, restarted_book, forgetful_book, Prepares, HasNoNeed};
 ghost use Rattle.pt_shard.specs.LedgerState.{HasRoomAt, HasRoomFor};
 ghost use Rattle.pt_shard.specs.LedgerState.{HasLossRoom, HasRoomToAll, HasRoomToEnd, is_of_desk, losing};
+ghost use Rattle.pt_shard.specs.declared.loss.Loss.TheVariants.{Exited};
 ghost use Rattle.pt_process.specs.Peers.{peers_held};
 ghost use Rattle.pt_shard.specs.LettersState.{LettersState};
 ghost use Rattle.pt_shard.specs.Outbox.{count_held};
@@ -27,7 +28,7 @@ use crate::origin::Origin;
 use crate::stop::Stop;
 use pt_events::{Event, Journal, MAX_STAMP, Stamped};
 use pt_process::{Estate, Process};
-use pt_signal::{Letter, LinkId, Pid, Ref, Signal};
+use pt_signal::{Letter, LinkId, Pid, Reason, Ref, Signal};
 use std::alloc::{AllocError, Global};
 use std::marker::Model;
 

@@ -55,13 +55,12 @@ write_end-requires-clause-to c = (owed c).1
 pub write_end-requires-clause-letters : goal.write_end-requires-clause-letters
 write_end-requires-clause-letters c = (owed c).2
 
-one : (c : goal.After-lose) → Acted (Unit {0}) (parts_of c.self.inside.config c.self.inside.ledger.book c.self.inside.processes) (parts_of c.self.inside.config c.lose.new.self.book c.end-estate.new.self) c.args.p (Some (Left c.args.p c.args.reason)) (tt {0}) (Ok (tt {0}))
+one : (c : goal.After-lose_estate) → Acted (Unit {0}) (parts_of c.self.inside.config c.self.inside.ledger.book c.self.inside.processes) (parts_of c.self.inside.config c.lose_estate.new.self.book c.end-estate.new.self) c.args.p (Some (Left c.args.p c.args.reason)) (tt {0}) (Ok (tt {0}))
 one c =
     let can : c.self.inside.ledger.book.clock < 2 ^ 62 = (let k = c.in_ok-prepare_end.ensures.does.1 in omega arith) in
     exited (parts_of c.self.inside.config c.self.inside.ledger.book c.self.inside.processes) c.self.invariant c.args.p c.in-Some.process.now c.in-Some.ensures.value c.prepare_end.new.process c.prepare_end.ensures.me c.prepare_end.ensures.state
-    c.args.reason c.end-estate.result c.end-estate.new.self c.end-estate.ensures.desk c.end-estate.ensures.ends can c.prepare_end.new.self.book c.lose.new.self.book c.in_ok-prepare_end.ensures.does.0
-    (c.lose.ensures
-    ∙ ap (λ w. losing (Some (Exited c.args.p c.args.reason w)) c.write_end.new.self.book) c.into_mailbox.ensures
+    c.args.reason c.end-estate.result c.end-estate.new.self c.end-estate.ensures.desk c.end-estate.ensures.ends can c.prepare_end.new.self.book c.lose_estate.new.self.book c.in_ok-prepare_end.ensures.does.0
+    (c.lose_estate.ensures
     ∙ ap (λ b. losing (Some (Exited c.args.p c.args.reason c.end-estate.result.waiting)) b) c.write_end.ensures.book)
 
 pub invariant_of-self-2 : goal.invariant_of-self-2
@@ -69,7 +68,7 @@ invariant_of-self-2 c = (one c).whole
 
 pub returns : goal.returns
 returns c =
-    let new = shard_of (parts_of c.self.inside.config c.lose.new.self.book c.end-estate.new.self) in
+    let new = shard_of (parts_of c.self.inside.config c.lose_estate.new.self.book c.end-estate.new.self) in
     record {
       does = subst (λ d. Calls c.args.p (Some (Left c.args.p c.args.reason)) (tt {0}) d (Ok (tt {0})) new) c.self.view_is (one c).does;
       extends = subst (λ d. Extends d new) c.self.view_is (one c).extends;
