@@ -126,8 +126,8 @@ def proofs_of(crate: str) -> dict[str, str]:
     found: dict[str, str] = {}
     for name in ("Answers.antt", "Proof.antt"):
         for file in sorted(folder.rglob(name)):
-            path = str(file.parent.relative_to(folder)).replace("/", "::")
-            found[path] = found.get(path, "") + file.read_text()
+            read = deciding.proofs_in(str(file.parent.relative_to(folder)).replace("/", "::"), file.read_text())
+            found.update({path: found.get(path, "") + text for path, text in read.items()})
     return found
 
 

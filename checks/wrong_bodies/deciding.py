@@ -314,7 +314,8 @@ def asks_for_value(clause: str, definitions: dict[str, str]) -> bool:
 def answers_in(text: str) -> dict[str, str]:
     """The answers of a proof file, each by its name, with the text of its definition."""
     found: dict[str, str] = {}
-    name, lines = "", []
+    name = ""
+    lines: list[str] = []
     for line in [*text.split("\n"), "pub end :"]:
         begins = re.match(r"pub ([^\s:]+) *:", line)
         if begins:
@@ -415,7 +416,7 @@ def take_verdict(said: Said, crate: str, function: str, verdict: str, falsified:
     name = function.removeprefix(f"{crate}::")
     said.verdicts[name] = verdict.replace(f"`{crate}::", "`")
     unanswered = re.search(r"`search` did not prove ((?:`[^`]+`(?:, | and )?)+)", verdict)
-    for goal in re.findall(r"`([^`]+)`", unanswered[1]) if unanswered else []:
+    for goal in (of_member(name, it) for it in re.findall(r"`([^`]+)`", unanswered[1] if unanswered else "")):
         said.goals.setdefault(name, []).append(Goal(goal, "values" if goal in falsified else "open", f"`search` did not prove `{goal}`"))
 
 
@@ -425,7 +426,31 @@ def take_error(said: Said, message: str) -> None:
     if wrong:
         named = re.match(r"`([^`\s]+)`: ", wrong[2])
         reason = "name" if OF_A_NAME.search(wrong[2]) else "values" if HAS_VALUES.search(wrong[2]) else "answer"
-        said.goals.setdefault(wrong[1].replace("/", "::"), []).append(Goal(named[1] if named else "", reason, wrong[2]))
+        for function, goal in [member_of(wrong[1].replace("/", "::"), named[1] if named else "")]:
+            said.goals.setdefault(function, []).append(Goal(goal, reason, wrong[2]))
+
+
+def of_member(function: str, goal: str) -> str:
+    """A goal of a function. The prover puts the name of a function of a cycle before it."""
+    return re.sub(rf"^{function.split('::')[-1]}-(?!requires)", "", goal)
+
+
+def member_of(path: str, goal: str) -> tuple[str, str]:
+    """The function that a goal of this proof file is of, and the goal. A file of a cycle has the goals of all its functions."""
+    module, cycle, _ = path.rpartition("::+")
+    member, _, rest = goal.partition("-")
+    return (f"{module}::{member}", rest) if cycle else (path, goal)
+
+
+def proofs_in(path: str, text: str) -> dict[str, str]:
+    """What this proof file says of each function, by the function's path."""
+    if "::+" not in path:
+        return {path: text}
+    found: dict[str, str] = {}
+    for name, body in answers_in(text).items():
+        function, goal = member_of(path, name)
+        found[function] = found.get(function, "") + f"pub {goal} : it\n{goal} = {body}\n"
+    return found
 
 
 @dataclass

@@ -90,6 +90,28 @@ class Clauses(unittest.TestCase):
         self.assertIsNone(deciding.clause_in("counts it counts one more"))
 
 
+class Cycles(unittest.TestCase):
+    def test_a_goal_names_its_function(self) -> None:
+        self.assertEqual(deciding.member_of("finding::+search", "search_by-returns-then"), ("finding::search_by", "returns-then"))
+        self.assertEqual(deciding.member_of("finding::search", "returns-then"), ("finding::search", "returns-then"))
+        self.assertEqual(deciding.of_member("finding::search_by", "search_by-loop-it-preserved"), "loop-it-preserved")
+        self.assertEqual(deciding.of_member("finding::search_by", "search_by-requires"), "search_by-requires")
+
+    def test_an_error_is_of_its_function(self) -> None:
+        text = "proofs/finding/+search/Answers.antt:3:1: error: `search_by-returns-then`: it has another type\nfn pt_a::finding::search_by: refused"
+        own = deciding.understood(text, "pt_a", 1.0).own("finding::search_by")
+        self.assertEqual([(it.name, it.reason) for it in own], [("returns-then", "answer")])
+
+    def test_a_proof_is_of_its_function(self) -> None:
+        text = "pub a-returns : goal.a-returns\na-returns c = walk c\n\npub b-returns : goal.b-returns\nb-returns c = search\n"
+        read = deciding.proofs_in("finding::+a", text)
+        clause = deciding.clause_in("ensures: it is not so")
+        assert clause
+        self.assertEqual(sorted(read), ["finding::a", "finding::b"])
+        self.assertTrue(deciding.answered_by_hand(read["finding::a"], clause))
+        self.assertFalse(deciding.answered_by_hand(read["finding::b"], clause))
+
+
 class Reasons(unittest.TestCase):
     def test_an_answer_by_hand_counts_if_the_form_is_kept(self) -> None:
         proofs = {"playing::play": BY_HAND}
