@@ -27,7 +27,7 @@
 //!   `SpawnsBossInTeam`)
 //! - **Timers and names.** Each call is that of `Timers` and of `Names`, with bytes for a name. (`StartsTimer`,
 //!   `RegistersName`)
-//! - **Calls.** Asking, hearing and replying are those of `pt_crew`, and a call ends once. The messages of calls are told
+//! - **Calls.** Asking, hearing and replying are those of `pt_pending`, and a call ends once. The messages of calls are told
 //!   from others. (`AsksServer`, `HearsItem`, `TellsIfCall`)
 //! - **Letters and doors.** The next turn posts to no other desks than those told. What is taken out of a way in is what was
 //!   handed in, in order, each message once. (`PostsWhereLettersWait`, `TakesCode`, `meet` of `pt_doors`)

@@ -9,7 +9,7 @@ use Rattle.pt_crew.specs.declared.behaviour.Next.{Next}
 use Rattle.pt_crew.specs.declared.behaviour.Next.TheVariants.{Running}
 use Rattle.pt_crew.specs.declared.births.Role.{Role}
 use Rattle.pt_crew.specs.declared.crew.Crew.{Crew}
-use Rattle.pt_crew.specs.Waking.{IsAwake, AreRung, in_queue}
+use Rattle.pt_crew.specs.Waking.{IsAwake, AreRung}
 use Rattle.pt_crew.specs.Visiting.{Answers, AreSame, AreWith, VisitsOne}
 use Rattle.pt_crew.specs.Crews.{Attends, EntersAll, IsSame, KeepsRest, KnowsDesk, are_any, left, members, queue, read_events, roles}
 use Rattle.pt_crew.specs.Crews.{rounds_asked, scene, time_of, waiting, was_refused}

@@ -43,7 +43,7 @@ pub fn open(alloc: Global, places: u32) -> Result<(Door, WayIn), AllocError>
 /// Looks at a way in from both of its ends, and returns the number of messages that wait. It is for a caller that has
 /// both ends.
 ///
-/// What was taken out, and then what waits, is what was handed in: in order, each message once.
+/// The messages taken out, followed by those that wait, are the messages handed in: in order, each once.
 pub fn meet(door: &mut Door, way_in: &mut WayIn) -> usize
     requires { IsPair door.old.ring way_in.old.ring }
     ensures whole { received way_in.new.ring ++ known_items way_in.new.ring ≡ sent door.new.ring }

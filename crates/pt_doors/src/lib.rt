@@ -10,8 +10,8 @@
 //!
 //! # What is proved
 //!
-//! - **The way in.** What was taken out, and then what waits, is what was handed in at the door: in order, each message
-//!   once. (`PostsAtDoor`, `TakesPost`, `meet`)
+//! - **The way in.** The messages taken out, followed by those that wait, are the messages handed in at the door: in
+//!   order, each once. (`PostsAtDoor`, `TakesPost`, `meet`)
 //! - **Refusals.** `post` fails only if the door knows of no free place, or is told that its way in was given up. Nothing
 //!   has changed then. (`PostsCode`)
 //! - **Places.** A way in of no places is refused, and nothing has changed. (`OpensWayIn`)

@@ -1,32 +1,31 @@
 -- A process that is come to, whose behaviour is a hand.
-use Rattle.std.proofs.Common.{◌≡◌, ◌⊎◌, inl, inr, ℕ, Bool, true, false, cond, List, [], ◌∷◌, ◌++◌, Option, Some, None, Result, Ok, Err, refl, sym, ap, subst, ◌∙◌}
-use Rattle.std.specs.Prelude.{MatchBool, nat_le, unwrap_or}
+use Rattle.std.proofs.Common.{◌≡◌, ◌⊎◌, inl, inr, ℕ, Bool, true, false, cond, List, [], ◌++◌, Option, Some, None, Result, Ok, Err, refl, sym, ap, subst, ◌∙◌}
+use Rattle.std.specs.Prelude.{MatchBool, nat_le}
 use Rattle.std.specs.Option.{option_map}
 use Rattle.std.proofs.lemmas.Bool.{leb-true}
 use Rattle.pt_signal.specs.declared.pid.Pid.{Pid}
 use Rattle.pt_signal.specs.declared.item.Item.{Item}
 use Rattle.pt_signal.specs.declared.item.Pick.{Pick}
 use Rattle.pt_signal.specs.declared.reason.Reason.{Reason}
-use Rattle.pt_signal.specs.declared.reason.Reason.TheVariants.{Noproc}
-use Rattle.pt_signal.specs.Values.{same_pid, fits}
+use Rattle.pt_signal.specs.Values.{fits}
 use Rattle.pt_signal.proofs.Same.{same_pid_refl}
 use Rattle.pt_events.specs.declared.event.Event.TheVariants.{Took, Left}
 use Rattle.pt_events.specs.declared.event.Stamped.{Stamped}
 use Rattle.pt_shard.specs.declared.fault.Fault.{Fault}
 use Rattle.pt_shard.specs.declared.fault.Fault.TheVariants.{Full, Memory, Worn, Gone, Myself, NoProc}
-use Rattle.pt_shard.specs.ShardState.{ShardState, lives, phase_of, state_in, shard_after}
+use Rattle.pt_shard.specs.ShardState.{ShardState, lives, phase_of, state_in}
 use Rattle.pt_shard.specs.Calls.{Calls, after_if, take_event, first_match}
 use Rattle.pt_events.specs.History.{Phase, unborn, living, ended}
 use Rattle.pt_crew.specs.declared.behaviour.Next.{Next}
 use Rattle.pt_crew.specs.declared.behaviour.Next.TheVariants.{Wait, WaitUntil, Proceed, Running, Stop}
 use Rattle.pt_crew.specs.declared.births.Role.{Role}
 use Rattle.pt_crew.specs.declared.crew.Tended.{Tended}
-use Rattle.pt_crew.specs.declared.crew.Tended.TheVariants.{Idle, Again, Done, Refused, Gone as Ended}
-use Rattle.pt_crew.specs.Visiting.{BearsChildren, ComesTo, EndsAs, HandsTo, LeavesAs, SeesTo, StaysAs, TakesAs, handed_as, leaves_crew, takes}
+use Rattle.pt_crew.specs.declared.crew.Tended.TheVariants.{Idle, Refused, Gone as Ended}
+use Rattle.pt_crew.specs.Visiting.{ComesTo, EndsAs, HandsTo, LeavesAs, SeesTo, StaysAs, TakesAs, handed_as, leaves_crew, takes}
 use Rattle.pt_crew.specs.Handing.{MayBeHanded, item_handed}
 use Rattle.pt_crew.specs.Waking.{pick_of}
 use Rattle.pt_crew.proofs.Handing.{found_fits}
-use Rattle.pt_crew.proofs.Takes.{left_takes, none_taken, one_taken, refused_taken}
+use Rattle.pt_crew.proofs.Takes.{left_takes, one_taken}
 use Rattle.pt_hands.specs.declared.hand.Hand.{Hand}
 use Rattle.pt_hands.specs.Pulling.{hand_answers, exit_in, exit_reason, noted_reason, reason_told}
 

@@ -1,7 +1,6 @@
 -- What a pull does.
 use Rattle.std.proofs.Common.{◌≡◌, ◌⊎◌, inl, inr, ℕ, ◌+◌, ◌≤◌, Bool, true, false, cond, ◌||◌, List, [], ◌∷◌, ◌++◌, length, Option, Some, None, refl, sym, ap, subst, ◌∙◌, length-append, append-nil, arith}
 use Rattle.std.specs.Option.{option_map}
-use Rattle.std.specs.Prelude.{unwrap_or}
 use Rattle.pt_signal.specs.declared.pid.Pid.{Pid}
 use Rattle.pt_signal.specs.declared.item.Item.{Item}
 use Rattle.pt_signal.specs.declared.reason.Reason.{Reason}
@@ -14,13 +13,11 @@ use Rattle.pt_crew.specs.declared.behaviour.Next.{Next}
 use Rattle.pt_crew.specs.declared.behaviour.Next.TheVariants.{Running}
 use Rattle.pt_crew.specs.declared.births.Role.{Role}
 use Rattle.pt_crew.specs.declared.crew.Crew.{Crew}
-use Rattle.pt_crew.specs.declared.crew.Member.{Member}
 use Rattle.pt_crew.specs.declared.crew.Tended.{Tended}
 use Rattle.pt_crew.specs.declared.crew.Tended.TheVariants.{Idle, Refused, Gone as Ended}
 use Rattle.pt_crew.specs.Births.{bore}
-use Rattle.pt_crew.specs.Visiting.{AreSame, AreWith, BearsChildren, VisitsOne, again_as, is_refused, leaver, leaves_crew, left_as, takes}
-use Rattle.pt_crew.specs.Handing.{MayBeHanded}
-use Rattle.pt_crew.specs.Crews.{Attends, KeepsRest, left, members, queue, role, roles, scene, time_of, waiting, was_refused}
+use Rattle.pt_crew.specs.Visiting.{AreSame, BearsChildren, VisitsOne, again_as, is_refused, leaver, leaves_crew, left_as, takes}
+use Rattle.pt_crew.specs.Crews.{Attends, left, queue, role, roles, scene, time_of, waiting, was_refused}
 use Rattle.pt_crew.specs.Waking.{in_queue}
 use Rattle.pt_crew.specs.Stepping.{Serves, first_of}
 use Rattle.pt_crew.proofs.Waking.{by_cases, elsewhere, first_in, same_some, some_none, there}
@@ -29,9 +26,9 @@ use Rattle.pt_hands.specs.declared.hand.Job.{Job}
 use Rattle.pt_hands.specs.declared.hand.What.{What}
 use Rattle.pt_hands.specs.declared.hand.What.TheVariants.{Exit}
 use Rattle.pt_hands.specs.declared.hands.Hands.{Hands}
-use Rattle.pt_hands.specs.Pulling.{AreViewed, AttendsHands, HandView, HandsOut, Pulls, PullsFirst, SameViews, StaysPut, TellsExit, exit_in, exit_reason, hand_answers, hand_view, hand_views, job_of_exit, what_of}
+use Rattle.pt_hands.specs.Pulling.{AreViewed, AttendsHands, HandView, Pulls, PullsFirst, exit_in, hand_answers, hand_view, hand_views, job_of_exit, what_of}
 use Rattle.pt_hands.specs.Taking.{IsAllNoted, TakesHeld, TakesJob, TakesOf}
-use Rattle.pt_hands.proofs.Noting.{ComesOf, attends_then}
+use Rattle.pt_hands.proofs.Noting.{attends_then}
 use Rattle.pt_hands.proofs.Coming.{Comes, HasLeft, HasStayed, WasHanded, comes}
 
 pub split : (ps : List Pid) (p : Pid) → Some p ≡ first_of ps → (rest : List Pid) × (ps ≡ p ∷ rest)

@@ -1,6 +1,6 @@
 //! A process whose handler is outside, and what it is told.
 
-ghost use Rattle.std.specs.Prelude.{◌≡◌, [], Some, None, false, true};
+ghost use Rattle.std.specs.Prelude.{◌≡◌, Some, None, false, true};
 ghost use Rattle.pt_crew.specs.declared.behaviour.Next.TheVariants.{Running};
 ghost use Rattle.pt_hands.specs.Pulling.{hand_answers, job_of_exit, noted_reason, reason_told, what_of};
 

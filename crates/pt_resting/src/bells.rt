@@ -1,7 +1,5 @@
 //! The bells by which the workers of a node wake one another.
 
-ghost use Rattle.std.specs.Prelude.{◌≡◌, OnOk};
-
 use std::alloc::{AllocError, Global};
 use std::sync::Wait;
 use std::sync::atomic::{AtomicU64, Ordering};

@@ -101,7 +101,7 @@ impl<W> Porter<W> {
     /// Looks at the way in from both of its ends, and returns the number of messages that wait. It is for a caller that
     /// has both ends.
     ///
-    /// What was taken out, and then what waits, is what was handed in: in order, each message once.
+    /// The messages taken out, followed by those that wait, are the messages handed in: in order, each once.
     pub fn meet(&mut self, door: &mut Door<'_>) -> usize
         requires { IsPair door.old.ring self.old.ring }
         ensures whole { received self.new.ring ++ known_items self.new.ring ≡ sent door.new.ring }

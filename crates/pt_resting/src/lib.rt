@@ -13,9 +13,9 @@
 //!
 //! # What is proved
 //!
-//! - **The way in.** What a `Porter` took out, and then what waits, is what was handed in at its `Door`: in order, each
-//!   message once. A message that it took was sent, once and in order, or its receiver was seen to have exited or is not
-//!   known. (`meet`, `Brings`)
+//! - **The way in.** The messages that a `Porter` took out, followed by those that wait, are the messages handed in at its
+//!   `Door`: in order, each once. A message that it took was sent, once and in order, or its receiver was seen to have
+//!   exited or is not known. (`meet`, `Brings`)
 //! - **How many.** A step sends on at most as many as asked for, and fewer only if it knows of no more or sending the
 //!   next one fails. (`few`, `keeps`)
 //! - **Refusals.** A message that could not be sent for want of memory or stamps stays in front.

@@ -6,7 +6,7 @@ ghost use Rattle.pt_crew.specs.Crews.{Attends, IsNextTime, queue, waiting};
 
 use crate::bells::Bells;
 use pt_crew::{Behaviour, Crew};
-use pt_workers::{Desk, Event, Pid, Stamped, Turned, Work};
+use pt_workers::{Desk, Event, Stamped, Turned, Work};
 use std::marker::Model;
 
 /// A work that knows whether it has something to do by itself, though nothing arrives at its desk.

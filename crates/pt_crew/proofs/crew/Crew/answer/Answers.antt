@@ -1,5 +1,5 @@
 -- `Crew::answer`: its clauses `answered` and `attends`.
-use Rattle.std.proofs.Common.{◌≡◌, Some, cond, ap, sym, refl, ◌∙◌}
+use Rattle.std.proofs.Common.{Some, cond, ap, refl, ◌∙◌}
 use Rattle.pt_signal.specs.Values.{same_pid}
 use Rattle.pt_crew.specs.declared.behaviour.Next.{Next}
 use Rattle.pt_crew.specs.declared.behaviour.Next.TheVariants.{Running}

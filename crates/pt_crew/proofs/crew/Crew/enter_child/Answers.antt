@@ -1,10 +1,10 @@
 -- `Crew::enter_child`: its clauses `does`, `knows` and `timers`.
-use Rattle.std.proofs.Common.{◌≡◌, Some, None, cond, ap, sym, refl, subst, ◌++◌, ◌∷◌, [], List, ◌∙◌, inl}
+use Rattle.std.proofs.Common.{Some, cond, ap, sym, subst, ◌++◌, ◌∷◌, [], List, ◌∙◌}
 use Rattle.pt_signal.specs.declared.pid.Pid.{Pid}
 use Rattle.pt_signal.specs.Values.{same_pid}
 use Rattle.pt_shard.specs.Calls.{birth_link}
 use Rattle.pt_crew.specs.Stepping.{QueueIsLonger}
-use Rattle.pt_crew.specs.Crews.{KnowsDesk, members, queue}
+use Rattle.pt_crew.specs.Crews.{members, queue}
 use Rattle.pt_crew.proofs.Newborn.{newborn_is}
 use Rattle.pt_crew.proofs.Timing.{none_if, timers_is}
 use Rattle.pt_crew.proofs.Visiting.{rest_then, same_roles}

@@ -1,5 +1,5 @@
 -- `Crew::replace`: its clauses `replaced` and `attends`.
-use Rattle.std.proofs.Common.{◌≡◌, Some, ap, sym, refl, ◌∙◌, arith}
+use Rattle.std.proofs.Common.{Some, ap, sym, refl, ◌∙◌, arith}
 use Rattle.std.specs.Option.{option_map}
 use Rattle.pt_crew.specs.declared.crew.Member.{Member}
 use Rattle.pt_crew.specs.Crews.{members, role}

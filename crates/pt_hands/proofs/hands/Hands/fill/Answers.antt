@@ -1,5 +1,5 @@
 -- `Hands::fill`: its clauses, and its loop over `place`.
-use Rattle.std.proofs.Common.{inl, inr, refl, sym, ◌∙◌, arith}
+use Rattle.std.proofs.Common.{inl, inr, refl, ◌∙◌, arith}
 use Rattle.pt_desk.proofs.Turning.{goes_on_then}
 use Rattle.pt_workers.proofs.GoingOn.{stays}
 use Rattle.pt_crew.specs.Crews.{queue}

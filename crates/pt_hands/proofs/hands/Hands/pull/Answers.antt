@@ -1,5 +1,5 @@
 -- `Hands::pull`: its clauses `does` and `attends`.
-use Rattle.std.proofs.Common.{Some, ap, refl, sym, subst, ◌∙◌}
+use Rattle.std.proofs.Common.{Some, refl, sym, subst}
 use Rattle.pt_crew.specs.Crews.{Attends}
 use Rattle.pt_hands.specs.declared.hands.Hands.{Hands}
 use Rattle.pt_hands.specs.Pulling.{Pulls}

@@ -1,5 +1,5 @@
 -- `Porter::bring`: its clauses `brings`, `ring` and `goes_on`, and its loop over `place`.
-use Rattle.std.proofs.Common.{◌≡◌, sym, ◌∙◌, arith}
+use Rattle.std.proofs.Common.{◌∙◌, arith}
 use Rattle.rtrb.specs.Ring.{received, known_items}
 use Rattle.pt_desk.proofs.Turning.{goes_on_then}
 use Rattle.pt_resting.proofs.Bringing.{one_more, until, all_of, ring_then}
