@@ -1,5 +1,5 @@
 -- One that was come to, and where it stands then.
-use Rattle.std.proofs.Common.{◌≡◌, ◌⊎◌, inl, inr, ℕ, ◌+◌, Bool, true, false, ◌&&◌, ◌||◌, cond, List, [], ◌∷◌, ◌++◌, length, slice_get, Option, Some, None, Result, Ok, Err, refl, sym, ap, subst, ◌∙◌, append-nil, arith}
+use Rattle.std.proofs.Common.{◌≡◌, ◌⊎◌, inl, inr, ℕ, ◌+◌, Bool, true, false, ◌&&◌, ◌||◌, cond, not, List, [], ◌∷◌, ◌++◌, length, slice_get, Option, Some, None, is_some, Result, Ok, Err, refl, sym, ap, subst, ◌∙◌, append-nil, arith}
 use Rattle.std.specs.Prelude.{MatchBool, nat_le}
 use Rattle.std.specs.Option.{option_map}
 use Rattle.std.specs.VecDeque.{deque_capacity, deque_len}
@@ -233,6 +233,21 @@ kept_handed m Running unborn = refl
 kept_handed m Running (living s) = refl
 kept_handed m Running (ended r s) = refl
 kept_handed m (Stop r) f = refl
+
+-- what one asked for an item got: none only where its time is over ---------------------------------
+
+none_got : (none : Bool) → false ≡ not none → none ≡ false → ⊥
+none_got true h k = absurd (cc)
+none_got false h k = absurd (cc)
+
+pub passed_on : {B : Type 0} (answers : AnswersNow B) (p : Pid) (r : B × Next) (over none : Bool) (got : Option Item) (d : ShardState)
+    (t : Tended) (now : Option (B × Next)) (e : ShardState) (births : List (Role B))
+    → is_some got ≡ not none → ((none ≡ true × over ≡ true) ⊎ (none ≡ false))
+    → HandsTo answers p r.0 got d t now e births → TakesAs answers p r over d (Ok got) t now e births
+passed_on answers p r over none (Some i) d t now e births some either h = h
+passed_on answers p r true none None d t now e births some either h = h
+passed_on answers p r false none None d t now e births some (inl k) h = let over : false ≡ true = k.1 in absurd (cc)
+passed_on answers p r false none None d t now e births some (inr k) h = absurd (none_got none some k)
 
 -- one that sleeps then, or is refused ---------------------------------------------------------
 
