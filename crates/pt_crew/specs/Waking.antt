@@ -36,9 +36,9 @@ limit_of (WaitUntil k at) = Some at
 limit_of _ = None
 
 -- whether it waits until a time that has come
-abbrev pub is_over : Next → ℕ → Bool
-is_over (WaitUntil k at) time = nat_le at time
-is_over _ time = false
+abbrev pub wait_is_over : Next → ℕ → Bool
+wait_is_over (WaitUntil k at) time = nat_le at time
+wait_is_over _ time = false
 
 abbrev pub in_queue : Pid → List Pid → Bool
 in_queue p queue = list_any (same_pid p) queue

@@ -20,7 +20,7 @@ ghost use Rattle.pt_crew.specs.Stepping.{is_running};
 ghost use Rattle.pt_crew.specs.Parts.{Admits, AdmitsFirst, AllMarked, CanEnter, MemberTends, Wakes, WakesAt};
 ghost use Rattle.pt_crew.specs.Parts.{PutsMember, SleepsUntil, Stops, WakesBy, sleeper};
 ghost use Rattle.pt_crew.specs.Parts.{is_marked, kept_as};
-ghost use Rattle.pt_crew.specs.Waking.{IsAwake, is_over, is_queued, pick_of, timer_of, limit_of};
+ghost use Rattle.pt_crew.specs.Waking.{IsAwake, is_queued, pick_of, timer_of, limit_of, wait_is_over};
 ghost use Rattle.pt_timers.specs.Calls.{NoneDue};
 ghost use Rattle.pt_crew.specs.Running.{is_idle};
 
@@ -739,7 +739,7 @@ fn tend<B: Behaviour + Drop>(
         }
         // (one call, so that it becomes a part of this function)
         Next::Wait(pick) | Next::WaitUntil(pick, _) => {
-            let is_over = is_over(member.next, time);
+            let is_over = wait_is_over(member.next, time);
             receive(member, births, desk, time, p, pick, is_over)
         }
     }
@@ -747,8 +747,8 @@ fn tend<B: Behaviour + Drop>(
 
 /// Whether a process waits until a time that has come.
 #[inline(always)]
-fn is_over(next: Next, time: u64) -> bool
-    ensures { result ≡ is_over next time }
+fn wait_is_over(next: Next, time: u64) -> bool
+    ensures { result ≡ wait_is_over next time }
 {
     match next {
         Next::WaitUntil(_, at) => at <= time,
