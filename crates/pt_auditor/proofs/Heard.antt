@@ -27,6 +27,7 @@ use Rattle.pt_auditor.specs.declared.foreign.Foreign.{Foreign}
 use Rattle.pt_auditor.specs.declared.foreign.NoNode.{NoNode}
 use Rattle.pt_auditor.specs.Objecting.{contradiction}
 use Rattle.pt_auditor.specs.Lanes.{letters_laid, is_lane, stamp_noted, letters_flying, letters_still, lane, clock_of}
+use Rattle.pt_auditor.specs.Seen.{shows_end, is_noted}
 use Rattle.pt_auditor.specs.Foreigners.{last_lane, IsOrigin, ComesInOrder, MayBegin, Decides, IsFromNode, IsJudgedForeign, IsLeftByNode, IsJudgedLeft, AllFromNode, IsCarried, first_foreign, no_node, no_left}
 use Rattle.pt_auditor.specs.Hearings.{Heard, IsHeard, IsObjection, IsMisfit, IsOldest, IsOfItsDesks, IsSunk, IsWithout, AllTold, newest, is_above, still, left_flying, with_letter, IsVerdict, MayHear, LettersAreTold, with_event}
 use Rattle.pt_events.specs.Counting.{capped}
@@ -144,6 +145,7 @@ module _ (t : Heard) (h : Hearing) (k : IsHeard t h) where
         lanes = carried (letters_flying t.events) s.stamp s.event (sent_by [] past s.event) h.node.lanes m.lanes node.lanes (order_of t.events s.event from.order)
             (subst (λ z. IsCarried s.stamp s.event z h.node.lanes m.lanes) (sends_are past s.event h.state new w.step before.flies (after_next t.since past h.state new before s.event w.step).flies) moved.lanes);
         clocks = λ d. moved.clocks d ∙ ap (λ z. cond (s.desk == d) s.stamp z) (node.clocks d) ∙ clock_next t.events s d;
+        seen = λ d p. moved.seen d p ∙ ap (λ z. shows_end d p s.event || z) (node.seen d p);
         turn = moved.left ∙ node.turn;
         newest = moved.newest;
         begun = subst (λ b. Decides b (MayBegin t.events s.stamp)) (sym moved.begun_is)
@@ -227,6 +229,7 @@ module _ (t : Heard) (h : Hearing) (k : IsHeard t h) where
             ∙ ap (λ z. cond (is_lane a.shard b.shard (d, e)) (drop 1 (lane a.shard b.shard letters)) z) (node.lanes d e)
             ∙ sym (landed_lane a b letters of_node.order.first of_node.order.there of_node.order.between d e);
         clocks = λ d. ap (λ z. stamp_noted z.clocks d) w.node ∙ node.clocks d;
+        seen = λ d p. ap (λ z. is_noted z.seen d p) w.node ∙ node.seen d p;
         turn = ap (λ z. z.left) w.node;
         newest = ap (λ z. z.newest) w.node ∙ node.newest;
         begun = subst (TellsBegin t.events) (sym (ap (λ z. z.begun) w.node)) node.begun;

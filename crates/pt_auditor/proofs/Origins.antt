@@ -19,10 +19,11 @@ use Rattle.pt_signal.specs.declared.letter.LeftOver.{LeftOver}
 use Rattle.pt_auditor.specs.declared.desks.Desks.{Desks}
 use Rattle.pt_auditor.specs.declared.foreign.Foreign.{Foreign}
 use Rattle.pt_auditor.specs.declared.foreign.NoNode.{NoNode}
-use Rattle.pt_auditor.specs.declared.foreign.NoNode.TheVariants.{Desk, Stamp, Slot, NoVersion, OtherDesk, OtherId, Version, Unborn, Ended, Overtakes, OtherStamp, OtherTurn}
+use Rattle.pt_auditor.specs.declared.foreign.NoNode.TheVariants.{Desk, Stamp, Slot, NoVersion, OtherDesk, OtherId, Version, Unborn, Ended, Seen, Overtakes, OtherStamp, OtherTurn}
 use Rattle.pt_auditor.specs.Lanes.{letters_laid, stamp_noted, goes_between, letters_flying, letters_still, lane, IsFirstInLane, clock_of}
-use Rattle.pt_auditor.specs.Foreigners.{IsToDesk, IsNodeDesk, IsNodeStamp, IsNodeSlot, IsNodeVersion, top_of, reaches, GoesToNoEnded, ComesInOrder, IsNextStamp, IsStillBelow, MayBegin, IsInTime, IsNamedByNode, IsNoNode, IsJudgedForeign, last_lane, IsInTurnOf, HasItsStamp, IsJudgedLeft, AllFromNode, IsOrigin}
-use Rattle.pt_auditor.specs.Foreigners.{Decides, is_to_desk, is_node_desk, is_node_stamp, is_node_slot, is_node_version, is_home, is_link_at, is_new_at, has_ended, is_next_version, was_born, is_known, goes_to_no_ended, is_in_turn, first_laid, is_between_them, is_in_order, is_begin, may_begin, is_above_both, is_in_time, no_place, no_name, first_reason, no_node, has_its_stamp, is_in_turn_of, no_left, first_foreign}
+use Rattle.pt_auditor.specs.Seen.{is_noted}
+use Rattle.pt_auditor.specs.Foreigners.{IsToDesk, IsNodeDesk, IsNodeStamp, IsNodeSlot, IsNodeVersion, top_of, reaches, GoesToNoEnded, GoesToNoneSeen, ComesInOrder, IsNextStamp, IsStillBelow, MayBegin, IsInTime, IsNamedByNode, IsNoNode, IsJudgedForeign, last_lane, IsInTurnOf, HasItsStamp, IsJudgedLeft, AllFromNode, IsOrigin}
+use Rattle.pt_auditor.specs.Foreigners.{Decides, is_to_desk, is_node_desk, is_node_stamp, is_node_slot, is_node_version, is_home, is_link_at, is_new_at, has_ended, is_next_version, was_born, is_known, goes_to_no_ended, goes_to_none_seen, is_in_turn, first_laid, is_between_them, is_in_order, is_begin, may_begin, is_above_both, is_in_time, no_place, no_name, first_reason, no_node, has_its_stamp, is_in_turn_of, no_left, first_foreign}
 use Rattle.pt_auditor.specs.Hearings.{follows, newest, is_above, EventsAreRising, IsNodeAfter, IsAfterRest}
 use Rattle.pt_auditor.proofs.Rested.{same_ended, same_unborn}
 
@@ -155,6 +156,12 @@ ended_of r here d over = go r (here == d) refl over
     go true true h false = λ z y. refl
     go true true h true = λ f. absurd (both_ways true (f refl (eqb-true here d h)) refl)
 
+-- what is said to a process of which the desk has seen that it has ended
+seen_of : (r over : Bool) → Decides (not (r && over)) (r ≡ true → over ≡ false)
+seen_of false over = λ z. absurd (cc)
+seen_of true false = λ z. refl
+seen_of true true = λ f. absurd (both_ways true (f refl) refl)
+
 -- all tests together ------------------------------------------------------------------------
 
 -- the version of a newborn, and the receiver of what is said, are as they have to be; or which of the two is not
@@ -184,15 +191,16 @@ named past s =
     name past s (is_node_desk s) (is_node_stamp s.stamp) (is_node_slot s.event) (is_node_version s.event) (is_home s.desk s.event) (is_new_at s.desk s.stamp s.event)
     (node_desk s) (node_stamp s.stamp) (node_slot s.event) (node_version s.event) (home s.desk s.event) (new_at s.desk s.stamp s.event)
 
-place : (past : List Stamped) (s : Stamped) → IsNamedByNode s → (e f u g h : Bool) → Turn s.desk (events past) s.event e f → Decides u (GoesToNoEnded (events past) s.desk s.event)
-    → Decides g (ComesInOrder past s.event) → Decides h (IsInTime past s.desk s.stamp s.event)
-    → IsJudgedForeign past s (cond e (cond f (cond u (cond g (cond h None (Some OtherStamp)) (Some Overtakes)) (Some Ended)) (Some Unborn)) (Some Version))
-place past s n false f u g h t a o i = (n, t.0, t.1)
-place past s n true false u g h t a o i = (n, t.0, t.1)
-place past s n true true false g h t a o i = (n, t, a)
-place past s n true true true false h t a o i = (n, t, a, o)
-place past s n true true true true false t a o i = (n, t, a, o, i)
-place past s n true true true true true t a o i = record { named = n; known = t; alive = a; order = o; time = i }
+place : (past : List Stamped) (s : Stamped) → IsNamedByNode s → (e f u w g h : Bool) → Turn s.desk (events past) s.event e f → Decides u (GoesToNoEnded (events past) s.desk s.event)
+    → Decides w (GoesToNoneSeen (events past) s.desk s.event) → Decides g (ComesInOrder past s.event) → Decides h (IsInTime past s.desk s.stamp s.event)
+    → IsJudgedForeign past s (cond e (cond f (cond u (cond w (cond g (cond h None (Some OtherStamp)) (Some Overtakes)) (Some Seen)) (Some Ended)) (Some Unborn)) (Some Version))
+place past s n false f u w g h t a b o i = (n, t.0, t.1)
+place past s n true false u w g h t a b o i = (n, t.0, t.1)
+place past s n true true false w g h t a b o i = (n, t, a)
+place past s n true true true false g h t a b o i = (n, t, a, b)
+place past s n true true true true false h t a b o i = (n, t, a, b, o)
+place past s n true true true true true false t a b o i = (n, t, a, b, o, i)
+place past s n true true true true true true t a b o i = record { named = n; known = t; alive = a; unseen = b; order = o; time = i }
 
 module _ (since : Option Stamped) (k : JudgeState) (past : Past) (after : IsAfterRest since past k) where
   next_version : (p : Pid) → Decides (is_next_version k p) ((0 < p.version) × (p.version ≤ p.version) × (1 < p.version → is_ended (life [] past (record p { version = pred p.version })) ≡ true))
@@ -371,6 +379,15 @@ module _ (past : List Stamped) (k : Desks) (j : JudgeState) (s : Stamped) (node 
   order_told (Left p r) = tt
   order_told (Refused a b) = tt
 
+  seen_told : (d : ℕ) (e : Event) → Decides (goes_to_none_seen k.seen d e) (GoesToNoneSeen (events past) d e)
+  seen_told d (Said a b x) = subst (λ c. Decides (not (reaches x && is_noted k.seen d b)) (reaches x ≡ true → c ≡ false)) (node.seen d b) (seen_of (reaches x) (is_noted k.seen d b))
+  seen_told d (Born p parent link) = tt
+  seen_told d (Came a b x) = tt
+  seen_told d (Took p i m) = tt
+  seen_told d (Flag p on) = tt
+  seen_told d (Left p r) = tt
+  seen_told d (Refused a b) = tt
+
   own_told : 0 < s.stamp → Decides ((s.stamp == stamp_noted k.clocks s.desk + 1) || may_begin k j s.stamp) ((s.stamp ≡ clock_of s.desk past + 1) ⊎ MayBegin past s.stamp)
   own_told some =
       either (s.stamp == stamp_noted k.clocks s.desk + 1) (may_begin k j s.stamp) (s.stamp ≡ clock_of s.desk past + 1) (MayBegin past s.stamp)
@@ -390,8 +407,9 @@ module _ (past : List Stamped) (k : Desks) (j : JudgeState) (s : Stamped) (node 
 
   place_judged : IsNamedByNode s → IsJudgedForeign past s (no_place k j s)
   place_judged n =
-      place past s n (is_in_turn j s.event) (is_known j s.desk s.event) (goes_to_no_ended j s.desk s.event) (is_in_order k s.event) (is_in_time k j s.desk s.stamp s.event)
-      (turn_of since j (events past) after s.desk s.event) (ended_told since j (events past) after s.desk s.event) (order_told s.event) (time_told n.stamp.0 s.event)
+      place past s n (is_in_turn j s.event) (is_known j s.desk s.event) (goes_to_no_ended j s.desk s.event) (goes_to_none_seen k.seen s.desk s.event) (is_in_order k s.event)
+      (is_in_time k j s.desk s.stamp s.event) (turn_of since j (events past) after s.desk s.event) (ended_told since j (events past) after s.desk s.event) (seen_told s.desk s.event) (order_told s.event)
+      (time_told n.stamp.0 s.event)
 
   pub judged : IsJudgedForeign past s (no_node k j s)
   judged = go (no_name s) (named past s)

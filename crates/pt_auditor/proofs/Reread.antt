@@ -15,7 +15,7 @@ use Rattle.pt_signal.specs.Process.{ProcessState}
 use Rattle.pt_events.specs.declared.event.Stamped.{Stamped}
 use Rattle.pt_events.specs.History.{Phase, living, at_start}
 use Rattle.pt_texts.specs.declared.records.Record.{Record}
-use Rattle.pt_texts.specs.declared.records.Record.TheVariants.{Head, Last, Clock, Lives, Waits, Linked, Watches, Watched, Ended, End}
+use Rattle.pt_texts.specs.declared.records.Record.TheVariants.{Head, Last, Clock, Seen, Lives, Waits, Linked, Watches, Watched, Ended, End}
 use Rattle.pt_texts.specs.Text.{record_text, record_line}
 use Rattle.pt_texts.specs.Fits.{FitsRecord}
 use Rattle.pt_texts.specs.Readers.{line_at}
@@ -30,9 +30,10 @@ use Rattle.pt_auditor.specs.declared.saved.Flaw.{Flaw}
 use Rattle.pt_auditor.specs.declared.saved.Flaw.TheVariants.{Unread, Misplaced, Sum, Behind, Memory}
 use Rattle.pt_auditor.specs.Rests.{holds_so, ended_run, resident_lives, lives_in, IsRestOf}
 use Rattle.pt_auditor.specs.Lanes.{stamp_noted}
+use Rattle.pt_auditor.specs.Seen.{SeenSlots, is_slot_of, is_noted}
 use Rattle.pt_auditor.specs.Hearings.{TellsBegin}
 use Rattle.pt_events.specs.Counting.{capped}
-use Rattle.pt_auditor.specs.Saving.{IsClosed, IsUnclosed, IsHeldSo, IsToldSo, Entry, alive, run, StateTold, entry_of, entries_with, told_of, clock_record, link_record, watch_record, kept_record, held_records, entry_records, entries_records, last_records, told_records, lines_of, sum_behind, end_line, rest_text, is_nil, first_told, held_with, entry_with, entries_held, no_holding, told_with, told_more, then_told, told_by, AreNewClocks, AreFit, FitsRest, MayStand, is_end_line, StartsWith, IsFlaw, IsDamaged, ParsesRest, IsReadTo, IsReadWhole, EndsReading}
+use Rattle.pt_auditor.specs.Saving.{IsClosed, IsUnclosed, IsHeldSo, IsToldSo, Entry, alive, run, StateTold, entry_of, entries_with, told_of, clock_record, seen_record, link_record, watch_record, kept_record, held_records, entry_records, entries_records, last_records, told_records, lines_of, sum_behind, end_line, rest_text, is_nil, first_told, held_with, entry_with, entries_held, no_holding, told_with, told_more, then_told, told_by, AreNewClocks, AreNewSlots, AreFit, FitsRest, MayStand, is_end_line, StartsWith, IsFlaw, IsDamaged, ParsesRest, IsReadTo, IsReadWhole, EndsReading}
 
 -- lists ------------------------------------------------------------------------------------------
 
@@ -145,33 +146,45 @@ held_more s u (Watched m q) h =
 held_more s u (Head a b c) h = absurd (cc)
 held_more s u (Last e) h = absurd (cc)
 held_more s u (Clock d n) h = absurd (cc)
+held_more s u (Seen d p) h = absurd (cc)
 held_more s u (Lives p b) h = absurd (cc)
 held_more s u (Ended p n r) h = absurd (cc)
 held_more s u (End n) h = absurd (cc)
 
 -- of all that is told
-abbrev lines_told : ℕ → ℕ → Bool → Option Stamped → List (ℕ × ℕ) → List Entry → List Record
-lines_told n d b l c es = Head n d b ∷ last_records l ++ map clock_record c ++ entries_records es
+abbrev lines_told : ℕ → ℕ → Bool → Option Stamped → List (ℕ × ℕ) → SeenSlots → List Entry → List Record
+lines_told n d b l c v es = Head n d b ∷ last_records l ++ map clock_record c ++ map seen_record v ++ entries_records es
 
-last_more : (n d : ℕ) (b : Bool) (l : Option Stamped) (c : List (ℕ × ℕ)) (es : List Entry) (s : Stamped) → is_none l ≡ true → c ≡ [] → es ≡ []
-    → lines_told n d b (Some s) c es ≡ lines_told n d b l c es ++ Last s ∷ []
-last_more n d b None c es s h x y = rw (x, y) refl
-last_more n d b (Some e) c es s h x y = absurd (cc)
+last_more : (n d : ℕ) (b : Bool) (l : Option Stamped) (c : List (ℕ × ℕ)) (v : SeenSlots) (es : List Entry) (s : Stamped) → is_none l ≡ true → c ≡ [] → v ≡ [] → es ≡ []
+    → lines_told n d b (Some s) c v es ≡ lines_told n d b l c v es ++ Last s ∷ []
+last_more n d b None c v es s h x w y = rw (x, w, y) refl
+last_more n d b (Some e) c v es s h x w y = absurd (cc)
 
-clock_more : (n d : ℕ) (b : Bool) (l : Option Stamped) (c : List (ℕ × ℕ)) (es : List Entry) (x : ℕ × ℕ) → es ≡ []
-    → lines_told n d b l (c ++ x ∷ []) es ≡ lines_told n d b l c es ++ clock_record x ∷ []
-clock_more n d b l c es x y =
+-- the front of the lines, with a line more behind a list of them
+map_more : {X : Type 0} (f : X → Record) (front : List Record) (xs : List X) (x : X) → front ++ map f (xs ++ x ∷ []) ≡ front ++ map f xs ++ f x ∷ []
+map_more f front xs x = ap (λ z. front ++ z) (map_both f xs (x ∷ [])) ∙ sym (append_assoc front (map f xs) (f x ∷ []))
+
+clock_more : (n d : ℕ) (b : Bool) (l : Option Stamped) (c : List (ℕ × ℕ)) (v : SeenSlots) (es : List Entry) (x : ℕ × ℕ) → v ≡ [] → es ≡ []
+    → lines_told n d b l (c ++ x ∷ []) v es ≡ lines_told n d b l c v es ++ clock_record x ∷ []
+clock_more n d b l c v es x w y =
+    rw (w, y)
+    (ap (λ z. Head n d b ∷ z)
+    (append-nil (last_records l ++ map clock_record (c ++ x ∷ []) ++ []) ∙ append-nil (last_records l ++ map clock_record (c ++ x ∷ [])) ∙ map_more clock_record (last_records l) c x
+    ∙ ap (λ z. z ++ clock_record x ∷ []) (sym (append-nil (last_records l ++ map clock_record c ++ []) ∙ append-nil (last_records l ++ map clock_record c)))))
+
+seen_more : (n d : ℕ) (b : Bool) (l : Option Stamped) (c : List (ℕ × ℕ)) (v : SeenSlots) (es : List Entry) (x : (ℕ × ℕ × ℕ) × ℕ) → es ≡ []
+    → lines_told n d b l c (v ++ x ∷ []) es ≡ lines_told n d b l c v es ++ seen_record x ∷ []
+seen_more n d b l c v es x y =
+    let front = last_records l ++ map clock_record c in
     rw y
     (ap (λ z. Head n d b ∷ z)
-    (append-nil (last_records l ++ map clock_record (c ++ x ∷ [])) ∙ ap (λ z. last_records l ++ z) (map_both clock_record c (x ∷ []))
-    ∙ sym (append_assoc (last_records l) (map clock_record c) (clock_record x ∷ []))
-    ∙ ap (λ z. z ++ clock_record x ∷ []) (sym (append-nil (last_records l ++ map clock_record c)))))
+    (append-nil (front ++ map seen_record (v ++ x ∷ [])) ∙ map_more seen_record front v x ∙ ap (λ z. z ++ seen_record x ∷ []) (sym (append-nil (front ++ map seen_record v)))))
 
-entries_more : (n d : ℕ) (b : Bool) (l : Option Stamped) (c : List (ℕ × ℕ)) (es fs : List Entry) (x : Record) → entries_records fs ≡ entries_records es ++ x ∷ []
-    → lines_told n d b l c fs ≡ lines_told n d b l c es ++ x ∷ []
-entries_more n d b l c es fs x h =
-    ap (λ z. Head n d b ∷ last_records l ++ map clock_record c ++ z) h
-    ∙ ap (λ z. Head n d b ∷ z) (sym (append_assoc (last_records l ++ map clock_record c) (entries_records es) (x ∷ [])))
+entries_more : (n d : ℕ) (b : Bool) (l : Option Stamped) (c : List (ℕ × ℕ)) (v : SeenSlots) (es fs : List Entry) (x : Record) → entries_records fs ≡ entries_records es ++ x ∷ []
+    → lines_told n d b l c v fs ≡ lines_told n d b l c v es ++ x ∷ []
+entries_more n d b l c v es fs x h =
+    ap (λ z. Head n d b ∷ last_records l ++ map clock_record c ++ map seen_record v ++ z) h
+    ∙ ap (λ z. Head n d b ∷ z) (sym (append_assoc (last_records l ++ map clock_record c ++ map seen_record v) (entries_records es) (x ∷ [])))
 
 entry_more : (t u : StateTold) (es : List Entry) (x : Record) → t.entries ≡ es → entries_held t x es ≡ Some u → told_records u ≡ told_records t ++ x ∷ []
 entry_more t u [] x e h = absurd (cc)
@@ -184,25 +197,31 @@ entry_more t u (alive p s ∷ es) x e h = go (held_with s x) refl h
         let more = held_more s v x k in
         let is : record t { entries = alive p v ∷ es } ≡ u = some_is _ u j in
         ap told_records (sym is)
-        ∙ entries_more t.events t.desks t.begun t.last t.clocks t.entries (alive p v ∷ es) x
+        ∙ entries_more t.events t.desks t.begun t.last t.clocks t.seen t.entries (alive p v ∷ es) x
         (ap₂ (λ b z. entries_records es ++ Lives p b ∷ z) more.traps more.lines ∙ sym (append_assoc (entries_records es) (Lives p s.traps ∷ held_records s) (x ∷ []))
         ∙ ap (λ z. entries_records z ++ x ∷ []) (sym e))
 
 told_line : (t u : StateTold) (x : Record) → told_with t x ≡ Some u → told_records u ≡ told_records t ++ x ∷ []
 told_line t u (Head a b c) h = absurd (cc)
 told_line t u (Last s) h =
-    let p = passed (is_none t.last && is_nil t.clocks && is_nil t.entries) _ u h in
-    let a = and_parts (is_none t.last && is_nil t.clocks) (is_nil t.entries) p.0 in
-    let b = and_parts (is_none t.last) (is_nil t.clocks) a.0 in
-    ap told_records (sym p.1) ∙ last_more t.events t.desks t.begun t.last t.clocks t.entries s b.0 (nil_is t.clocks b.1) (nil_is t.entries a.1)
+    let p = passed (is_none t.last && is_nil t.clocks && is_nil t.seen && is_nil t.entries) _ u h in
+    let a = and_parts (is_none t.last && is_nil t.clocks && is_nil t.seen) (is_nil t.entries) p.0 in
+    let c = and_parts (is_none t.last && is_nil t.clocks) (is_nil t.seen) a.0 in
+    let b = and_parts (is_none t.last) (is_nil t.clocks) c.0 in
+    ap told_records (sym p.1) ∙ last_more t.events t.desks t.begun t.last t.clocks t.seen t.entries s b.0 (nil_is t.clocks b.1) (nil_is t.seen c.1) (nil_is t.entries a.1)
 told_line t u (Clock d n) h =
-    let p = passed (is_nil t.entries && is_none (lookup (λ k. d == k) t.clocks)) _ u h in
-    let a = and_parts (is_nil t.entries) (is_none (lookup (λ k. d == k) t.clocks)) p.0 in
-    ap told_records (sym p.1) ∙ clock_more t.events t.desks t.begun t.last t.clocks t.entries (d, n) (nil_is t.entries a.0)
+    let p = passed (is_nil t.seen && is_nil t.entries && is_none (lookup (λ k. d == k) t.clocks)) _ u h in
+    let a = and_parts (is_nil t.seen && is_nil t.entries) (is_none (lookup (λ k. d == k) t.clocks)) p.0 in
+    let b = and_parts (is_nil t.seen) (is_nil t.entries) a.0 in
+    ap told_records (sym p.1) ∙ clock_more t.events t.desks t.begun t.last t.clocks t.seen t.entries (d, n) (nil_is t.seen b.0) (nil_is t.entries b.1)
+told_line t u (Seen d q) h =
+    let p = passed (is_nil t.entries && is_none (lookup (is_slot_of d q) t.seen)) _ u h in
+    let a = and_parts (is_nil t.entries) (is_none (lookup (is_slot_of d q) t.seen)) p.0 in
+    ap told_records (sym p.1) ∙ seen_more t.events t.desks t.begun t.last t.clocks t.seen t.entries ((d, q.shard, q.slot), q.version) (nil_is t.entries a.0)
 told_line t u (Lives q b) h =
-    ap told_records (sym (some_is _ u h)) ∙ entries_more t.events t.desks t.begun t.last t.clocks t.entries (alive q (no_holding b) ∷ t.entries) (Lives q b) refl
+    ap told_records (sym (some_is _ u h)) ∙ entries_more t.events t.desks t.begun t.last t.clocks t.seen t.entries (alive q (no_holding b) ∷ t.entries) (Lives q b) refl
 told_line t u (Ended q n r) h =
-    ap told_records (sym (some_is _ u h)) ∙ entries_more t.events t.desks t.begun t.last t.clocks t.entries (run q n r ∷ t.entries) (Ended q n r) refl
+    ap told_records (sym (some_is _ u h)) ∙ entries_more t.events t.desks t.begun t.last t.clocks t.seen t.entries (run q n r ∷ t.entries) (Ended q n r) refl
 told_line t u (Waits i) h = entry_more t u t.entries (Waits i) refl h
 told_line t u (Linked q ids) h = entry_more t u t.entries (Linked q ids) refl h
 told_line t u (Watches m q) h = entry_more t u t.entries (Watches m q) refl h
@@ -222,6 +241,7 @@ first_line : (t : StateTold) (x : Record) → first_told x ≡ Some t → told_r
 first_line t (Head n d b) h = ap told_records (sym (some_is _ t h))
 first_line t (Last s) h = absurd (cc)
 first_line t (Clock d n) h = absurd (cc)
+first_line t (Seen d q) h = absurd (cc)
 first_line t (Lives q b) h = absurd (cc)
 first_line t (Waits i) h = absurd (cc)
 first_line t (Linked q ids) h = absurd (cc)
@@ -241,19 +261,26 @@ lines_are (x ∷ xs) u h = go (first_told x) refl h
 
 -- all lines of a rest may stand so ----------------------------------------------------------------
 
-abbrev told_as : StateTold → Option Stamped → List (ℕ × ℕ) → List Entry → StateTold
-told_as t l c es = record t { last = l; clocks = c; entries = es }
+abbrev told_as : StateTold → Option Stamped → List (ℕ × ℕ) → SeenSlots → List Entry → StateTold
+told_as t l c v es = record t { last = l; clocks = c; seen = v; entries = es }
 
-last_told : (t : StateTold) (l : Option Stamped) → then_told (Some (told_as t None [] [])) (last_records l) ≡ Some (told_as t l [] [])
+last_told : (t : StateTold) (l : Option Stamped) → then_told (Some (told_as t None [] [] [])) (last_records l) ≡ Some (told_as t l [] [] [])
 last_told t None = refl
 last_told t (Some s) = refl
 
 clocks_told : (t : StateTold) (l : Option Stamped) (before clocks : List (ℕ × ℕ)) → AreNewClocks before clocks
-    → then_told (Some (told_as t l before [])) (map clock_record clocks) ≡ Some (told_as t l (before ++ clocks) [])
-clocks_told t l before [] h = ap (λ z. Some (told_as t l z [])) (sym (append-nil before))
+    → then_told (Some (told_as t l before [] [])) (map clock_record clocks) ≡ Some (told_as t l (before ++ clocks) [] [])
+clocks_told t l before [] h = ap (λ z. Some (told_as t l z [] [])) (sym (append-nil before))
 clocks_told t l before (c ∷ clocks) h =
-    ap (λ b. then_told (cond b (Some (told_as t l (before ++ c ∷ []) [])) None) (map clock_record clocks)) h.0
-    ∙ clocks_told t l (before ++ c ∷ []) clocks h.1 ∙ ap (λ z. Some (told_as t l z [])) (append_assoc before (c ∷ []) clocks)
+    ap (λ b. then_told (cond b (Some (told_as t l (before ++ c ∷ []) [] [])) None) (map clock_record clocks)) h.0
+    ∙ clocks_told t l (before ++ c ∷ []) clocks h.1 ∙ ap (λ z. Some (told_as t l z [] [])) (append_assoc before (c ∷ []) clocks)
+
+seen_told : (t : StateTold) (l : Option Stamped) (c : List (ℕ × ℕ)) (before seen : SeenSlots) → AreNewSlots before seen
+    → then_told (Some (told_as t l c before [])) (map seen_record seen) ≡ Some (told_as t l c (before ++ seen) [])
+seen_told t l c before [] h = ap (λ z. Some (told_as t l c z [])) (sym (append-nil before))
+seen_told t l c before (s ∷ seen) h =
+    ap (λ b. then_told (cond b (Some (told_as t l c (before ++ s ∷ []) [])) None) (map seen_record seen)) h.0
+    ∙ seen_told t l c (before ++ s ∷ []) seen h.1 ∙ ap (λ z. Some (told_as t l c z [])) (append_assoc before (s ∷ []) seen)
 
 abbrev holding : List Item → List (Pid × Ids) → List (Ref × Pid) → List (Ref × Pid) → Bool → ProcessState
 holding w l m k b = record { waiting = w; links = l; watching = m; kept = k; traps = b }
@@ -304,13 +331,18 @@ entries_told t (e ∷ es) =
     ∙ ap (λ z. then_told z (entry_records e)) (entries_told t es)
     ∙ entry_told (record t { entries = es }) e
 
-pub all_told : (t : StateTold) → AreNewClocks [] t.clocks → told_by (told_records t) ≡ Some t
-all_told t h =
-    ap (then_told (Some (told_as t None [] []))) (append_assoc (last_records t.last) (map clock_record t.clocks) (entries_records t.entries))
-    ∙ then_both (Some (told_as t None [] [])) (last_records t.last) (map clock_record t.clocks ++ entries_records t.entries)
-    ∙ ap (λ z. then_told z (map clock_record t.clocks ++ entries_records t.entries)) (last_told t t.last)
-    ∙ then_both (Some (told_as t t.last [] [])) (map clock_record t.clocks) (entries_records t.entries)
-    ∙ ap (λ z. then_told z (entries_records t.entries)) (clocks_told t t.last [] t.clocks h)
+pub all_told : (t : StateTold) → AreNewClocks [] t.clocks → AreNewSlots [] t.seen → told_by (told_records t) ≡ Some t
+all_told t h w =
+    let start = Some (told_as t None [] [] []) in
+    let last = last_records t.last in
+    let clocks = map clock_record t.clocks in
+    let seen = map seen_record t.seen in
+    let entries = entries_records t.entries in
+    then_both start (last ++ clocks ++ seen) entries
+    ∙ ap (λ z. then_told z entries)
+    (then_both start (last ++ clocks) seen
+    ∙ ap (λ z. then_told z seen) (then_both start last clocks ∙ ap (λ z. then_told z clocks) (last_told t t.last) ∙ clocks_told t t.last [] t.clocks h)
+    ∙ seen_told t t.last t.clocks [] t.seen w)
     ∙ entries_told t t.entries
 
 -- the end stands behind all lines alone
@@ -386,7 +418,7 @@ module _ (R : Rest) (fits : FitsRest R) where
   all = its ++ end_line its ∷ []
 
   tells : told_by its ≡ Some (told_of R)
-  tells = all_told (told_of R) fits.clocks
+  tells = all_told (told_of R) fits.clocks fits.seen
 
   all_fit : AreFit all
   all_fit = all_with its (end_line its) fits.lines (end_fits its)
@@ -487,6 +519,7 @@ same_rest past r s e k = record {
   still = k.still;
   alike = λ p. ap (λ z. at_start z p) (same_lives r s e) ∙ k.alike p;
   clocks = λ d. ap (λ (t : StateTold). stamp_noted t.clocks d) e ∙ k.clocks d;
+  seen = λ d p. ap (λ (t : StateTold). is_noted t.seen d p) e ∙ k.seen d p;
   last = ap (λ (t : StateTold). t.last) e ∙ k.last;
   begun = subst (TellsBegin past) (sym (ap (λ (t : StateTold). t.begun) e)) k.begun;
   count = ap (λ (t : StateTold). t.events) e ∙ k.count;
@@ -590,6 +623,7 @@ module _ (text left : List ℕ) (state : Option Rest) (line : ℕ) (k : IsReadin
   not_end (Head a b c) h = refl
   not_end (Last s) h = refl
   not_end (Clock d n) h = refl
+  not_end (Seen d p) h = refl
   not_end (Lives p b) h = refl
   not_end (Waits i) h = refl
   not_end (Linked p ids) h = refl
@@ -661,14 +695,19 @@ entries_text es (r ∷ rs) =
 
 -- the lines of a rest, part by part
 pub rest_lines : (r : Rest) → lines_of (told_records (told_of r))
-    ≡ record_line (Head r.events r.desks r.begun) ++ (lines_of (last_records r.last) ++ (flat_map (λ c. record_line (clock_record c)) r.clocks ++ flat_map resident_text r.residents.items))
+    ≡ record_line (Head r.events r.desks r.begun) ++ (lines_of (last_records r.last) ++ (flat_map (λ c. record_line (clock_record c)) r.clocks
+    ++ (flat_map (λ s. record_line (seen_record s)) r.seen ++ flat_map resident_text r.residents.items)))
 rest_lines r =
     let entries = entries_records (entries_with [] r.residents.items) in
+    let last = last_records r.last in
+    let clocks = map clock_record r.clocks in
+    let seen = map seen_record r.seen in
     ap (λ z. record_line (Head r.events r.desks r.begun) ++ z)
-    (lines_both (last_records r.last ++ map clock_record r.clocks) entries
-    ∙ ap (λ z. z ++ lines_of entries) (lines_both (last_records r.last) (map clock_record r.clocks))
-    ∙ append_assoc (lines_of (last_records r.last)) (lines_of (map clock_record r.clocks)) (lines_of entries)
-    ∙ ap₂ (λ u v. lines_of (last_records r.last) ++ (u ++ v)) (flat_map-map record_line clock_record r.clocks) (entries_text [] r.residents.items))
+    (lines_both (last ++ clocks ++ seen) entries
+    ∙ ap (λ z. z ++ lines_of entries) (lines_both (last ++ clocks) seen ∙ ap (λ z. z ++ lines_of seen) (lines_both last clocks))
+    ∙ append_assoc (lines_of last ++ lines_of clocks) (lines_of seen) (lines_of entries) ∙ append_assoc (lines_of last) (lines_of clocks) (lines_of seen ++ lines_of entries)
+    ∙ ap (λ z. lines_of last ++ z)
+    (ap₂ (λ u v. u ++ v) (flat_map-map record_line clock_record r.clocks) (ap₂ (λ u v. u ++ v) (flat_map-map record_line seen_record r.seen) (entries_text [] r.residents.items))))
 
 pub held_text : (s : ProcessState) → lines_of (held_records s)
     ≡ flat_map (λ i. record_line (Waits i)) s.waiting ++ (flat_map (λ l. record_line (link_record l)) s.links
@@ -691,14 +730,16 @@ four_written a b c d e one two three four f g h i =
     ∙ append_assoc ((a ++ one) ++ two) three four ∙ append_assoc (a ++ one) two (three ++ four) ∙ append_assoc a one (two ++ (three ++ four))
 
 -- what is written one behind the other
-pub rest_written : (r : Rest) (a b c d e : List ℕ) → b ≡ a ++ record_line (Head r.events r.desks r.begun) → c ≡ b ++ lines_of (last_records r.last)
-    → d ≡ c ++ flat_map (λ x. record_line (clock_record x)) r.clocks → e ≡ d ++ flat_map resident_text r.residents.items → e ≡ a ++ lines_of (told_records (told_of r))
-rest_written r a b c d e f g h i =
+pub rest_written : (r : Rest) (a b c d w e : List ℕ) → b ≡ a ++ record_line (Head r.events r.desks r.begun) → c ≡ b ++ lines_of (last_records r.last)
+    → d ≡ c ++ flat_map (λ x. record_line (clock_record x)) r.clocks → w ≡ d ++ flat_map (λ x. record_line (seen_record x)) r.seen → e ≡ w ++ flat_map resident_text r.residents.items
+    → e ≡ a ++ lines_of (told_records (told_of r))
+rest_written r a b c d w e f g h j i =
     let one = record_line (Head r.events r.desks r.begun) in
     let two = lines_of (last_records r.last) in
     let three = flat_map (λ x. record_line (clock_record x)) r.clocks in
-    let four = flat_map resident_text r.residents.items in
-    four_written a b c d e one two three four f g h i ∙ ap (λ z. a ++ z) (sym (rest_lines r))
+    let four = flat_map (λ x. record_line (seen_record x)) r.seen in
+    let five = flat_map resident_text r.residents.items in
+    four_written a b c d e one two three (four ++ five) f g h (i ∙ ap (λ z. z ++ five) j ∙ append_assoc d four five) ∙ ap (λ z. a ++ z) (sym (rest_lines r))
 
 pub held_written : (s : ProcessState) (a b c d e : List ℕ) (w : List Item) (l : List (Pid × Ids)) (m k : List (Ref × Pid)) → w ≡ s.waiting → l ≡ s.links → m ≡ s.watching → k ≡ s.kept
     → b ≡ a ++ flat_map (λ i. record_line (Waits i)) w → c ≡ b ++ flat_map (λ i. record_line (link_record i)) l

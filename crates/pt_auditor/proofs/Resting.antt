@@ -36,6 +36,7 @@ use Rattle.pt_auditor.specs.declared.rest.Resident.{Resident}
 use Rattle.pt_auditor.specs.declared.rest.Resident.TheVariants.{Lives, Ended}
 use Rattle.pt_auditor.specs.declared.rest.Rest.{Rest}
 use Rattle.pt_auditor.specs.Lanes.{letters_flying, letters_landed, goes_between, lane, stamp_noted}
+use Rattle.pt_auditor.specs.Seen.{is_noted}
 use Rattle.pt_auditor.specs.Foreigners.{AllFromNode, IsFirstForeign, IsOrigin}
 use Rattle.pt_auditor.specs.Hearings.{Heard, IsHeard, IsNodeAfter, TellsBegin, is_late, is_above, newest, left_flying, EventsAreRising, still}
 use Rattle.pt_auditor.specs.Rests.{ended_run, resident_lives, lives_in, run_with, AreResidents, IsRestOf, IsAtRest, IsRestless, stamp_of, link_in, kept_in, watch_in, links_in, kepts_in, watches_in, IsDrained, IsTakenOut, IsListed}
@@ -467,8 +468,9 @@ module _ (t : Heard) (h : Hearing) (k : IsHeard t h) where
       go (inl g) = g
       go (inr g) = absurd g.1
 
-  pub is_rest : (r : Rest) → IsAtRest t → h.foreign ≡ None → r.last ≡ h.last → r.events ≡ h.events → r.desks ≡ h.desks → r.begun ≡ h.node.begun → r.clocks ≡ h.node.clocks → AreResidents h.state r.residents.items → IsRestOf t.events r
-  is_rest r a n l c d b m told =
+  pub is_rest : (r : Rest) → IsAtRest t → h.foreign ≡ None → r.last ≡ h.last → r.events ≡ h.events → r.desks ≡ h.desks → r.begun ≡ h.node.begun → r.clocks ≡ h.node.clocks → r.seen ≡ h.node.seen → AreResidents h.state r.residents.items
+      → IsRestOf t.events r
+  is_rest r a n l c d b m u told =
       let node : IsNodeAfter t.events [] h.node = subst (λ z. IsNodeAfter t.events z h.node) a.none_told (k.node n) in
       record {
         legal = k.stands.legal;
@@ -477,6 +479,7 @@ module _ (t : Heard) (h : Hearing) (k : IsHeard t h) where
         still = a.still;
         alike = λ p. told p ∙ k.knows.alike p;
         clocks = λ d. ap (λ z. stamp_noted z d) m ∙ node.clocks d;
+        seen = λ d p. ap (λ z. is_noted z d p) u ∙ node.seen d p;
         last = l ∙ k.last;
         begun = subst (TellsBegin t.events) (sym b) node.begun;
         count = c ∙ k.count;
@@ -590,14 +593,14 @@ abbrev state_over : Rest → JudgeState
 state_over r = record { links = []; refs = []; lives = lives_in r.residents.items; flights = [] }
 
 abbrev node_over : Rest → Desks
-node_over r = record { lanes = []; clocks = r.clocks; left = (0, 0); newest = stamp_of r.last; begun = r.begun }
+node_over r = record { lanes = []; clocks = r.clocks; seen = r.seen; left = (0, 0); newest = stamp_of r.last; begun = r.begun }
 
 abbrev hearing_over : Rest → JudgeState → Desks → Hearing
 hearing_over r s n = record { state = s; last = r.last; events = r.events; desks = r.desks; letters = 0; node = n; foreign = None; since = r.last }
 
 -- a hearing over the rest has heard the history
 pub heard_over : (past : List Stamped) (r : Rest) (h : Hearing) (state : JudgeState) (node : Desks) → IsRestOf past r → state ≡ record { links = []; refs = []; lives = lives_in r.residents.items; flights = [] }
-    → node ≡ record { lanes = []; clocks = r.clocks; left = (0, 0); newest = stamp_of r.last; begun = r.begun }
+    → node ≡ record { lanes = []; clocks = r.clocks; seen = r.seen; left = (0, 0); newest = stamp_of r.last; begun = r.begun }
     → h ≡ hearing_over r state node
     → IsHeard (record { events = past; left = []; since = r.last }) h
 heard_over past r h state node k s n e = subst (IsHeard (record { events = past; left = []; since = r.last })) (sym (e ∙ ap₂ (hearing_over r) s n)) heard
@@ -625,6 +628,7 @@ heard_over past r h state node k s n e = subst (IsHeard (record { events = past;
       node = λ z. record {
         lanes = λ d e. ap (lane d e) (sym (none_flying past k.still));
         clocks = k.clocks;
+        seen = k.seen;
         turn = refl;
         newest = ap stamp_of k.last ∙ newest_clock past;
         begun = k.begun;

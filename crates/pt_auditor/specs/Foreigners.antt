@@ -1,6 +1,6 @@
 -- Histories that a node can have: each event is of its desk's own processes and has the stamp that its desk gives next,
--- letters from desk to desk come in order, and no call goes to a process of the same desk that has exited, over the whole
--- printed history.
+-- letters from desk to desk come in order, and no call goes to a process of which its desk has seen that it has exited,
+-- over the whole printed history.
 use Rattle.std.specs.Prelude.{◌≡◌, ℕ, ◌+◌, ◌-◌, ◌^◌, ◌<◌, ◌≤◌, ◌==◌, min, max, nat_lt, nat_le, Bool, true, false, cond}
 use Rattle.std.specs.Prelude.{not, ◌&&◌, ◌||◌, ◌⊎◌, Option, Some, None, is_some, List, [], ◌∷◌, ◌++◌, drop, length, map}
 use Rattle.std.specs.Prelude.{slice_get, ⊤}
@@ -23,10 +23,11 @@ use Rattle.pt_auditor.specs.declared.desks.Desks.{Desks}
 use Rattle.pt_auditor.specs.declared.foreign.Foreign.{Foreign}
 use Rattle.pt_auditor.specs.declared.foreign.NoNode.{NoNode}
 use Rattle.pt_auditor.specs.declared.foreign.NoNode.TheVariants.{Desk, Stamp, Slot, NoVersion, OtherDesk, OtherId}
-use Rattle.pt_auditor.specs.declared.foreign.NoNode.TheVariants.{Version, Unborn, Ended, Overtakes, OtherStamp}
+use Rattle.pt_auditor.specs.declared.foreign.NoNode.TheVariants.{Version, Unborn, Ended, Seen, Overtakes, OtherStamp}
 use Rattle.pt_auditor.specs.declared.foreign.NoNode.TheVariants.{OtherTurn}
 use Rattle.pt_auditor.specs.Lanes.{Laid, letters_laid, is_lane, stamp_noted, goes_between, letters_flying}
 use Rattle.pt_auditor.specs.Lanes.{letters_still, lane, IsFirstInLane, clock_of}
+use Rattle.pt_auditor.specs.Seen.{SeenSlots, has_seen, shows_end, is_noted}
 
 -- what a node's journals promise of an event ------------------------------------------------
 
@@ -73,6 +74,12 @@ abbrev pub GoesToNoEnded : Past → ℕ → Event → Type 0
 GoesToNoEnded past d (Said a b x) = reaches x ≡ true → b.shard ≡ d → is_ended (life [] past b) ≡ false
 GoesToNoEnded past d _ = ⊤
 
+-- it has seen the exit of each process for which it was refused a call: so none of those signals goes to it again, or to
+-- one before it in its slot
+abbrev pub GoesToNoneSeen : Past → ℕ → Event → Type 0
+GoesToNoneSeen past d (Said a b x) = reaches x ≡ true → has_seen past d b ≡ false
+GoesToNoneSeen past d _ = ⊤
+
 -- letters come from desk to desk in the order of their sending
 abbrev pub ComesInOrder : List Stamped → Event → Type 0
 ComesInOrder past (Came a b x) = IsFirstInLane a b (letters_flying past)
@@ -115,6 +122,7 @@ pub record IsFromNode (past : List Stamped) (s : Stamped) : Type 0 where
   pub named : IsNamedByNode s
   pub known : IsKnownHere (events past) s
   pub alive : GoesToNoEnded (events past) s.desk s.event
+  pub unseen : GoesToNoneSeen (events past) s.desk s.event
   pub order : ComesInOrder past s.event
   pub time : IsInTime past s.desk s.stamp s.event
 
@@ -133,12 +141,16 @@ IsNoNode past s Version = IsNamedByNode s × (is_born s.event ≡ true) × ¬ Is
 IsNoNode past s Unborn = IsNamedByNode s × (is_born s.event ≡ false) × ¬ IsKnownHere (events past) s
 IsNoNode past s Ended =
     IsNamedByNode s × IsKnownHere (events past) s × ¬ GoesToNoEnded (events past) s.desk s.event
+IsNoNode past s Seen =
+    IsNamedByNode s × IsKnownHere (events past) s × GoesToNoEnded (events past) s.desk s.event
+    × ¬ GoesToNoneSeen (events past) s.desk s.event
 IsNoNode past s Overtakes =
     IsNamedByNode s × IsKnownHere (events past) s × GoesToNoEnded (events past) s.desk s.event
-    × ¬ ComesInOrder past s.event
+    × GoesToNoneSeen (events past) s.desk s.event × ¬ ComesInOrder past s.event
 IsNoNode past s OtherStamp =
     IsNamedByNode s × IsKnownHere (events past) s × GoesToNoEnded (events past) s.desk s.event
-    × ComesInOrder past s.event × ¬ IsInTime past s.desk s.stamp s.event
+    × GoesToNoneSeen (events past) s.desk s.event × ComesInOrder past s.event
+    × ¬ IsInTime past s.desk s.stamp s.event
 -- letters left over alone come in a turn
 IsNoNode past s OtherTurn = ⊥
 
@@ -273,6 +285,10 @@ abbrev pub goes_to_no_ended : JudgeState → ℕ → Event → Bool
 goes_to_no_ended s d (Said a b x) = not (reaches x && (b.shard == d) && has_ended s b)
 goes_to_no_ended s d _ = true
 
+abbrev pub goes_to_none_seen : SeenSlots → ℕ → Event → Bool
+goes_to_none_seen noted d (Said a b x) = not (reaches x && is_noted noted d b)
+goes_to_none_seen noted d _ = true
+
 abbrev pub is_in_turn : JudgeState → Event → Bool
 is_in_turn s (Born p parent link) = is_next_version s p
 is_in_turn s _ = true
@@ -315,8 +331,10 @@ no_place k j s =
     cond (is_in_turn j s.event)
     (cond (is_known j s.desk s.event)
     (cond (goes_to_no_ended j s.desk s.event)
+    (cond (goes_to_none_seen k.seen s.desk s.event)
     (cond (is_in_order k s.event)
     (cond (is_in_time k j s.desk s.stamp s.event) None (Some OtherStamp)) (Some Overtakes))
+    (Some Seen))
     (Some Ended))
     (Some Unborn))
     (Some Version)
@@ -371,6 +389,7 @@ IsCarried n event sent old new =
 pub record IsMovedOn (j : JudgeState) (lived begun : Bool) (s : Stamped) (old new : Desks) : Type 0 where
   pub lanes : IsCarried s.stamp s.event (judge_sends j.lives lived s.event) old.lanes new.lanes
   pub clocks : (d : ℕ) → stamp_noted new.clocks d ≡ cond (s.desk == d) s.stamp (stamp_noted old.clocks d)
+  pub seen : (d : ℕ) (p : Pid) → is_noted new.seen d p ≡ (shows_end d p s.event || is_noted old.seen d p)
   pub left : new.left ≡ old.left
   pub newest : new.newest ≡ s.stamp
   pub begun_is : new.begun ≡ begun

@@ -26,6 +26,7 @@ use Rattle.pt_auditor.specs.declared.foreign.NoNode.{NoNode}
 use Rattle.pt_auditor.specs.Lanes.{IsLaid, letters_laid, letters_flying, letters_still, lane, clock_of, stamp_noted}
 use Rattle.pt_auditor.specs.Foreigners.{IsOrigin, IsNoNode, MayBegin, Decides, IsMovedOn, first_foreign, no_node, no_left, may_begin}
 use Rattle.pt_auditor.specs.Foreigners.{last_lane}
+use Rattle.pt_auditor.specs.Seen.{has_seen, is_noted}
 use Rattle.pt_events.specs.Counting.{capped}
 
 -- the events, the newest first, and the letters left over, the last told first; and the last event of the rest from
@@ -94,6 +95,7 @@ TellsBegin (s ∷ past) b = Decides b (MayBegin past s.stamp)
 pub record IsNodeAfter (past : List Stamped) (left : List LeftOver) (k : Desks) : Type 0 where
   pub lanes : (d e : ℕ) → letters_laid k.lanes d e ≡ lane d e (letters_still (letters_flying past) left)
   pub clocks : (d : ℕ) → stamp_noted k.clocks d ≡ clock_of d past
+  pub seen : (d : ℕ) (p : Pid) → is_noted k.seen d p ≡ has_seen (events past) d p
   pub turn : k.left ≡ last_lane left
   pub newest : k.newest ≡ clock 0 past
   pub begun : TellsBegin past k.begun

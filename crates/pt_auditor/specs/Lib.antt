@@ -5,6 +5,7 @@ pub mod Laws
 pub mod Objecting
 pub mod Reading
 pub mod Selecting
+pub mod Seen
 pub mod Standings
 pub mod Text
 pub mod Rests

@@ -24,6 +24,7 @@ use Rattle.pt_auditor.specs.declared.rest.Resident.TheVariants.{Lives, Ended}
 use Rattle.pt_auditor.specs.declared.rest.Restless.{Restless}
 use Rattle.pt_auditor.specs.declared.rest.Restless.TheVariants.{Line, Letters, OfNoNode, Memory}
 use Rattle.pt_auditor.specs.Lanes.{clock_of, stamp_noted}
+use Rattle.pt_auditor.specs.Seen.{has_seen, is_noted}
 use Rattle.pt_auditor.specs.Foreigners.{AllFromNode, IsFirstForeign}
 use Rattle.pt_auditor.specs.Reading.{joined_lines, ArePlain, EventLines}
 use Rattle.pt_auditor.specs.Hearings.{Heard, EventsAreRising, TellsBegin, newest, desks_of, left_flying}
@@ -63,6 +64,7 @@ pub record IsRestOf (past : List Stamped) (r : Rest) : Type 0 where
   pub still : left_flying past ≡ []
   pub alike : (p : Pid) → at_start (lives_in r.residents.items) p ≡ outcome (life [] (events past) p)
   pub clocks : (d : ℕ) → stamp_noted r.clocks d ≡ clock_of d past
+  pub seen : (d : ℕ) (p : Pid) → is_noted r.seen d p ≡ has_seen (events past) d p
   pub last : r.last ≡ newest past
   pub begun : TellsBegin past r.begun
   pub count : r.events ≡ capped (length past)

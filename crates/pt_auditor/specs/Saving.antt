@@ -10,8 +10,8 @@ use Rattle.pt_signal.specs.declared.reason.Reason.{Reason}
 use Rattle.pt_signal.specs.Process.{ProcessState}
 use Rattle.pt_events.specs.declared.event.Stamped.{Stamped}
 use Rattle.pt_texts.specs.declared.records.Record.{Record}
-use Rattle.pt_texts.specs.declared.records.Record.TheVariants.{Head, Last, Clock, Lives, Waits, Linked, Watches, Watched}
-use Rattle.pt_texts.specs.declared.records.Record.TheVariants.{Ended, End}
+use Rattle.pt_texts.specs.declared.records.Record.TheVariants.{Head, Last, Clock, Seen, Lives, Waits, Linked, Watches}
+use Rattle.pt_texts.specs.declared.records.Record.TheVariants.{Watched, Ended, End}
 use Rattle.pt_texts.specs.Text.{record_line}
 use Rattle.pt_texts.specs.Fits.{FitsRecord}
 use Rattle.pt_texts.specs.Readers.{line_at}
@@ -24,6 +24,7 @@ use Rattle.pt_auditor.specs.declared.saved.Flaw.{Flaw}
 use Rattle.pt_auditor.specs.declared.saved.Flaw.TheVariants.{Unread, Misplaced, Sum, Behind, Memory}
 use Rattle.pt_events.specs.Counting.{capped}
 use Rattle.pt_auditor.specs.Rests.{holds_so, IsRestOf}
+use Rattle.pt_auditor.specs.Seen.{SeenSlots, is_slot_of}
 
 -- a process that lives, and what it holds; or processes of a slot, up to a version, that ended for a reason
 pub data Entry : Type 0 where
@@ -37,6 +38,7 @@ pub record StateTold : Type 0 where
   pub begun : Bool
   pub last : Option Stamped
   pub clocks : List (ℕ × ℕ)
+  pub seen : SeenSlots
   -- the last one in front
   pub entries : List Entry
 
@@ -56,6 +58,7 @@ told_of r = record {
   begun = r.begun;
   last = r.last;
   clocks = r.clocks;
+  seen = r.seen;
   entries = entries_with [] r.residents.items;
 }
 
@@ -63,6 +66,12 @@ told_of r = record {
 
 abbrev pub clock_record : ℕ × ℕ → Record
 clock_record c = Clock c.0 c.1
+
+abbrev pub top_of_slot : (ℕ × ℕ × ℕ) × ℕ → Pid
+top_of_slot s = record { shard = s.0.1; slot = s.0.2; version = s.1 }
+
+abbrev pub seen_record : (ℕ × ℕ × ℕ) × ℕ → Record
+seen_record s = Seen s.0.0 (top_of_slot s)
 
 abbrev pub link_record : Pid × Ids → Record
 link_record l = Linked l.0 l.1
@@ -91,7 +100,8 @@ last_records (Some s) = Last s ∷ []
 
 abbrev pub told_records : StateTold → List Record
 told_records t =
-    Head t.events t.desks t.begun ∷ last_records t.last ++ map clock_record t.clocks ++ entries_records t.entries
+    Head t.events t.desks t.begun ∷ last_records t.last ++ map clock_record t.clocks ++ map seen_record t.seen
+    ++ entries_records t.entries
 
 abbrev pub lines_of : List Record → List ℕ
 lines_of records = flat_map record_line records
@@ -115,7 +125,7 @@ is_nil xs = length xs == 0
 
 abbrev pub first_told : Record → Option StateTold
 first_told (Head events desks begun) =
-    Some (record { events = events; desks = desks; begun = begun; last = None; clocks = []; entries = [] })
+    Some (record { events = events; desks = desks; begun = begun; last = None; clocks = []; seen = []; entries = [] })
 first_told _ = None
 
 -- what the process holds with one line more
@@ -144,9 +154,14 @@ no_holding traps = record { waiting = []; links = []; watching = []; kept = []; 
 abbrev pub told_with : StateTold → Record → Option StateTold
 told_with t (Head events desks begun) = None
 told_with t (Last s) =
-    cond (is_none t.last && is_nil t.clocks && is_nil t.entries) (Some (record t { last = Some s })) None
+    cond (is_none t.last && is_nil t.clocks && is_nil t.seen && is_nil t.entries) (Some (record t { last = Some s })) None
 told_with t (Clock d n) =
-    cond (is_nil t.entries && is_none (lookup (λ k. d == k) t.clocks)) (Some (record t { clocks = t.clocks ++ (d, n) ∷ [] }))
+    cond (is_nil t.seen && is_nil t.entries && is_none (lookup (λ k. d == k) t.clocks))
+    (Some (record t { clocks = t.clocks ++ (d, n) ∷ [] }))
+    None
+told_with t (Seen d p) =
+    cond (is_nil t.entries && is_none (lookup (is_slot_of d p) t.seen))
+    (Some (record t { seen = t.seen ++ ((d, p.shard, p.slot), p.version) ∷ [] }))
     None
 told_with t (Lives p traps) = Some (record t { entries = alive p (no_holding traps) ∷ t.entries })
 told_with t (Ended p last r) = Some (record t { entries = run p last r ∷ t.entries })
@@ -173,6 +188,12 @@ AreNewClocks before [] = ⊤
 AreNewClocks before (c ∷ clocks) =
     (is_none (lookup (λ k. c.0 == k) before) ≡ true) × AreNewClocks (before ++ c ∷ []) clocks
 
+-- no desk has seen ends of a slot twice
+abbrev pub AreNewSlots : SeenSlots → SeenSlots → Type 0
+AreNewSlots before [] = ⊤
+AreNewSlots before (s ∷ seen) =
+    (is_none (lookup (is_slot_of s.0.0 (top_of_slot s)) before) ≡ true) × AreNewSlots (before ++ s ∷ []) seen
+
 abbrev pub AreFit : List Record → Type 0
 AreFit [] = ⊤
 AreFit (x ∷ xs) = FitsRecord x × AreFit xs
@@ -181,6 +202,7 @@ AreFit (x ∷ xs) = FitsRecord x × AreFit xs
 pub record FitsRest (r : Rest) : Type 0 where
   pub lines : AreFit (told_records (told_of r))
   pub clocks : AreNewClocks [] r.clocks
+  pub seen : AreNewSlots [] r.seen
 
 -- what is promised of reading -------------------------------------------------------------------
 

@@ -32,6 +32,7 @@ no_node_text alien.OtherId = codes "what is new is not named by the desk and the
 no_node_text alien.Version = codes "the version before it in the slot has not ended"
 no_node_text alien.Unborn = codes "the receiver is of the same desk, and was not born"
 no_node_text alien.Ended = codes "the receiver is of the same desk, and has ended"
+no_node_text alien.Seen = codes "the desk has seen that the receiver has ended"
 no_node_text alien.Overtakes = codes "an older letter between the two desks is on its way"
 no_node_text alien.OtherStamp = codes "the stamp is not the one that a node gives"
 no_node_text alien.OtherTurn = codes "letters left over are in the order of their desks"

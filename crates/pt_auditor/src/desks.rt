@@ -5,18 +5,22 @@ ghost use Rattle.pt_events.specs.Journal.{letter};
 ghost use Rattle.pt_judge.specs.Judging.{judge_sends, lived};
 ghost use Rattle.pt_auditor.specs.Lanes.{IsLaid, lane, letters_laid, stamp_noted};
 ghost use Rattle.pt_auditor.specs.Foreigners.{may_begin, IsCarried, IsMovedOn};
+ghost use Rattle.pt_auditor.specs.Seen.{is_noted};
 
 use crate::clocks::Clocks;
 use crate::lanes::Lanes;
+use crate::seen::SeenExits;
 use pt_events::{Event, Stamped};
 use pt_judge::{Flights, State};
 use pt_signal::{Letter, Pid};
 use std::alloc::{AllocError, Global};
 
-/// What the desks of the node that prints a history have at a point of it: the letters between them, and their clocks.
+/// What the desks of the node that prints a history have at a point of it: the letters between them, their clocks, and the
+/// exits that they have seen.
 pub(crate) struct Desks {
     lanes: Lanes,
     clocks: Clocks,
+    seen: SeenExits,
     /// The desks of the letter left over that was read last. They are 0 and 0 before the first.
     left: (u8, u8),
     /// The stamp of the newest event, or 0.
@@ -31,6 +35,7 @@ impl Drop for Desks {
         let Desks {
             lanes: _,
             clocks: _,
+            seen: _,
             left: _,
             newest: _,
             begun: _,
@@ -41,43 +46,60 @@ impl Drop for Desks {
 impl Desks {
     /// Nothing happened.
     pub(crate) fn new(alloc: Global) -> Desks
-        ensures { result ≡ record { lanes = []; clocks = []; left = (0, 0); newest = 0; begun = false } }
+        ensures { result ≡ record { lanes = []; clocks = []; seen = []; left = (0, 0); newest = 0; begun = false } }
     {
         Desks {
             lanes: Lanes::new(alloc),
             clocks: Clocks::new(alloc),
+            seen: SeenExits::new(alloc),
             left: (0, 0),
             newest: 0,
             begun: false,
         }
     }
 
-    /// Nothing is on its way, and the clocks are these; the newest stamp, and whether all clocks may have stood just below
-    /// it.
-    pub(crate) fn over(alloc: Global, clocks: Clocks, newest: u64, begun: bool) -> Desks
-        ensures { result ≡ record { lanes = []; clocks = clocks; left = (0, 0); newest = newest; begun = begun } }
+    /// Nothing is on its way, the clocks are these, and these exits were seen; the newest stamp, and whether all clocks may
+    /// have stood just below it.
+    pub(crate) fn over(
+        alloc: Global,
+        clocks: Clocks,
+        seen: SeenExits,
+        newest: u64,
+        begun: bool,
+    ) -> Desks
+        ensures { result
+            ≡ record { lanes = []; clocks = clocks; seen = seen; left = (0, 0); newest = newest; begun = begun } }
     {
         Desks {
             lanes: Lanes::new(alloc),
             clocks,
+            seen,
             left: (0, 0),
             newest,
             begun,
         }
     }
 
-    /// The clocks, and whether all of them may have stood just below the newest stamp.
-    pub(crate) fn at_rest(self) -> (Clocks, bool)
-        ensures { result ≡ (self.clocks, self.begun) }
+    /// The clocks, which exits were seen, and whether all clocks may have stood just below the newest stamp.
+    pub(crate) fn at_rest(self) -> (Clocks, SeenExits, bool)
+        ensures { result ≡ (self.clocks, self.seen, self.begun) }
     {
         let Desks {
             lanes: _,
             clocks,
+            seen,
             left: _,
             newest: _,
             begun,
         } = self;
-        (clocks, begun)
+        (clocks, seen, begun)
+    }
+
+    /// Whether a call of the desk was refused that went to the process, or to a later one of its slot.
+    pub(crate) fn has_seen(&self, desk: u8, pid: Pid) -> bool
+        ensures { result ≡ is_noted self.now.seen desk pid }
+    {
+        self.seen.has(desk, pid)
     }
 
     /// The oldest letter from the desk of the one process to that of the other.
@@ -137,15 +159,18 @@ impl Desks {
         let Desks {
             mut lanes,
             mut clocks,
+            mut seen,
             left,
             newest: _,
             begun: _,
         } = self;
         carry(alloc, &mut lanes, state, lived, stamped)?;
         clocks.set(stamped.desk, stamped.stamp)?;
+        seen.note(stamped.event)?;
         Ok(Desks {
             lanes,
             clocks,
+            seen,
             left,
             newest: stamped.stamp,
             begun,

@@ -4,7 +4,7 @@ ghost use Rattle.std.specs.Prelude.{◌≡◌, ◌+◌, ◌==◌};
 ghost use Rattle.pt_auditor.specs.Foreigners.{is_node_desk, is_node_stamp, is_node_slot, is_home, is_new_at};
 ghost use Rattle.pt_auditor.specs.Foreigners.{is_next_version, is_in_turn, is_known, no_node, was_born, no_name, no_place};
 ghost use Rattle.pt_auditor.specs.Foreigners.{is_between_them, is_in_order, is_above_both, is_in_time, has_its_stamp, no_left};
-ghost use Rattle.pt_auditor.specs.Foreigners.{is_node_version, reaches, goes_to_no_ended, is_in_turn_of};
+ghost use Rattle.pt_auditor.specs.Foreigners.{is_node_version, reaches, goes_to_no_ended, goes_to_none_seen, is_in_turn_of};
 
 use crate::desks::Desks;
 use pt_events::{Event, MAX_STAMP, Stamped};
@@ -14,7 +14,8 @@ use pt_texts::LeftOver;
 
 /// Why no node prints an event that may come next, or a letter left over. A node's desks write only the events of their
 /// own processes, with ids and references that are their desk and their stamp. Letters from one desk to another come in
-/// order. A desk sends no message, link or monitor to a process of its own that has exited.
+/// order. A desk sends no message, link or monitor to a process of which it has seen that it has exited: to one of its own,
+/// or after a refused call to it.
 #[derive(Clone, Copy, Debug, PartialEq, Eq)]
 pub enum NoNode {
     /// The desk of the event, or of a receiver, is above 63.
@@ -35,6 +36,9 @@ pub enum NoNode {
     Unborn,
     /// The receiver of the message, link or monitor is of the sender's desk, and has exited.
     Ended,
+    /// A call of the desk was refused that went to the receiver of the message, link or monitor, or to a later process of
+    /// its slot.
+    Seen,
     /// The letter is not the oldest in flight from its sender's desk to its receiver's.
     Overtakes,
     /// The event has another stamp than its desk gives next, or the letter left over has another one than its sending.
@@ -182,6 +186,16 @@ fn goes_to_no_ended(state: &State, desk: u8, event: Event) -> bool
     }
 }
 
+/// Whether no such call goes to a process of which the desk has seen that it has exited.
+fn goes_to_none_seen(desks: &Desks, desk: u8, event: Event) -> bool
+    ensures { result ≡ goes_to_none_seen desks.now.seen desk event }
+{
+    match event {
+        Event::Said(_, to, signal) => !(reaches(signal) && desks.has_seen(desk, to)),
+        _ => true,
+    }
+}
+
 /// Whether the letter is from the one to the other.
 fn is_between_them(from: Pid, to: Pid, letter: Option<Letter>) -> bool
     ensures { result ≡ is_between_them from to letter }
@@ -272,6 +286,9 @@ fn no_place(desks: &Desks, state: &State, stamped: Stamped) -> Option<NoNode>
     }
     if !goes_to_no_ended(state, desk, event) {
         return Some(NoNode::Ended);
+    }
+    if !goes_to_none_seen(desks, desk, event) {
+        return Some(NoNode::Seen);
     }
     if !is_in_order(desks, event) {
         return Some(NoNode::Overtakes);

@@ -29,12 +29,15 @@
 //!   with a slot's versions in turn, and with the stamp that the desk gives next.
 //! - **Receivers of a node.** A signal goes to a slot and a version that a node may have. No message, link or monitor goes
 //!   to a process of the same desk that has exited.
+//! - **Refused calls of a node.** No message, link or monitor goes to a process to which a call of the same desk was refused
+//!   before, or to one before it in its slot. (`GoesToNoneSeen`)
 //! - **Letters of a node.** Letters from one desk to another come, and are left over, in the order of their sending.
 //!   Each letter left over has the stamp of its sending. They are left over by the sender's desk, then the receiver's.
 //! - **Epoch by epoch.** An audit over the rest of a history has the verdict of both together, or an event is at fault
 //!   that no node prints. (`Audit::rest`, `over`, `Hearing::rest`, `over`)
-//! - **A rest.** It has the clocks of the desks, each process that lives with all that it holds, and why each other one
-//!   exited. There is none only if letters are on their way, no node prints the history, or memory is wanting. (`Rest`)
+//! - **A rest.** It has the clocks of the desks, the exits that these have seen, each process that lives with all that it
+//!   holds, and why each other one exited. There is none only if letters are on their way, no node prints the history, or
+//!   memory is wanting. (`Rest`)
 //! - **Its text.** The text of a rest is read back as that rest, and no other text is read as one. What is read is known of
 //!   each history of which the rest was known. (`Rest::text`, `parse`)
 //! - **A damaged text.** It is refused at its first line that may not stand there, or that is none, and at a column.
@@ -61,6 +64,7 @@ mod line;
 mod objection;
 mod rest;
 mod saved;
+mod seen;
 mod selection;
 mod standing;
 mod text;

@@ -14,6 +14,7 @@ ghost use Rattle.pt_auditor.specs.Rests.{stamp_of};
 use crate::clocks::Clocks;
 use crate::desks::Desks;
 use crate::hearing::let_go;
+use crate::seen::SeenExits;
 use crate::{Foreign, Hearing};
 use pt_events::{Event, Stamped};
 use pt_judge::{Holding, State};
@@ -30,8 +31,8 @@ pub enum Resident {
     Ended(Pid, u32, Reason),
 }
 
-/// What is known of a history at rest, so that another one can go on from it: what became of its processes, and the
-/// clocks of its desks.
+/// What is known of a history at rest, so that another one can go on from it: what became of its processes, the clocks of
+/// its desks, and which exits these have seen.
 ///
 /// It knows no ids of links and no references. A node never makes one again.
 pub struct Rest {
@@ -45,6 +46,8 @@ pub struct Rest {
     pub(crate) begun: bool,
     /// The stamp of each desk's newest event.
     pub(crate) clocks: Clocks,
+    /// Which exits each desk has seen.
+    pub(crate) seen: SeenExits,
     /// The processes, in the order of their pids.
     pub(crate) residents: VecDeque<Resident>,
 }
@@ -58,6 +61,7 @@ impl Drop for Rest {
             last: _,
             begun: _,
             clocks: _,
+            seen: _,
             residents: _,
         } = self;
     }
@@ -363,13 +367,14 @@ impl Hearing {
         let (state, node) = self.into_parts();
         match residents_of(alloc, state) {
             Ok(residents) => {
-                let (clocks, begun) = node.at_rest();
+                let (clocks, seen, begun) = node.at_rest();
                 Ok(Rest {
                     events,
                     desks,
                     last,
                     begun,
                     clocks,
+                    seen,
                     residents,
                 })
             }
@@ -399,6 +404,7 @@ impl Rest {
             last,
             begun,
             clocks,
+            seen,
             residents,
         } = self;
         let state = rebuilt(alloc, residents)?;
@@ -408,7 +414,7 @@ impl Rest {
             events,
             desks,
             letters: 0,
-            node: Desks::over(alloc, clocks, newest_of(last), begun),
+            node: Desks::over(alloc, clocks, seen, newest_of(last), begun),
             foreign: None,
             since: last,
         })

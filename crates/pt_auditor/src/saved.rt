@@ -4,7 +4,7 @@ ghost use Rattle.std.specs.Prelude.{◌≡◌, ◌==◌, ◌&&◌, ◌++◌, ◌
 ghost use Rattle.std.specs.Map.{lookup};
 ghost use Rattle.std.specs.List.{flat_map};
 ghost use Rattle.std.specs.Option.{option_map};
-ghost use Rattle.pt_texts.specs.declared.records.Record.TheVariants.{Clock, Last, Linked, Waits, Watched, Watches};
+ghost use Rattle.pt_texts.specs.declared.records.Record.TheVariants.{Clock, Last, Linked, Seen, Waits, Watched, Watches};
 ghost use Rattle.pt_texts.specs.Text.{record_line};
 ghost use Rattle.pt_auditor.specs.declared.saved.Flaw.TheVariants.{Memory};
 ghost use Rattle.pt_auditor.specs.Rests.{holds_so};
@@ -12,9 +12,11 @@ ghost use Rattle.pt_auditor.specs.Saving.{EndsReading, IsClosed, IsHeldSo, IsTol
 ghost use Rattle.pt_auditor.specs.Saving.{entry_records, first_told, held_records, held_with, is_nil, kept_record, last_records, lines_of};
 ghost use Rattle.pt_auditor.specs.Saving.{link_record, no_holding, rest_text, sum_behind, told_more, told_of, told_records};
 ghost use Rattle.pt_auditor.specs.Saving.{told_with, watch_record};
+ghost use Rattle.pt_auditor.specs.Seen.{is_slot_of};
 
 use crate::clocks::Clocks;
 use crate::rest::put;
+use crate::seen::SeenExits;
 use crate::{Resident, Rest};
 use pt_events::Stamped;
 use pt_judge::Holding;
@@ -245,6 +247,7 @@ fn begun(alloc: Global, line: Record) -> Result<Rest, Flaw>
         last: None,
         begun,
         clocks: Clocks::new(alloc),
+        seen: SeenExits::new(alloc),
         residents: VecDeque::new(alloc),
     })
 }
@@ -302,6 +305,7 @@ impl Rest {
         write_line(Record::Head(self.events, self.desks, self.begun), text)?;
         write_last(self.last, text)?;
         self.clocks.write(text)?;
+        self.seen.write(text)?;
         write_residents(&self.residents, text)?;
         Ok(())
     }
@@ -367,17 +371,25 @@ impl Rest {
     /// Whether nothing but the first line is known yet.
     fn is_bare(&self) -> bool
         ensures { result
-            ≡ (is_none self.now.last && is_nil self.now.clocks && is_nil (told_of self.now).entries) }
+            ≡ (is_none self.now.last && is_nil self.now.clocks && is_nil self.now.seen && is_nil (told_of self.now).entries) }
     {
-        self.last.is_none() && self.clocks.is_empty() && self.is_empty()
+        self.last.is_none() && self.clocks.is_empty() && self.seen.is_empty() && self.is_empty()
     }
 
     /// Whether the desk's clock may come next.
     fn takes_clock(&self, desk: u8) -> bool
         ensures { result
-            ≡ (is_nil (told_of self.now).entries && is_none (lookup (λ d. desk == d) self.now.clocks)) }
+            ≡ (is_nil self.now.seen && is_nil (told_of self.now).entries && is_none (lookup (λ d. desk == d) self.now.clocks)) }
     {
-        self.is_empty() && self.clocks.lacks(desk)
+        self.seen.is_empty() && self.is_empty() && self.clocks.lacks(desk)
+    }
+
+    /// Whether a line may come next that says that the desk has seen an exit of the process's slot.
+    fn takes_seen(&self, desk: u8, pid: Pid) -> bool
+        ensures { result
+            ≡ (is_nil (told_of self.now).entries && is_none (lookup (is_slot_of desk pid) self.now.seen)) }
+    {
+        self.is_empty() && self.seen.lacks(desk, pid)
     }
 
     fn with_last(self, stamped: Stamped) -> Result<Rest, Flaw>
@@ -404,6 +416,19 @@ impl Rest {
         }
     }
 
+    fn with_seen(self, desk: u8, pid: Pid) -> Result<Rest, Flaw>
+        ensures { IsToldSo (told_with (told_of self) (Seen desk pid)) result }
+    {
+        if !self.takes_seen(desk, pid) {
+            return Err(Flaw::Misplaced);
+        }
+        let mut rest = self;
+        match rest.seen.add(desk, pid) {
+            Ok(()) => Ok(rest),
+            Err(_) => Err(Flaw::Memory),
+        }
+    }
+
     /// The state with one line more.
     fn with(self, alloc: Global, line: Record) -> Result<Rest, Flaw>
         ensures { IsToldSo (told_with (told_of self) line) result }
@@ -412,6 +437,7 @@ impl Rest {
             Record::Head(_, _, _) => Err(Flaw::Misplaced),
             Record::Last(stamped) => self.with_last(stamped),
             Record::Clock(desk, stamp) => self.with_clock(desk, stamp),
+            Record::Seen(desk, pid) => self.with_seen(desk, pid),
             Record::Lives(pid, traps) => {
                 self.with_resident(Resident::Lives(pid, nothing(alloc, traps)))
             }

@@ -96,6 +96,7 @@ impl fmt::Display for NoNode {
             NoNode::Version => "the version before it in the slot has not ended",
             NoNode::Unborn => "the receiver is of the same desk, and was not born",
             NoNode::Ended => "the receiver is of the same desk, and has ended",
+            NoNode::Seen => "the desk has seen that the receiver has ended",
             NoNode::Overtakes => "an older letter between the two desks is on its way",
             NoNode::OtherStamp => "the stamp is not the one that a node gives",
             NoNode::OtherTurn => "letters left over are in the order of their desks",

@@ -7,7 +7,7 @@ use Rattle.pt_signal.specs.declared.reason.Reason.{Reason}
 use Rattle.pt_signal.specs.Text.{pid_text, ref_text, ids_text, reason_text, yes_or_no_text}
 use Rattle.pt_texts.specs.declared.parse.Refused.{Refused}
 use Rattle.pt_texts.specs.declared.records.Record.{Record}
-use Rattle.pt_texts.specs.declared.records.Record.TheVariants.{Head, Last, Clock, Lives, Waits, Linked, Watches, Watched, Ended, End}
+use Rattle.pt_texts.specs.declared.records.Record.TheVariants.{Head, Last, Clock, Seen, Lives, Waits, Linked, Watches, Watched, Ended, End}
 use Rattle.pt_texts.specs.Text.{record_text, record_line}
 use Rattle.pt_texts.specs.Steps.{before, pair}
 use Rattle.pt_texts.specs.Numbers.{u8_at, u16_at, u32_at, u64_at}
@@ -27,6 +27,9 @@ counts = pair_reads _ _ _ _ u64_reads _ _ _ _ (before_reads _ _ _ _ desks_begun 
 
 desk_stamp : Reads (λ (x : ℕ × ℕ). (x.0 < 2 ^ 8) × (x.1 < 2 ^ 64)) NoDigit (λ x. decimal x.0 ++ (codes " " ++ decimal x.1)) (pair u8_at (before (codes " ") u64_at))
 desk_stamp = spaced _ _ _ _ u8_reads _ _ _ _ u64_reads (λ y. refl)
+
+desk_pid : Reads (λ (x : ℕ × Pid). (x.0 < 2 ^ 8) × FitsPid x.1) Anything (λ x. decimal x.0 ++ (codes " " ++ pid_text x.1)) (pair u8_at (before (codes " ") pid_at))
+desk_pid = spaced _ _ _ _ u8_reads _ _ _ _ pid_reads (λ y. refl)
 
 pid_traps : Reads (λ (x : Pid × Bool). FitsPid x.0 × Fine x.1) Anything (λ x. pid_text x.0 ++ (codes " traps " ++ yes_or_no_text x.1)) (pair pid_at (before (codes " traps ") yes_or_no_at))
 pid_traps = pair_reads _ _ _ _ pid_reads _ _ _ _ (before_reads _ _ _ _ yes_or_no_reads (codes " traps ")) (λ y r s. tt)
@@ -55,6 +58,7 @@ record_reads = record { takes = took; again = back }
         or_takes _ _ _ _ _ counts.takes (codes "state of ") (λ x. Head x.0 x.1.0 x.1.1) _ (λ x. simp (append_assoc) refl) (λ x f. (f.0, f.1.0))
         (or_takes _ _ _ _ _ stamped_reads.takes (codes "last ") Last _ (λ x. refl) (λ x f. f)
         (or_takes _ _ _ _ _ desk_stamp.takes (codes "clock ") (λ x. Clock x.0 x.1) _ (λ x. simp (append_assoc) refl) (λ x f. f)
+        (or_takes _ _ _ _ _ desk_pid.takes (codes "seen ") (λ x. Seen x.0 x.1) _ (λ x. simp (append_assoc) refl) (λ x f. f)
         (or_takes _ _ _ _ _ u64_reads.takes (codes "end ") End _ (λ x. refl) (λ x f. f)
         (or_takes _ _ _ _ _ pid_traps.takes (codes "lives ") (λ x. Lives x.0 x.1) _ (λ x. simp (append_assoc) refl) (λ x f. f.0)
         (or_takes _ _ _ _ _ item_reads.takes (codes "waits ") Waits _ (λ x. refl) (λ x f. f)
@@ -62,12 +66,13 @@ record_reads = record { takes = took; again = back }
         (or_takes _ _ _ _ _ ref_pid.takes (codes "watches ") (λ x. Watches x.0 x.1) _ (λ x. simp (append_assoc) refl) (λ x f. f)
         (or_takes _ _ _ _ _ ref_pid.takes (codes "watched ") (λ x. Watched x.0 x.1) _ (λ x. simp (append_assoc) refl) (λ x f. f)
         (or_takes _ _ _ _ _ pid_last_reason.takes (codes "ended ") (λ x. Ended x.0 x.1.0 x.1.1) _ (λ x. simp (append_assoc) refl) (λ x f. (f.0, f.1.0, f.1.1))
-        (none_takes _ _))))))))))
+        (none_takes _ _)))))))))))
 
     back : (v : Record) (r : List ℕ) → FitsRecord v → AtEnd r → record_at (record_text v ++ r) ≡ Ok (v, r)
     back (Head n d b) r f s = again_behind _ _ _ _ counts record_at (codes "state of ") (λ x. Head x.0 x.1.0 x.1.1) (n, (d, b)) r (record_text (Head n d b) ++ r) (simp (append_assoc) refl) refl (f.0, (f.1, tt)) tt
     back (Last e) r f s = again_behind _ _ _ _ stamped_reads record_at (codes "last ") Last e r (record_text (Last e) ++ r) refl refl f s
     back (Clock d n) r f s = again_behind _ _ _ _ desk_stamp record_at (codes "clock ") (λ x. Clock x.0 x.1) (d, n) r (record_text (Clock d n) ++ r) (simp (append_assoc) refl) refl f (digits_end r s)
+    back (Seen d p) r f s = again_behind _ _ _ _ desk_pid record_at (codes "seen ") (λ x. Seen x.0 x.1) (d, p) r (record_text (Seen d p) ++ r) (simp (append_assoc) refl) refl f tt
     back (Lives p b) r f s = again_behind _ _ _ _ pid_traps record_at (codes "lives ") (λ x. Lives x.0 x.1) (p, b) r (record_text (Lives p b) ++ r) (simp (append_assoc) refl) refl (f, tt) tt
     back (Waits i) r f s = again_behind _ _ _ _ item_reads record_at (codes "waits ") Waits i r (record_text (Waits i) ++ r) refl refl f (ends r s)
     back (Linked p ids) r f s = again_behind _ _ _ _ pid_ids record_at (codes "linked ") (λ x. Linked x.0 x.1) (p, ids) r (record_text (Linked p ids) ++ r) (simp (append_assoc) refl) refl f (blank r s)

@@ -20,8 +20,8 @@ use Rattle.pt_events.specs.declared.event.Event.TheVariants.{Born, Said, Came, T
 use Rattle.pt_events.specs.declared.event.Stamped.{Stamped}
 use Rattle.pt_signal.specs.declared.letter.LeftOver.{LeftOver}
 use Rattle.pt_texts.specs.declared.records.Record.{Record}
-use Rattle.pt_texts.specs.declared.records.Record.TheVariants.{Head, Last, Clock, Lives, Waits, Linked, Watches, Watched}
-use Rattle.pt_texts.specs.declared.records.Record.TheVariants.{Ended, End}
+use Rattle.pt_texts.specs.declared.records.Record.TheVariants.{Head, Last, Clock, Seen, Lives, Waits, Linked, Watches}
+use Rattle.pt_texts.specs.declared.records.Record.TheVariants.{Watched, Ended, End}
 
 abbrev pub FitsIfAny : {A : Type 0} → (A → Type 0) → Option A → Type 0
 FitsIfAny Fits None = Unit {0}
@@ -98,6 +98,7 @@ abbrev pub FitsRecord : Record → Type 0
 FitsRecord (Head events desks begun) = (events < 2 ^ 64) × (desks < 2 ^ 16)
 FitsRecord (Last s) = FitsStamped s
 FitsRecord (Clock desk stamp) = (desk < 2 ^ 8) × (stamp < 2 ^ 64)
+FitsRecord (Seen desk p) = (desk < 2 ^ 8) × FitsPid p
 FitsRecord (Lives p traps) = FitsPid p
 FitsRecord (Waits i) = FitsItem i
 FitsRecord (Linked p ids) = FitsPid p × FitsIds ids

@@ -19,8 +19,8 @@ use Rattle.pt_events.specs.declared.event.Event.TheVariants.{Born, Said, Came, T
 use Rattle.pt_events.specs.declared.event.Stamped.{Stamped}
 use Rattle.pt_signal.specs.declared.letter.LeftOver.{LeftOver}
 use Rattle.pt_texts.specs.declared.records.Record.{Record}
-use Rattle.pt_texts.specs.declared.records.Record.TheVariants.{Head, Last, Clock, Lives, Waits, Linked, Watches, Watched}
-use Rattle.pt_texts.specs.declared.records.Record.TheVariants.{Ended, End}
+use Rattle.pt_texts.specs.declared.records.Record.TheVariants.{Head, Last, Clock, Seen, Lives, Waits, Linked, Watches}
+use Rattle.pt_texts.specs.declared.records.Record.TheVariants.{Watched, Ended, End}
 use Rattle.pt_texts.specs.Steps.{Reader, or_reader, none_of_these, given_value, before, closed, pair, mapped, optional}
 use Rattle.pt_texts.specs.Numbers.{u8_at, u16_at, u32_at, u64_at, i64_at}
 
@@ -170,9 +170,10 @@ record_at =
     (pair u64_at (before (codes " events on ") (pair u16_at (before (codes " desks begun ") yes_or_no_at)))))
     (or_reader (codes "last ") (mapped Last stamped_at)
     (or_reader (codes "clock ") (mapped (λ x. Clock x.0 x.1) (pair u8_at (before (codes " ") u64_at)))
+    (or_reader (codes "seen ") (mapped (λ x. Seen x.0 x.1) (pair u8_at (before (codes " ") pid_at)))
     (or_reader (codes "end ") (mapped End u64_at)
     (or_reader (codes "lives ") (mapped (λ x. Lives x.0 x.1) (pair pid_at (before (codes " traps ") yes_or_no_at)))
-    holding_at))))
+    holding_at)))))
 
 -- a line of a state, with its line feed
 abbrev pub line_at : Reader Record

@@ -5,7 +5,7 @@ ghost use Rattle.pt_texts.specs.Numbers.{u8_at, u16_at, u32_at, u64_at};
 ghost use Rattle.pt_texts.specs.Readers.{line_at, holding_at, record_at, stamped_at, item_at};
 ghost use Rattle.pt_texts.specs.Readers.{pid_at, ref_at, ids_at, reason_at, yes_or_no_at};
 ghost use Rattle.pt_texts.specs.Steps.{ReaderGives, before, mapped, pair};
-ghost use Rattle.pt_texts.specs.declared.records.Record.TheVariants.{Head, Last, Clock, Lives, Waits, Linked};
+ghost use Rattle.pt_texts.specs.declared.records.Record.TheVariants.{Head, Last, Clock, Seen, Lives, Waits, Linked};
 ghost use Rattle.pt_texts.specs.declared.records.Record.TheVariants.{Watches, Watched, Ended, End};
 
 use crate::events::stamped_at;
@@ -27,6 +27,8 @@ pub enum Record {
     Last(Stamped),
     /// The stamp of a desk's newest event.
     Clock(u8, u64),
+    /// A desk, and a process of which it has seen that it ended, as those before it in its slot.
+    Seen(u8, Pid),
     /// A process that lives, and whether it traps exits. The lines behind it say what it holds.
     Lives(Pid, bool),
     /// An item that waits in the mailbox of the process.
@@ -73,6 +75,7 @@ impl fmt::Display for Record {
             }
             Record::Last(stamped) => write!(f, "last {stamped}"),
             Record::Clock(desk, stamp) => write!(f, "clock {desk} {stamp}"),
+            Record::Seen(desk, pid) => write!(f, "seen {desk} {pid}"),
             Record::Lives(pid, traps) => {
                 let traps = YesOrNo(traps);
                 write!(f, "lives {pid} traps {traps}")
@@ -191,6 +194,9 @@ fn record_at(text: &[u8]) -> Read<'_, Record>
     if let Some(text) = behind("clock ", text) {
         return clock_at(text);
     }
+    if let Some(text) = behind("seen ", text) {
+        return seen_at(text);
+    }
     if let Some(text) = behind("end ", text) {
         return end_at(text);
     }
@@ -244,6 +250,23 @@ fn desk_stamp_at(text: &[u8]) -> Read<'_, (u8, u64)>
     let (desk, rest) = u8_at(text)?;
     let (stamp, rest) = u64_at(word_at(" ", rest)?)?;
     Ok(((desk, stamp), rest))
+}
+
+fn seen_at(text: &[u8]) -> Read<'_, Record>
+    ensures { ReaderGives (λ read. (read.0, read.1.now)) result
+        (mapped (λ x. Seen x.0 x.1) (pair u8_at (before (codes " ") pid_at)) text.now) }
+{
+    let ((desk, pid), rest) = desk_pid_at(text)?;
+    Ok((Record::Seen(desk, pid), rest))
+}
+
+fn desk_pid_at(text: &[u8]) -> Read<'_, (u8, Pid)>
+    ensures { ReaderGives (λ read. (read.0, read.1.now)) result
+        (pair u8_at (before (codes " ") pid_at) text.now) }
+{
+    let (desk, rest) = u8_at(text)?;
+    let (pid, rest) = pid_at(word_at(" ", rest)?)?;
+    Ok(((desk, pid), rest))
 }
 
 fn end_at(text: &[u8]) -> Read<'_, Record>
