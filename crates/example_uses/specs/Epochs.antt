@@ -3,7 +3,7 @@ use Rattle.std.specs.Prelude.{◌≡◌, ℕ, zero, suc, List, [], ◌++◌, rev
 use Rattle.std.specs.List.{flat_map}
 use Rattle.std.specs.Io.KnownBytes.{Appends}
 use Rattle.pt_events.specs.declared.event.Stamped.{Stamped}
-use Rattle.pt_events.specs.History.{Past, IsLegal}
+use Rattle.pt_events.specs.History.{IsLegal}
 use Rattle.pt_events.specs.Journal.{IsMerge, events}
 use Rattle.pt_events.specs.Text.{stamped_text}
 use Rattle.pt_laws.specs.Load.{IsQuiet}
@@ -11,7 +11,7 @@ use Rattle.pt_gathered.specs.Gathered.{GatheredState, begins, journals}
 use Rattle.pt_gathered.specs.Settling.{Settles, NothingLeft}
 use Rattle.pt_desk.specs.DeskState.{DeskState}
 use Rattle.pt_node.specs.Gathering.{Gathers}
-use Rattle.pt_node.specs.Pasts.{GoOnFrom, Lengthens}
+use Rattle.pt_node.specs.Pasts.{IsOneHistory}
 use Rattle.pt_node.specs.Resuming.{Resumes}
 use Rattle.pt_workers.specs.NodeRunning.{RunsPaired}
 
@@ -22,9 +22,6 @@ pub record IsArchived {A : Type 0} (Keeps : A → List Stamped → A → Type 0)
   pub legal : IsLegal (begins g) (events (reverse history))
   pub quiet : IsQuiet (begins g) (events (reverse history))
   pub kept : Keeps before history after
-
-abbrev pub IsOneHistory : List Stamped → List DeskState → List DeskState → Type 0
-IsOneHistory history old new = (past : Past) → GoOnFrom past old → Lengthens past history new
 
 -- an epoch ends: the node was gathered and settled, its history went into the archive, and its desks go on over what
 -- that left behind; with all that was before it is one history

@@ -44,10 +44,12 @@ use Rattle.pt_gathered.proofs.Told.{journal_of}
 use Rattle.pt_desk.specs.DeskState.{DeskState}
 use Rattle.pt_desk.specs.Forgetting.{forgetful_desk}
 use Rattle.pt_workers.specs.Desks.{all_shards}
+use Rattle.pt_node.specs.Gathering.{Gathers}
+use Rattle.pt_node.specs.Pasts.{GoOnBut}
 use Rattle.pt_node.specs.Resuming.{Resumes, ResumesForgetful}
 use Rattle.pt_node.proofs.Pasts.{gathers_outline}
 use Rattle.pt_custody.specs.Custody.{mailbox, all_lost_to, lost_to, messages_in, CustodyHolds, HasEachOnce}
-use Rattle.pt_custody.specs.Nodes.{HasEachSince, PausesKeep, ForgotNothing, TellsAll}
+use Rattle.pt_custody.specs.Nodes.{HasEachSince, NodePauses, PausesKeep, PausesTell, ForgotNothing, TellsAll, TellingStays}
 use Rattle.pt_custody.proofs.Standing.{losses_local, losses_over, losses_same, mailbox_but, mailbox_left, mailbox_over}
 
 -- what is in flight is what is left over ------------------------------------------------------------------
@@ -162,11 +164,12 @@ module _ (g : GatheredState) (node : IsGathered g) (before : Past) (from : GoesO
         ap (all_lost_to p) tells.told_are ∙ flat_map-append (lost_to p) tells.carried (losses desk.start (past desk))
         ∙ ap (λ z. z ++ all_lost_to p (losses desk.start (past desk))) tells.carried_are ∙ sym its_losses
 
-    pub tell_on : (told : List Loss) (n : ℕ) → TellsAll p before told desk → TellsAll p whole told (restarted n desk)
-    tell_on told n tells = record {
+    -- a desk that goes on from it with these losses and an empty journal
+    pub tell_on : (told : List Loss) (later : ShardState) → later.lost ≡ desk.lost → later.journal ≡ [] → TellsAll p before told desk → TellsAll p whole told later
+    tell_on told later lost journal tells = record {
       carried = told ++ desk.lost;
       carried_are = are_told told tells;
-      told_are = sym (append-nil (told ++ desk.lost));
+      told_are = rw (lost, journal) (sym (append-nil (told ++ desk.lost)));
     }
 
 -- a pause --------------------------------------------------------------------------------------------------
@@ -179,62 +182,114 @@ shard_count : (g : GatheredState) (desks : List DeskState) → Resumes g desks �
 shard_count g desks resumes =
     sym (length-map desks (λ (d : DeskState). d.shard)) ∙ ap length resumes.shards ∙ length-map g.shards (restarted (latest_stamp g))
 
+-- a desk of the gathered node is the one handed in
+gathered_is : (desks : List DeskState) (g : GatheredState) → Gathers desks g → (d : ℕ) (x : DeskState) → d < length desks → get_or g.shards d x.shard ≡ (get_or desks d x).shard
+gathered_is desks g gathers d x h = ap (λ z. get_or z d x.shard) gathers.shards ∙ get_or-map (λ (d : DeskState). d.shard) desks d x x.shard h
+
 shard_is : (g : GatheredState) (desks : List DeskState) → Resumes g desks → (d : ℕ) (x : DeskState) → d < length desks → (get_or desks d x).shard ≡ restarted (latest_stamp g) (get_or g.shards d x.shard)
 shard_is g desks resumes d x h =
     sym (get_or-map (λ (d : DeskState). d.shard) desks d x x.shard h) ∙ ap (λ z. get_or z d x.shard) resumes.shards
     ∙ get_or-map (restarted (latest_stamp g)) g.shards d x.shard x.shard (omega (arith, h, shard_count g desks resumes))
 
--- the mailbox on a resumed desk is that on the settled one
-record SameBox (s : GatheredState) (new : List DeskState) (p : Pid) (x : DeskState) : Type 0 where
-  here : p.shard < length s.shards
-  same : mailbox (phase_of (get_or s.shards p.shard x.shard) p) ≡ mailbox (phase_of (get_or new p.shard x).shard p)
+-- a resumed desk has the mailboxes and the losses of the settled one, and an empty journal
+record IsBehind (s : GatheredState) (new : List DeskState) (d : ℕ) (x : DeskState) : Type 0 where
+  here : d < length s.shards
+  boxes : (p : Pid) → mailbox (phase_of (get_or s.shards d x.shard) p) ≡ mailbox (phase_of (get_or new d x).shard p)
+  keeps : (get_or new d x).shard.keeps ≡ (get_or s.shards d x.shard).keeps
+  lost : (get_or new d x).shard.lost ≡ (get_or s.shards d x.shard).lost
+  journal : (get_or new d x).shard.journal ≡ []
 
 left_box : (n : ℕ) (z : ShardState) (p : Pid) → mailbox (phase_of (restarted n z) p) ≡ mailbox (phase_of z p)
 left_box n z p = ap mailbox (leaves_each z.start (past z) p) ∙ mailbox_left (phase_of z p)
 
-same_box : (s : GatheredState) (new : List DeskState) → Resumes s new → (p : Pid) (x : DeskState) → p.shard < length new → SameBox s new p x
-same_box s new resumes p x h =
-    let z : ShardState = get_or s.shards p.shard x.shard in
-    record {
-      here = omega (arith, h, shard_count s new resumes);
-      same = sym (ap (λ (y : ShardState). mailbox (phase_of y p)) (shard_is s new resumes p.shard x h) ∙ left_box (latest_stamp s) z p);
-    }
-
 forgot_box : (n : ℕ) (z : ShardState) (p : Pid) → mailbox (phase_of (forgetful (restarted n z)) p) ≡ mailbox (phase_of z p)
 forgot_box n z p = ap mailbox (forgets_each (start_after z.start (past z)) p) ∙ mailbox_but (at_start (start_after z.start (past z)) p) ∙ left_box n z p
 
-same_forgetful : (s : GatheredState) (new : List DeskState) → ResumesForgetful s new → (p : Pid) (x : DeskState) → p.shard < length new → SameBox s new p x
-same_forgetful s new resumes p x h =
-    let old = resumes.before in
-    let count : length new ≡ length old = ap length resumes.forgets ∙ length-map old forgetful_desk in
-    let within : p.shard < length old = omega (arith, h, count) in
-    let z : ShardState = get_or s.shards p.shard x.shard in
-    let shard : (get_or new p.shard x).shard ≡ forgetful (restarted (latest_stamp s) z) =
-    ap (λ (d : DeskState). d.shard) (ap (λ (ds : List DeskState). get_or ds p.shard x) resumes.forgets ∙ get_or-map forgetful_desk old p.shard x x within)
-    ∙ ap forgetful (shard_is s old resumes.resumes p.shard x within) in
+behind_resumed : (s : GatheredState) (new : List DeskState) → Resumes s new → (d : ℕ) (x : DeskState) → d < length new → IsBehind s new d x
+behind_resumed s new resumes d x h =
+    let z : ShardState = get_or s.shards d x.shard in
+    let is = shard_is s new resumes d x h in
     record {
-      here = omega (arith, within, shard_count s old resumes.resumes);
-      same = sym (ap (λ (y : ShardState). mailbox (phase_of y p)) shard ∙ forgot_box (latest_stamp s) z p);
+      here = omega (arith, h, shard_count s new resumes);
+      boxes = λ p. sym (ap (λ (y : ShardState). mailbox (phase_of y p)) is ∙ left_box (latest_stamp s) z p);
+      keeps = ap (λ (y : ShardState). y.keeps) is;
+      lost = ap (λ (y : ShardState). y.lost) is;
+      journal = ap (λ (y : ShardState). y.journal) is;
     }
 
-module _ (legal : MergeLegal) (new_ids : StampsAreNew) (holds : CustodyHolds) where
-  pub pauses_keep : PausesKeep
-  pauses_keep before merged desks new pause on = (
-    each,
-    ⊎_elim (λ (r : Resumes pause.settled new). r.outline before merged from pause.merge) (λ (r : ResumesForgetful pause.settled new). r.outline before merged from pause.merge) pause.resumes,
-  )
-    where
-      from : GoesOnBut before pause.settled
-      from = settles_on pause.gathered pause.settled pause.settles before (gathers_outline desks pause.gathered pause.gathers before on)
+behind_forgetful : (s : GatheredState) (new : List DeskState) → ResumesForgetful s new → (d : ℕ) (x : DeskState) → d < length new → IsBehind s new d x
+behind_forgetful s new resumes d x h =
+    let old = resumes.before in
+    let count : length new ≡ length old = ap length resumes.forgets ∙ length-map old forgetful_desk in
+    let within : d < length old = omega (arith, h, count) in
+    let z : ShardState = get_or s.shards d x.shard in
+    let is : (get_or new d x).shard ≡ forgetful (restarted (latest_stamp s) z) =
+    ap (λ (d : DeskState). d.shard) (ap (λ (ds : List DeskState). get_or ds d x) resumes.forgets ∙ get_or-map forgetful_desk old d x x within)
+    ∙ ap forgetful (shard_is s old resumes.resumes d x within) in
+    record {
+      here = omega (arith, within, shard_count s old resumes.resumes);
+      boxes = λ p. sym (ap (λ (y : ShardState). mailbox (phase_of y p)) is ∙ forgot_box (latest_stamp s) z p);
+      keeps = ap (λ (y : ShardState). y.keeps) is;
+      lost = ap (λ (y : ShardState). y.lost) is;
+      journal = ap (λ (y : ShardState). y.journal) is;
+    }
 
-      each : (p : Pid) (x : DeskState) → p.shard < length new → HasEachSince p (events merged ++ before) (mailbox (phase_of (get_or new p.shard x).shard p)) (λ a. [])
-      each p x h =
-          let box : SameBox pause.settled new p x =
-          ⊎_elim (λ (r : Resumes pause.settled new). same_box pause.settled new r p x h) (λ (r : ResumesForgetful pause.settled new). same_forgetful pause.settled new r p x h) pause.resumes in
-          let z : ShardState = get_or pause.settled.shards p.shard x.shard in
-          let whole : Past = events merged ++ before in
-          told_by p (λ a. said_messages a p whole) (λ a. []) (λ a. []) (taken whole p) (mailbox (phase_of z p)) (mailbox (phase_of (get_or new p.shard x).shard p)) (all_lost_to p (losses [] whole)) (λ a. refl) box.same
-          (settled_keep pause.settled pause.settled_node before from merged pause.merge p x.shard box.here legal new_ids holds pause.nothing_left)
+module _ (before : Past) (merged : List Stamped) (desks new : List DeskState) (pause : NodePauses merged desks new) (on : GoOnBut before desks) where
+  from : GoesOnBut before pause.settled
+  from = settles_on pause.gathered pause.settled pause.settles before (gathers_outline desks pause.gathered pause.gathers before on)
+
+  behind : (d : ℕ) (x : DeskState) → d < length new → IsBehind pause.settled new d x
+  behind d x h = ⊎_elim (λ (r : Resumes pause.settled new). behind_resumed pause.settled new r d x h) (λ (r : ResumesForgetful pause.settled new). behind_forgetful pause.settled new r d x h) pause.resumes
+
+  module _ (legal : MergeLegal) (new_ids : StampsAreNew) (holds : CustodyHolds) where
+    each : (p : Pid) (x : DeskState) → p.shard < length new → HasEachSince p (events merged ++ before) (mailbox (phase_of (get_or new p.shard x).shard p)) (λ a. [])
+    each p x h =
+        let later : IsBehind pause.settled new p.shard x = behind p.shard x h in
+        let z : ShardState = get_or pause.settled.shards p.shard x.shard in
+        let whole : Past = events merged ++ before in
+        told_by p (λ a. said_messages a p whole) (λ a. []) (λ a. []) (taken whole p) (mailbox (phase_of z p)) (mailbox (phase_of (get_or new p.shard x).shard p)) (all_lost_to p (losses [] whole)) (λ a. refl) (later.boxes p)
+        (settled_keep pause.settled pause.settled_node before from merged pause.merge p x.shard later.here legal new_ids holds pause.nothing_left)
+
+  module _ (stays : TellingStays) (p : Pid) (x : DeskState) (told : List Loss) (within : p.shard < length new) (keeps : (get_or desks p.shard x).shard.keeps ≡ true)
+      (tells : TellsAll p before told (get_or desks p.shard x).shard) where
+    abbrev settled_desk : ShardState
+    settled_desk = get_or pause.settled.shards p.shard x.shard
+
+    abbrev new_desk : ShardState
+    new_desk = (get_or new p.shard x).shard
+
+    later : IsBehind pause.settled new p.shard x
+    later = behind p.shard x within
+
+    -- as the node is settled
+    settled_tells : (settled_desk.keeps ≡ true) × TellsAll p before told settled_desk
+    settled_tells =
+        let g = pause.gathered in
+        let in_g : p.shard < length g.shards = omega (arith, later.here, pause.settles.count) in
+        let in_old : p.shard < length desks = omega (arith, in_g, ap length pause.gathers.shards, length-map desks (λ (d : DeskState). d.shard)) in
+        let was : get_or g.shards p.shard x.shard ≡ (get_or desks p.shard x).shard = gathered_is desks g pause.gathers p.shard x in_old in
+        stays.settles p before told g pause.settled x.shard pause.settles in_g (ap (λ (y : ShardState). y.keeps) was ∙ keeps) (subst (TellsAll p before told) (sym was) tells)
+
+    tells_behind : TellsAll p (events merged ++ before) told new_desk
+    tells_behind = tell_on pause.settled pause.settled_node before from merged pause.merge p x.shard later.here told new_desk later.lost later.journal settled_tells.1
+
+    all_told : all_lost_to p (losses [] (events merged ++ before)) ≡ all_lost_to p (told ++ new_desk.lost)
+    all_told =
+        sym (are_told pause.settled pause.settled_node before from merged pause.merge p x.shard later.here told settled_tells.1)
+        ∙ ap (λ z. all_lost_to p (told ++ z)) (sym later.lost)
+
+    behind_tells : (new_desk.keeps ≡ true) × TellsAll p (events merged ++ before) told new_desk × (all_lost_to p (losses [] (events merged ++ before)) ≡ all_lost_to p (told ++ new_desk.lost))
+    behind_tells = (later.keeps ∙ settled_tells.0, tells_behind, all_told)
+
+pub pauses_keep : MergeLegal → StampsAreNew → CustodyHolds → PausesKeep
+pauses_keep legal new_ids holds before merged desks new pause on =
+    let begun = from before merged desks new pause on in (
+      each before merged desks new pause on legal new_ids holds,
+      ⊎_elim (λ (r : Resumes pause.settled new). r.outline before merged begun pause.merge) (λ (r : ResumesForgetful pause.settled new). r.outline before merged begun pause.merge) pause.resumes,
+    )
+
+pub pauses_tell : TellingStays → PausesTell
+pauses_tell stays before merged desks new p x told pause on within keeps tells = behind_tells before merged desks new pause on stays p x told within keeps tells
 
 pub forgot_nothing : ForgotNothing
 forgot_nothing before desks on = record {

@@ -87,7 +87,8 @@ pub record TellsAll (p : Pid) (before : Past) (told : List Loss) (s : ShardState
   pub carried_are : all_lost_to p carried ≡ all_lost_to p (losses [] before)
   pub told_are : told ++ s.lost ≡ carried ++ losses s.start (past s)
 
--- so it is on a desk that opens, and it stays so with each event while losses are kept, and as a loss is told
+-- so it is on a desk that opens, and it stays so while losses are kept: with each event, as a loss is told, and as the
+-- node is settled
 pub record TellingStays : Type 0 where
   pub opens : (p : Pid) (s : ShardState) → s.start ≡ [] → s.journal ≡ [] → s.lost ≡ [] → TellsAll p [] [] s
   pub writes : (p : Pid) (before : Past) (told : List Loss) (n : ℕ) (e : Event) (s : ShardState) → s.keeps ≡ true
@@ -95,6 +96,11 @@ pub record TellingStays : Type 0 where
   pub tells : (p : Pid) (before : Past) (told : List Loss) (loss : Loss) (rest : List Loss) (s : ShardState)
       → s.lost ≡ loss ∷ rest → TellsAll p before told s
       → TellsAll p before (told ++ loss ∷ []) (record s { lost = rest })
+  pub settles : (p : Pid) (before : Past) (told : List Loss) (old new : GatheredState) (x : ShardState)
+      → Settles old new → p.shard < length old.shards → (slice_index_or old.shards p.shard x).keeps ≡ true
+      → TellsAll p before told (slice_index_or old.shards p.shard x)
+      → ((slice_index_or new.shards p.shard x).keeps ≡ true)
+      × TellsAll p before told (slice_index_or new.shards p.shard x)
 
 -- then what p lost is what those losses tell, in order, where the node is gathered; and so it stays where it goes on
 abbrev pub LossesAreTold : Type 0
@@ -105,3 +111,16 @@ LossesAreTold =
     → (all_lost_to p (losses [] (events merged ++ before))
     ≡ all_lost_to p (told ++ (slice_index_or g.shards p.shard x).lost))
     × TellsAll p (events merged ++ before) told (restarted n (slice_index_or g.shards p.shard x))
+
+-- Behind a pause p's desk keeps its losses as before, and has told and keeps all that it lost. So that is what p lost, in
+-- order, over any number of pauses.
+abbrev pub PausesTell : Type 0
+PausesTell =
+    (before : Past) (merged : List Stamped) (desks new : List DeskState) (p : Pid) (x : DeskState) (told : List Loss)
+    → NodePauses merged desks new → GoOnBut before desks → p.shard < length new
+    → (slice_index_or desks p.shard x).shard.keeps ≡ true
+    → TellsAll p before told (slice_index_or desks p.shard x).shard
+    → ((slice_index_or new p.shard x).shard.keeps ≡ true)
+    × TellsAll p (events merged ++ before) told (slice_index_or new p.shard x).shard
+    × (all_lost_to p (losses [] (events merged ++ before))
+    ≡ all_lost_to p (told ++ (slice_index_or new p.shard x).shard.lost))

@@ -2,7 +2,7 @@
 
 ghost use Rattle.pt_custody.specs.Custody.{CustodyHolds, EachCounts};
 ghost use Rattle.pt_custody.specs.Nodes.{ForgotNothing, GatheredKeep, KeepsEach, LossesAreTold, PausesKeep};
-ghost use Rattle.pt_custody.specs.Nodes.{SettledKeep, TellingStays};
+ghost use Rattle.pt_custody.specs.Nodes.{PausesTell, SettledKeep, TellingStays};
 
 use pt_gathered::Gathered;
 use pt_laws::laws;
@@ -18,8 +18,9 @@ use pt_shard::losses_are_kept;
 /// reason goes on so, too (`from`).
 ///
 /// If a desk keeps its losses from the first opening on (`telling`), what is lost is what it told and then what it still
-/// keeps, in order (`told`). So the messages of a process are as many as were taken, wait, were lost, and are on their
-/// way (`counts`).
+/// keeps, in order (`told`). Settling adds what it loses to what is kept, so that is so behind each pause, too
+/// (`pauses_tell`). The messages of a process are as many as were taken, wait, were lost, and are on their way
+/// (`counts`).
 pub fn custody_holds()
     ensures history { CustodyHolds }
     ensures gathered { GatheredKeep }
@@ -28,6 +29,7 @@ pub fn custody_holds()
     ensures from { ForgotNothing }
     ensures telling { TellingStays }
     ensures told { LossesAreTold }
+    ensures pauses_tell { PausesTell }
     ensures counts { EachCounts }
 {
     laws::merge_is_legal();

@@ -18,7 +18,8 @@
 //! - **Over pauses.** So it is on the desks that are resumed, and they go on from what happened until then. So it holds over
 //!   any number of pauses. (`PausesKeep`)
 //! - **Losses that are told.** If a desk keeps its losses from the first opening on, what was lost is what it told and then
-//!   what it still keeps. (`TellsAll`, `LossesAreTold`)
+//!   what it still keeps. So it is where the node is gathered or settled, and behind any number of pauses. (`TellsAll`,
+//!   `LossesAreTold`, `PausesTell`)
 //! - **Counts.** The messages of a process are as many as were taken, wait, were lost, and are on their way. A history in
 //!   which the lost are left out does not meet the law, nor does one in which a loss is told twice. (`EachCounts`,
 //!   `TellsEachFate`)

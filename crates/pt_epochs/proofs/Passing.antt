@@ -10,8 +10,9 @@ use Rattle.pt_workers.specs.Desks.{all_shards}
 use Rattle.pt_workers.specs.Stillness.{AreStill}
 use Rattle.pt_workers.specs.declared.stillness.Rested.{Rested}
 use Rattle.pt_workers.specs.declared.stillness.Stopped as stop
-use Rattle.pt_node.specs.Pasts.{GoOnFrom}
+use Rattle.pt_node.specs.Pasts.{GoOnFrom, IsOneHistory}
 use Rattle.pt_node.proofs.Leftless.{still_gathered}
+use Rattle.pt_node.proofs.Pasts.{nothing_yet, one_after}
 use Rattle.pt_crew.specs.declared.crew.Crew.{Crew}
 use Rattle.pt_crew.specs.Visiting.{Answers}
 use Rattle.pt_epochs.specs.declared.epochs.Plan.{Plan}
@@ -20,10 +21,10 @@ use Rattle.pt_epochs.specs.declared.epochs.Pause.TheVariants.{Idle, Stopped, Ful
 use Rattle.pt_epochs.specs.declared.epochs.Outcome.{Outcome}
 use Rattle.pt_epochs.specs.declared.epochs.Outcome.TheVariants as outcome
 use Rattle.pt_epochs.specs.Idle.{EndsBy, InTurns, Worked}
-use Rattle.pt_epochs.specs.Epochs.{AllAttend, AreOneHistory}
+use Rattle.pt_epochs.specs.Epochs.{AllAttend}
 use Rattle.pt_epochs.specs.Running.{EndsPaused, EndsRun, EndsWithOne, GoesFurther, Manned, PassEach, PassesOne, RunsToPause, outcome_of, worked}
 use Rattle.pt_epochs.proofs.Attending.{leg_attends, legs_attend, resumed_attends}
-use Rattle.pt_epochs.proofs.Whole.{ends_past, legs_past, nothing_yet, one_after}
+use Rattle.pt_epochs.proofs.Whole.{ends_past, legs_past}
 
 module _ {B : Type 0} (Runs : ℕ → List (DeskState × Crew B) → List (DeskState × Crew B) → Type 0) (plan : Plan) where
   pub runs_past : (old : Worked (Crew B)) (pause : Pause) (new : Worked (Crew B)) → RunsToPause Runs plan old (Ok pause) new → (past : Past) → GoOnFrom past old.desks → GoOnFrom past new.desks
@@ -44,14 +45,14 @@ module _ {B : Type 0} (Runs : ℕ → List (DeskState × Crew B) → List (DeskS
   runs_still old Asked new on r = r.ends.1.still
 
   module _ {S : Type 0} (Takes Refuses : S → List Stamped → S → Type 0) where
-    pub passes_whole : (pause : Pause) (history : List Stamped) (old new : Manned B S) → PassesOne Runs plan Takes Refuses pause history old new → AreOneHistory history old.desks new.desks
+    pub passes_whole : (pause : Pause) (history : List Stamped) (old new : Manned B S) → PassesOne Runs plan Takes Refuses pause history old new → IsOneHistory history old.desks new.desks
     passes_whole pause history old new p past from = p.ends.whole past (runs_past (worked old) pause p.ran p.runs past from)
 
-    pub each_whole : (n : ℕ) (all : List Stamped) (old new : Manned B S) → PassEach Runs plan Takes Refuses n all old new → AreOneHistory all old.desks new.desks
+    pub each_whole : (n : ℕ) (all : List Stamped) (old new : Manned B S) → PassEach Runs plan Takes Refuses n all old new → IsOneHistory all old.desks new.desks
     each_whole zero all old new h =
-        subst (λ (xs : List Stamped). AreOneHistory xs old.desks new.desks) (sym h.0) (subst (λ (m : Manned B S). AreOneHistory [] old.desks m.desks) (sym h.1) (nothing_yet old.desks))
+        subst (λ (xs : List Stamped). IsOneHistory xs old.desks new.desks) (sym h.0) (subst (λ (m : Manned B S). IsOneHistory [] old.desks m.desks) (sym h.1) (nothing_yet old.desks))
     each_whole (suc n) all old new (before, history, mid, pause, is, passed, one, goes) =
-        subst (λ (xs : List Stamped). AreOneHistory xs old.desks new.desks) (sym is)
+        subst (λ (xs : List Stamped). IsOneHistory xs old.desks new.desks) (sym is)
         (one_after before history old.desks mid.desks new.desks (each_whole n before old mid passed) (passes_whole pause history mid new one))
 
     not_counted : (pause : Pause) → outcome_of pause ≡ Some outcome.Counted → ⊥

@@ -9,11 +9,11 @@ use Rattle.pt_desk.specs.DeskState.{DeskState}
 use Rattle.pt_node.specs.Gathering.{Gathers}
 use Rattle.pt_node.specs.Keeping.{KeptState, IsKeptFor, IsKeptOf}
 use Rattle.pt_node.specs.Resuming.{Resumes}
+use Rattle.pt_node.proofs.Pasts.{one_history}
 use Rattle.pt_crew.specs.declared.crew.Crew.{Crew}
 use Rattle.pt_epochs.specs.declared.halted.Halted.{Halted}
 use Rattle.pt_epochs.specs.declared.halted.Halted.TheVariants.{Running, Turning, Gathering, Settling, Reading, Taking, Resuming, Beginning}
 use Rattle.pt_epochs.specs.Epochs.{AllBeginAs, EndsAs, HandsAs, IsSettledHistory, ResumesAllAs, SettlesAs}
-use Rattle.pt_epochs.proofs.Whole.{one_history}
 
 module _ {B : Type 0} where
   pub resumed_as : (q : QuietState) (node : List DeskState) (crews : List (Crew B)) (result : Result (List DeskState) Halted) (later : List (Crew B)) → Resumes q.gathered node → AllBeginAs node crews result later → ResumesAllAs q crews result later

@@ -1,48 +1,15 @@
--- The histories of epochs, one behind the other, are one history.
-use Rattle.std.proofs.Common.{◌≡◌, ℕ, ◌<◌, List, [], ◌∷◌, ◌++◌, length, map, max, reverse, get_or, append_assoc, refl, sym, ap, ◌∙◌, subst, arith}
-use Rattle.std.proofs.lemmas.List.{get_or-map, length-map, map-append, reverse-append}
-use Rattle.pt_events.specs.declared.event.Stamped.{Stamped}
-use Rattle.pt_events.specs.History.{Past, IsLegal}
-use Rattle.pt_events.specs.Journal.{IsMerge, events}
-use Rattle.pt_laws.specs.Load.{IsQuiet}
-use Rattle.pt_gathered.specs.Gathered.{GatheredState, journals}
-use Rattle.pt_gathered.specs.Settling.{Settles}
-use Rattle.pt_gathered.proofs.Pasts.{settles_keep}
+-- Turns and runs change nothing of what desks go on from.
+use Rattle.std.proofs.Common.{◌≡◌, ℕ, ◌<◌, List, [], ◌∷◌, length, map, max, get_or, refl, sym, ap, ◌∙◌, subst, arith}
+use Rattle.std.proofs.lemmas.List.{get_or-map, length-map}
+use Rattle.pt_events.specs.History.{Past}
 use Rattle.pt_desk.specs.DeskState.{DeskState, GoesOn}
 use Rattle.pt_workers.specs.Running.{AllGoOn}
 use Rattle.pt_workers.specs.Stillness.{AllDesksGoOn}
 use Rattle.pt_workers.specs.declared.stillness.Rested.{Rested}
-use Rattle.pt_node.specs.Gathering.{Gathers}
-use Rattle.pt_node.specs.Pasts.{GoOnFrom, Lengthens}
-use Rattle.pt_node.specs.Resuming.{Resumes}
-use Rattle.pt_node.proofs.Pasts.{gathers_past, go_on_past}
+use Rattle.pt_node.specs.Pasts.{GoOnFrom}
+use Rattle.pt_node.proofs.Pasts.{go_on_past}
 use Rattle.pt_node.proofs.RoundByRound.{all_rounds_go_on}
 use Rattle.pt_epochs.specs.Idle.{EndsBy, Leg, Legs, Worked}
-use Rattle.pt_epochs.specs.Epochs.{AreOneHistory}
-
--- whoever goes on from a history goes on from a legal and quiet one
-lengthened : (past : Past) (history : List Stamped) (new : List DeskState) → GoOnFrom (events (reverse history) ++ past) new → Lengthens past history new
-lengthened past history new on = record {
-  legal = subst (IsLegal []) on.begun.past_is on.begun.begun.left.legal;
-  quiet = subst (IsQuiet []) on.begun.past_is on.begun.begun.left.quiet;
-  goes_on = on;
-}
-
--- gathered, settled and resumed
-pub one_history : (old new : List DeskState) (g s : GatheredState) (history : List Stamped) → Gathers old g → Settles g s → IsMerge (journals s) (reverse history) → Resumes s new → AreOneHistory history old new
-one_history old new g s history gathers settles merge resumes past from =
-    lengthened past history new (resumes.whole past (reverse history) (settles_keep g s settles past (gathers_past old g gathers past from)) merge)
-
-pub nothing_yet : (desks : List DeskState) → AreOneHistory [] desks desks
-nothing_yet desks past from = lengthened past [] desks from
-
-pub one_after : (before history : List Stamped) (old mid new : List DeskState) → AreOneHistory before old mid → AreOneHistory history mid new → AreOneHistory (before ++ history) old new
-one_after before history old mid new first then past from =
-    let later = then (events (reverse before) ++ past) (first past from).goes_on in
-    let joined : events (reverse history) ++ (events (reverse before) ++ past) ≡ events (reverse (before ++ history)) ++ past =
-    sym (append_assoc (events (reverse history)) (events (reverse before)) past)
-    ∙ ap (λ z. z ++ past) (sym (map-append (λ (s : Stamped). s.event) (reverse history) (reverse before)) ∙ ap events (sym (reverse-append before history))) in
-    lengthened past (before ++ history) new (subst (λ z. GoOnFrom z new) joined later.goes_on)
 
 -- desks that go on, alone ------------------------------------------------------------
 

@@ -3,7 +3,7 @@ use Rattle.std.specs.Prelude.{◌≡◌, ℕ, ◌<◌, List, [], ◌++◌, lengt
 use Rattle.std.specs.Prelude.{Result, Ok, Err}
 use Rattle.pt_signal.specs.declared.pid.Pid.{Pid}
 use Rattle.pt_events.specs.declared.event.Stamped.{Stamped}
-use Rattle.pt_events.specs.History.{Past, IsLegal}
+use Rattle.pt_events.specs.History.{IsLegal}
 use Rattle.pt_events.specs.Journal.{IsMerge, events}
 use Rattle.pt_laws.specs.Load.{IsQuiet}
 use Rattle.pt_shard.specs.ShardState.{ShardState}
@@ -13,7 +13,7 @@ use Rattle.pt_gathered.specs.Settling.{Settles, NothingLeft}
 use Rattle.pt_desk.specs.DeskState.{DeskState}
 use Rattle.pt_workers.specs.Desks.{desk_kept}
 use Rattle.pt_node.specs.Gathering.{Gathers}
-use Rattle.pt_node.specs.Pasts.{GoOnFrom, Lengthens}
+use Rattle.pt_node.specs.Pasts.{IsOneHistory}
 use Rattle.pt_node.specs.Resuming.{Resumes}
 use Rattle.pt_crew.specs.declared.crew.Crew.{Crew}
 use Rattle.pt_crew.specs.declared.crew.Member.{Member}
@@ -32,9 +32,6 @@ pub record IsSettledHistory (g : GatheredState) (history : List Stamped) : Type 
   pub merge : IsMerge (journals g) (reverse history)
   pub legal : IsLegal (begins g) (events (reverse history))
   pub quiet : IsQuiet (begins g) (events (reverse history))
-
-abbrev pub AreOneHistory : List Stamped → List DeskState → List DeskState → Type 0
-AreOneHistory history old new = (past : Past) → GoOnFrom past old → Lengthens past history new
 
 -- crews that begin again ------------------------------------------------------------
 
@@ -131,7 +128,7 @@ module _ {B S : Type 0} (Takes Refuses : S → List Stamped → S → Type 0) wh
     pub gathered : GatheredState
     pub gathers : Gathers old gathered
     pub over : SettlesOver history gathered crews sink desks later after
-    pub whole : AreOneHistory history old desks
+    pub whole : IsOneHistory history old desks
 
   -- where it halts: nothing is lost, and what was done stays ---------------------------
 

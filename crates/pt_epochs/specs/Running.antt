@@ -8,6 +8,7 @@ use Rattle.pt_workers.specs.declared.run_fault.RunFault.TheVariants as fault
 use Rattle.pt_workers.specs.Stillness.{AreStill}
 use Rattle.pt_workers.specs.declared.stillness.Rested.{Rested}
 use Rattle.pt_workers.specs.declared.stillness.Stopped as stop
+use Rattle.pt_node.specs.Pasts.{IsOneHistory}
 use Rattle.pt_crew.specs.declared.crew.Crew.{Crew}
 use Rattle.pt_epochs.specs.declared.epochs.Plan.{Plan}
 use Rattle.pt_epochs.specs.declared.epochs.Pause.{Pause}
@@ -17,7 +18,7 @@ use Rattle.pt_epochs.specs.declared.epochs.Outcome.TheVariants as outcome
 use Rattle.pt_epochs.specs.declared.halted.Halted.{Halted}
 use Rattle.pt_epochs.specs.declared.halted.Halted.TheVariants.{Running, Turning}
 use Rattle.pt_epochs.specs.Idle.{AtRest, EndsBy, Legs, NoneHasWork, Worked, leg_turns}
-use Rattle.pt_epochs.specs.Epochs.{EndsEpoch, HaltsEpoch, AreOneHistory}
+use Rattle.pt_epochs.specs.Epochs.{EndsEpoch, HaltsEpoch}
 
 -- the journal of a desk has more than so many events
 abbrev pub IsTooLong : ℕ → List DeskState → Type 0
@@ -133,10 +134,10 @@ module _ {B S : Type 0} (Runs : ℕ → List (DeskState × Crew B) → List (Des
     pub mid : Manned B S
     pub passed : PassEach n before old mid
     pub halts : HaltsOne mid halted later after
-    pub whole : AreOneHistory before old.desks mid.desks
+    pub whole : IsOneHistory before old.desks mid.desks
 
   -- all that went to the sink, one history behind the other, is one history with what was before
   pub record PassesAsOne (most : ℕ) (why : Outcome) (old new : Manned B S) : Type 0 where
     pub all : List Stamped
     pub passes : EndsRun most why all old new
-    pub whole : AreOneHistory all old.desks new.desks
+    pub whole : IsOneHistory all old.desks new.desks

@@ -6,6 +6,7 @@ pub mod Owned
 pub mod Loads
 pub mod Agreeing
 pub mod Ordering
+pub mod Losing
 pub mod StepByStep
 pub mod Boxes
 pub mod Stepping

@@ -16,6 +16,7 @@ use Rattle.pt_events.specs.Counting.{below}
 use Rattle.pt_laws.specs.Load.{IsStart}
 use Rattle.pt_laws.proofs.Sums.{below_shift, below_zero, below_at}
 use Rattle.pt_gathered.proofs.Loads.{load_lowered}
+use Rattle.pt_gathered.proofs.Losing.{all_keep_same, all_keep_then}
 
 AllCame-append : (xs ys : Past) → AllCame xs → AllCame ys → AllCame (xs ++ ys)
 AllCame-append [] ys h k = k
@@ -33,7 +34,15 @@ follows_along a b c f g = record {
 }
 
 pub settles_same : (g : GatheredState) → Settles g g
-settles_same g = record { config = refl; start = refl; count = refl; journals_follow = λ d h. follows_same (journals g d); grows = le_refl (event_count g); bound = le_refl (event_count g + load_of g) }
+settles_same g = record {
+  config = refl;
+  start = refl;
+  count = refl;
+  journals_follow = λ d h. follows_same (journals g d);
+  grows = le_refl (event_count g);
+  bound = le_refl (event_count g + load_of g);
+  losses_kept = all_keep_same g;
+}
 
 pub settles_along : (a b c : GatheredState) → Settles a b → Settles b c → Settles a c
 settles_along a b c f g = record {
@@ -43,6 +52,7 @@ settles_along a b c f g = record {
   journals_follow = λ d h. follows_along (journals a d) (journals b d) (journals c d) (f.journals_follow d h) (g.journals_follow d (omega (arith, f.count)));
   grows = let x = f.grows in let y = g.grows in omega arith;
   bound = let x = f.bound in let y = g.bound in omega arith;
+  losses_kept = all_keep_then a b c f.count f.losses_kept g.losses_kept;
 }
 
 pub runs_same : (g : GatheredState) (n : ℕ) → n < 2 ^ 64 → Runs g n g n
@@ -91,6 +101,7 @@ module _ (old new : GatheredState) (d e : ℕ) (l : Letter) (r : Receives d e l 
     journals_follow = follows_one;
     grows = let o = one_more in omega arith;
     bound = let o = one_more in let f = load_lowered old new d e l r d_in e_in once in omega arith;
+    losses_kept = r.losses_kept;
   }
 
   pub step_moves : event_count old < event_count new

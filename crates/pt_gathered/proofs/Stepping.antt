@@ -28,6 +28,7 @@ use Rattle.pt_gathered.specs.Settling.{receipt, replies, replies_to, Receives, S
 use Rattle.pt_gathered.specs.Taking.{without_letters, AreShards, TakesOut}
 use Rattle.pt_gathered.specs.Waits.{posted_in, StepsPosted}
 use Rattle.pt_gathered.proofs.Posted.{steps_posted}
+use Rattle.pt_gathered.proofs.Losing.{receipt_keeps}
 use Rattle.pt_gathered.proofs.Agreeing.{AllBetween, between_ends, agree_step}
 
 -- which letter is the first ----------------------------------------------------------------
@@ -336,6 +337,7 @@ module _ (config : Config) (shards : List ShardState) (lanes : List (List Letter
       within = omega (arith, can, worn_at);
       journal = λ k h. journal_two k;
       left = over_two;
+      losses_kept = receipt_keeps shards shards2 e s s' l e_in is after took.bare_same count2;
     }
 
     -- what desk k wrote

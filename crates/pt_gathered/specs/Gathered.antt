@@ -1,7 +1,6 @@
 -- The desks of a node without their lanes, and the letters left over.
 use Rattle.std.specs.Prelude.{◌≡◌, ℕ, ◌+◌, ◌*◌, ◌<◌, nat_lt, Bool, cond, List, [], ◌++◌, length, map, slice_index_or}
 use Rattle.std.specs.Prelude.{Option, Some, None}
-use Rattle.std.specs.List.{flat_map}
 use Rattle.pt_signal.specs.declared.letter.Letter.{Letter}
 use Rattle.pt_events.specs.History.{Start}
 use Rattle.pt_events.specs.Journal.{Journals, posts, gots, Agrees}

@@ -1,6 +1,6 @@
 -- What settling does: receipts alone, each of which lowers the load.
 use Rattle.std.specs.Prelude.{⊤, ◌≡◌, ℕ, ◌+◌, ◌^◌, ◌<◌, ◌≤◌, ◌==◌, ◌&&◌, Bool, true, false, cond, List, [], ◌∷◌, ◌++◌}
-use Rattle.std.specs.Prelude.{length, map, filter, max, min, ◌-◌, drop, Result, Ok, Err}
+use Rattle.std.specs.Prelude.{length, map, filter, max, min, ◌-◌, drop, slice_index_or, Result, Ok, Err}
 use Rattle.pt_signal.specs.declared.letter.Letter.{Letter}
 use Rattle.pt_events.specs.declared.event.Stamped.{Stamped}
 use Rattle.pt_events.specs.History.{Start, sent_by}
@@ -11,7 +11,9 @@ use Rattle.pt_laws.specs.Load.{load_by_desk}
 use Rattle.pt_laws.specs.LoadLaws.{AllCame}
 use Rattle.pt_shard.specs.declared.stop.Stop.{Stop}
 use Rattle.pt_shard.specs.declared.stop.Stop.TheVariants.{Memory, Worn}
-use Rattle.pt_shard.specs.ShardState.{came_event}
+use Rattle.pt_shard.specs.declared.loss.Loss.{Loss}
+use Rattle.pt_shard.specs.Losses.{losses}
+use Rattle.pt_shard.specs.ShardState.{ShardState, came_event, past}
 use Rattle.pt_gathered.specs.Gathered.{GatheredState, begins, journals, over, over_in}
 
 -- the load, desk by desk
@@ -29,6 +31,20 @@ replies start low e l journal = map (letter (receipt low e l journal).stamp) (se
 abbrev pub replies_to : Start → ℕ → ℕ → Letter → List Stamped → ℕ → List Letter
 replies_to start low e l journal k = filter (λ r. r.to.shard == k) (replies start low e l journal)
 
+-- The desk keeps its losses or not as before. What it keeps to be told afterwards is what it kept before and then, if it
+-- keeps losses, what the later events of its journal lost, in order.
+pub record KeepsLost (old new : ShardState) : Type 0 where
+  pub keeps : new.keeps ≡ old.keeps
+  pub later : List Loss
+  pub later_are : losses new.start (past new) ≡ losses old.start (past old) ++ later
+  pub lost : new.lost ≡ cond old.keeps (old.lost ++ later) old.lost
+
+-- so does each desk
+abbrev pub AllKeepLost : GatheredState → GatheredState → Type 0
+AllKeepLost old new =
+    (d : ℕ) (x : ShardState) → d < length old.shards
+    → KeepsLost (slice_index_or old.shards d x) (slice_index_or new.shards d x)
+
 -- the first letter left over from desk d to desk e came to its receiver, and nothing else happened
 pub record Receives (d e : ℕ) (l : Letter) (old new : GatheredState) : Type 0 where
   pub config : new.config ≡ old.config
@@ -44,6 +60,7 @@ pub record Receives (d e : ℕ) (l : Letter) (old new : GatheredState) : Type 0 
       → over_in new.shards new.lanes i k
       ≡ cond ((i == d) && (k == e)) (drop 1 (over_in old.shards old.lanes i k)) (over_in old.shards old.lanes i k)
       ++ cond (i == e) (replies_to (begins old) old.config.start e l (journals old e) k) []
+  pub losses_kept : AllKeepLost old new
 
 -- a refusal: the stamp of the receipt would pass the limit, or else there was no memory for it
 abbrev pub IsRefused : Stop → ℕ → Letter → GatheredState → Type 0
@@ -76,6 +93,7 @@ pub record Settles (old new : GatheredState) : Type 0 where
   pub journals_follow : (d : ℕ) → d < length old.shards → Follows (journals old d) (journals new d)
   pub grows : event_count old ≤ event_count new
   pub bound : event_count new + load_of new ≤ event_count old + load_of old
+  pub losses_kept : AllKeepLost old new
 
 abbrev pub NothingLeft : GatheredState → Type 0
 NothingLeft g = (d e : ℕ) → d < length g.shards → e < length g.shards → over_in g.shards g.lanes d e ≡ []

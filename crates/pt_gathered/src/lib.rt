@@ -71,6 +71,8 @@
 //! - **Refusals are true.** Each process that a desk saw to have exited had exited, no later than the stamp that was
 //!   seen.
 //! - **Settling.** `settle` adds receipts alone, at most as many as the load, and leaves a quiet node.
+//! - **Losses.** A desk that keeps its losses keeps what settling loses, too, behind those that it kept before.
+//!   (`KeepsLost`)
 //! - **Quiet.** Links are at both ends or at neither. Each monitor was cancelled, had its one `DOWN`, or is open and
 //!   kept. (`Quiet::laws`)
 //! - **Answers.** Once settled, each question of a live process has its one answer, which is true.

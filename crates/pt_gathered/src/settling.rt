@@ -55,9 +55,11 @@ impl Gathered {
     /// A pass visits each receiving desk from 0, and for it each sending desk from 0. It delivers the letters that are
     /// left over between the two at that moment, oldest first. What is sent meanwhile is delivered later in the same
     /// pass, or in a later one. Each journal gets receipts alone, and all together no more than the load of the history
-    /// before. The merge of the journals is then legal and quiet. Links are at both ends or at neither. Each monitor of
-    /// a live process was cancelled, had its one `DOWN`, or is open and kept. Each answer to the question whether a
-    /// process is alive is true, and each such question of a live process has its one answer.
+    /// before. A desk that keeps its losses keeps what the receipts lose, behind what it kept before.
+    ///
+    /// The merge of the journals is then legal and quiet. Links are at both ends or at neither. Each monitor of a live
+    /// process was cancelled, had its one `DOWN`, or is open and kept. Each answer to the question whether a process is
+    /// alive is true, and each such question of a live process has its one answer.
     ///
     /// Once no letter is left over, each journal is read once, from its first event to its last, for what the quiet
     /// node returns of its processes. What was before it is not read again.

@@ -1,15 +1,21 @@
 -- What desks go on from.
-use Rattle.std.proofs.Common.{◌≡◌, ◌<◌, List, [], ◌∷◌, map, length, sym, ap, ◌∙◌, subst, arith}
-use Rattle.std.proofs.lemmas.List.{get_or-map, length-map}
-use Rattle.pt_events.specs.History.{Past}
+use Rattle.std.proofs.Common.{◌≡◌, ◌<◌, List, [], ◌∷◌, ◌++◌, map, length, reverse, append_assoc, sym, ap, ◌∙◌, subst, arith}
+use Rattle.std.proofs.lemmas.List.{get_or-map, length-map, map-append, reverse-append}
+use Rattle.pt_events.specs.declared.event.Stamped.{Stamped}
+use Rattle.pt_events.specs.History.{Past, IsLegal}
+use Rattle.pt_events.specs.Journal.{IsMerge, events}
+use Rattle.pt_laws.specs.Load.{IsQuiet}
 use Rattle.pt_signal.specs.declared.config.Config.{Config}
-use Rattle.pt_gathered.specs.Gathered.{GatheredState}
+use Rattle.pt_gathered.specs.Gathered.{GatheredState, journals}
+use Rattle.pt_gathered.specs.Settling.{Settles}
 use Rattle.pt_beginning.specs.Beginning.{start_of}
 use Rattle.pt_gathered.specs.Pasts.{IsBeginningOf, IsOutlineOf}
+use Rattle.pt_gathered.proofs.Pasts.{settles_keep}
 use Rattle.pt_desk.specs.DeskState.{DeskState}
 use Rattle.pt_workers.specs.Desks.{AreDesksOf, all_shards}
 use Rattle.pt_node.specs.Gathering.{Gathers}
-use Rattle.pt_node.specs.Pasts.{GoOnFrom, GathersPast, GathersOutline}
+use Rattle.pt_node.specs.Pasts.{GoOnFrom, GathersPast, GathersOutline, IsOneHistory, Lengthens}
+use Rattle.pt_node.specs.Resuming.{Resumes}
 use Rattle.pt_workers.specs.Running.{AllGoOn}
 use Rattle.pt_workers.proofs.Begun.{starts_stay}
 use Rattle.pt_workers.proofs.GoingOn.{still_desks}
@@ -57,3 +63,29 @@ module _ {W : Type 0} where
           let before : d < length old = omega (arith, l, length-map old desk) in
           ap (λ (z : DeskState). z.shard.start) (get_or-map desk new d x y (omega (arith, before, c.count)))
           ∙ (c.each d x before).shard.start ∙ ap (λ (z : DeskState). z.shard.start) (sym (get_or-map desk old d x y before)))
+
+-- histories, one behind the other -------------------------------------------------------------------
+
+-- whoever goes on from a history goes on from a legal and quiet one
+lengthened : (past : Past) (history : List Stamped) (new : List DeskState) → GoOnFrom (events (reverse history) ++ past) new → Lengthens past history new
+lengthened past history new on = record {
+  legal = subst (IsLegal []) on.begun.past_is on.begun.begun.left.legal;
+  quiet = subst (IsQuiet []) on.begun.past_is on.begun.begun.left.quiet;
+  goes_on = on;
+}
+
+-- gathered, settled and resumed
+pub one_history : (old new : List DeskState) (g s : GatheredState) (history : List Stamped) → Gathers old g → Settles g s → IsMerge (journals s) (reverse history) → Resumes s new → IsOneHistory history old new
+one_history old new g s history gathers settles merge resumes past from =
+    lengthened past history new (resumes.whole past (reverse history) (settles_keep g s settles past (gathers_past old g gathers past from)) merge)
+
+pub nothing_yet : (desks : List DeskState) → IsOneHistory [] desks desks
+nothing_yet desks past from = lengthened past [] desks from
+
+pub one_after : (before history : List Stamped) (old mid new : List DeskState) → IsOneHistory before old mid → IsOneHistory history mid new → IsOneHistory (before ++ history) old new
+one_after before history old mid new first then past from =
+    let later = then (events (reverse before) ++ past) (first past from).goes_on in
+    let joined : events (reverse history) ++ (events (reverse before) ++ past) ≡ events (reverse (before ++ history)) ++ past =
+    sym (append_assoc (events (reverse history)) (events (reverse before)) past)
+    ∙ ap (λ z. z ++ past) (sym (map-append (λ (s : Stamped). s.event) (reverse history) (reverse before)) ∙ ap events (sym (reverse-append before history))) in
+    lengthened past (before ++ history) new (subst (λ z. GoOnFrom z new) joined later.goes_on)

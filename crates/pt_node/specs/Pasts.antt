@@ -38,3 +38,7 @@ pub record Lengthens (past : Past) (history : List Stamped) (new : List DeskStat
   pub legal : IsLegal [] (events (reverse history) ++ past)
   pub quiet : IsQuiet [] (events (reverse history) ++ past)
   pub goes_on : GoOnFrom (events (reverse history) ++ past) new
+
+-- this history and whatever the old desks go on from are one history, and the new desks go on from it
+abbrev pub IsOneHistory : List Stamped → List DeskState → List DeskState → Type 0
+IsOneHistory history old new = (past : Past) → GoOnFrom past old → Lengthens past history new

@@ -1,5 +1,5 @@
 -- `end_epoch`: its contract.
-use Rattle.example_uses.proofs.Archiving.{one_history}
+use Rattle.pt_node.proofs.Pasts.{one_history}
 use Rattle.example_uses.proofs.epochs.end_epoch.Goals as goal
 
 pub returns-in-Ok : goal.returns-in-Ok

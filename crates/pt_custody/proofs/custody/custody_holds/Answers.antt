@@ -1,8 +1,9 @@
--- `custody_holds`: its clauses `history`, `gathered`, `settled`, `pauses`, `from`, `telling`, `told` and `counts`.
-use Rattle.std.proofs.Common.{sym}
+-- `custody_holds`: its clauses `history`, `gathered`, `settled`, `pauses`, `from`, `telling`, `told`, `pauses_tell` and `counts`.
+use Rattle.std.proofs.Common.{get_or, refl, sym}
+use Rattle.pt_shard.specs.Restart.{restarted}
 use Rattle.pt_custody.proofs.Counting.{each_counts}
 use Rattle.pt_custody.proofs.Keeping.{custody}
-use Rattle.pt_custody.proofs.Nodes.{are_told, forgot_nothing, gathered_keep, pauses_keep, settled_keep, tell_on}
+use Rattle.pt_custody.proofs.Nodes.{are_told, forgot_nothing, gathered_keep, pauses_keep, pauses_tell, settled_keep, tell_on}
 use Rattle.pt_custody.proofs.Telling.{telling_stays}
 use Rattle.pt_custody.proofs.custody.custody_holds.Goals as goal
 
@@ -25,7 +26,10 @@ returns-clause-from c = forgot_nothing
 
 pub returns-clause-told : goal.returns-clause-told
 returns-clause-told c g before merged p x told n node from merge here tells =
-    (sym (are_told g node before from merged merge p x here told tells), tell_on g node before from merged merge p x here told n tells)
+    (sym (are_told g node before from merged merge p x here told tells), tell_on g node before from merged merge p x here told (restarted n (get_or g.shards p.shard x)) refl refl tells)
+
+pub returns-clause-pauses_tell : goal.returns-clause-pauses_tell
+returns-clause-pauses_tell c = pauses_tell (telling_stays c.losses_are_kept.ensures)
 
 pub returns-clause-counts : goal.returns-clause-counts
 returns-clause-counts c = each_counts

@@ -1,11 +1,11 @@
 -- `run_epochs_on_threads`: its contract, and its loop over `epoch`.
 use Rattle.std.proofs.Common.{◌≡◌, ◌+◌, ◌<◌, suc, ◌++◌, None, Err, refl, rules, sym, ◌∙◌, subst, arith}
 use Rattle.std.specs.Prelude.{IfErr}
+use Rattle.pt_node.proofs.Pasts.{one_after}
 use Rattle.pt_epochs.specs.Driving.{lets_short}
 use Rattle.pt_epochs.specs.Idle.{InTurns}
 use Rattle.pt_epochs.specs.Running.{EndsWithOne, HaltsRun, Manned, PassEach, outcome_of}
 use Rattle.pt_epochs.proofs.Passing.{each_attend, each_whole, ends_run, passes_attend, passes_whole}
-use Rattle.pt_epochs.proofs.Whole.{one_after}
 use Rattle.pt_epochs.proofs.on_threads.run_epochs_on_threads.Goals as goal
 
 pub returns-in_err-next-clause-halts : goal.returns-in_err-next-clause-halts
