@@ -39,7 +39,7 @@ use Rattle.pt_crew.proofs.Waking.{by_cases}
 use Rattle.pt_crew.proofs.Upholding.{later_is, later_same, later_then, later_after, born_then, phase_same, phase_is, alone_is, alone_then, alone_event, acts_is, acts_then, same_pid_sym, living_born}
 use Rattle.pt_supervisor.specs.declared.children.Child.{Child}
 use Rattle.pt_supervisor.specs.Children.{NoneLives}
-use Rattle.pt_supervisor.specs.Hearing.{Standing, gone, heard, heard_at, lives_again, lost, restarted_child, started_again, stopped}
+use Rattle.pt_supervisor.specs.Hearing.{Standing, gone, heard, heard_at, lost, restarted_child, started_again, stopped, wanted_again}
 use Rattle.pt_supervisor.specs.Limits.{allows}
 use Rattle.pt_supervisor.specs.Keeping.{pid_of_child, child_at, is_end_of, is_cut, has_cut, all_events, IsTied, IsHeld, Family, tells_end, has_told, WereTold, all_children, was_started, IsPlaced, Remembers}
 use Rattle.pt_supervisor.proofs.Wanting.{set_same, set_other, set_keeps, again_get, again_kept, again_asked, again_count}
@@ -60,15 +60,15 @@ none_at children place q none is =
     let c = child_is children place q is in
     let bad : None ≡ Some q = sym (none place c.0 c.1) ∙ c.2 in absurd (cc)
 
-set_at : (children : List Child) (place : ℕ) (c v : Child) → slice_get children place ≡ Some c → child_at (slice_set children place v) place ≡ v.pid
+pub set_at : (children : List Child) (place : ℕ) (c v : Child) → slice_get children place ≡ Some c → child_at (slice_set children place v) place ≡ v.pid
 set_at children place c v at = ap pid_of_child (set_same children place v (slice_get_within children place c at))
 
-set_beside : (children : List Child) (place j : ℕ) (v : Child) (q : Pid) → (j ≡ place → ⊥) → child_at (slice_set children place v) j ≡ Some q → child_at children j ≡ Some q
+pub set_beside : (children : List Child) (place j : ℕ) (v : Child) (q : Pid) → (j ≡ place → ⊥) → child_at (slice_set children place v) j ≡ Some q → child_at children j ≡ Some q
 set_beside children place j v q apart is =
     let x = child_is (slice_set children place v) j q is in
     ap pid_of_child (set_other children place j v x.0 apart x.1) ∙ x.2
 
-set_same_at : (children : List Child) (place j : ℕ) (v : Child) (q : Pid) → (j ≡ place → ⊥) → child_at children j ≡ Some q → child_at (slice_set children place v) j ≡ Some q
+pub set_same_at : (children : List Child) (place j : ℕ) (v : Child) (q : Pid) → (j ≡ place → ⊥) → child_at children j ≡ Some q → child_at (slice_set children place v) j ≡ Some q
 set_same_at children place j v q apart is =
     let x = child_is children j q is in
     ap pid_of_child (set_keeps children place j v x.0 apart x.1) ∙ x.2
@@ -83,13 +83,13 @@ pub record Less (item : Item) (old new : Standing) : Type 0 where
   pub kept : (j : ℕ) (q : Pid) → child_at old.children j ≡ Some q → (child_at new.children j ≡ Some q) ⊎ (is_end_of q item ≡ true)
   pub count : new.started ≡ old.started
 
-restarted_stop : (allowed : Bool) (now place : ℕ) (s : Standing) → (restarted_child allowed now place s).stopping ≡ None → s.stopping ≡ None
-restarted_stop true now place s h = h
-restarted_stop false now place s h = absurd (cc)
+restarted_stop : (allowed : Bool) (now place id : ℕ) (reason : Reason) (s : Standing) → (restarted_child allowed now place id reason s).stopping ≡ None → s.stopping ≡ None
+restarted_stop true now place id reason s h = h
+restarted_stop false now place id reason s h = absurd (cc)
 
-again_stop : (again : Bool) (now place : ℕ) (s : Standing) → (started_again again now place s).stopping ≡ None → s.stopping ≡ None
-again_stop true now place s h = restarted_stop (allows now s.span s.most s.times) now place s h
-again_stop false now place s h = h
+again_stop : (again : Bool) (now place id : ℕ) (reason : Reason) (s : Standing) → (started_again again now place id reason s).stopping ≡ None → s.stopping ≡ None
+again_stop true now place id reason s h = restarted_stop (allows now s.span s.most s.times) now place id reason s h
+again_stop false now place id reason s h = h
 
 -- who stands in a place, by the test of its pid
 of_is : (pid : Option Pid) (p : Pid) → is_pid pid p ≡ true → pid ≡ Some p
@@ -137,12 +137,12 @@ module _ (now : ℕ) (from : Pid) (reason : Reason) (s : Standing) (apart : (i j
       | inl same ↦ inr (from_is q (sym is ∙ ap (child_at s.children) same ∙ (one_of place found c).1))
       | inr other ↦ inl (onward j q (set_same_at s.children place j v q other is))
     ];
-    count = again_count again now place t;
+    count = again_count again now place c.id reason t;
     sub = λ j q is. elim (cases_eq j place) [
       | inl same ↦ absurd (here j q is same)
       | inr other ↦ set_beside s.children place j v q other (before j q is)
     ];
-    stop = λ h. again_stop again now place t h;
+    stop = λ h. again_stop again now place c.id reason t h;
     out = λ h j q is. elim (cases_eq j place) [
       | inl same ↦ absurd (here j q is same)
       | inr other ↦ by_cases (same_pid q from)
@@ -155,7 +155,7 @@ module _ (now : ℕ) (from : Pid) (reason : Reason) (s : Standing) (apart : (i j
       bidden = nat_le s.ending place
 
       again : Bool
-      again = not bidden && lives_again bidden c.restart reason
+      again = not bidden && wanted_again bidden reason c
 
       v : Child
       v = gone bidden reason c
@@ -166,19 +166,19 @@ module _ (now : ℕ) (from : Pid) (reason : Reason) (s : Standing) (apart : (i j
       from_is : (q : Pid) → Some q ≡ Some from → same_pid q from ≡ true
       from_is q is = let same : q ≡ from = cc in subst (λ (x : Pid). same_pid q x ≡ true) same (same_pid_refl q)
 
-      before : (j : ℕ) (q : Pid) → child_at (started_again again now place t).children j ≡ Some q → child_at (slice_set s.children place v) j ≡ Some q
+      before : (j : ℕ) (q : Pid) → child_at (started_again again now place c.id reason t).children j ≡ Some q → child_at (slice_set s.children place v) j ≡ Some q
       before j q is =
-          let x = child_is (started_again again now place t).children j q is in
-          let k = again_get again now place t j x.0 x.1 in
+          let x = child_is (started_again again now place c.id reason t).children j q is in
+          let k = again_get again now place c.id reason t j x.0 x.1 in
           ap pid_of_child k.1 ∙ (sym k.2.pid ∙ x.2)
 
-      onward : (j : ℕ) (q : Pid) → child_at (slice_set s.children place v) j ≡ Some q → child_at (started_again again now place t).children j ≡ Some q
+      onward : (j : ℕ) (q : Pid) → child_at (slice_set s.children place v) j ≡ Some q → child_at (started_again again now place c.id reason t).children j ≡ Some q
       onward j q is =
           let x = child_is (slice_set s.children place v) j q is in
-          let k = again_kept again now place t j x.0 x.1 in
+          let k = again_kept again now place c.id reason t j x.0 x.1 in
           ap pid_of_child k.1 ∙ (k.2.pid ∙ x.2)
 
-      here : (j : ℕ) (q : Pid) → child_at (started_again again now place t).children j ≡ Some q → j ≡ place → ⊥
+      here : (j : ℕ) (q : Pid) → child_at (started_again again now place c.id reason t).children j ≡ Some q → j ≡ place → ⊥
       here j q is same =
           let bad : None ≡ Some q = sym (set_at s.children place c v at) ∙ ap (child_at (slice_set s.children place v)) (sym same) ∙ before j q is in absurd (cc)
 
@@ -200,7 +200,7 @@ lost_asked : (now : ℕ) (reason : Reason) (place : ℕ) (c : Option Child) (s :
 lost_asked now reason place None s = refl
 lost_asked now reason place (Some c) s =
     let bidden = nat_le s.ending place in
-    again_asked (not bidden && lives_again bidden c.restart reason) now place (record s { children = slice_set s.children place (gone bidden reason c) })
+    again_asked (not bidden && wanted_again bidden reason c) now place c.id reason (record s { children = slice_set s.children place (gone bidden reason c) })
 
 at_asked : (at : Option ℕ) (now : ℕ) (reason : Reason) (s : Standing) → (heard_at at now reason s).asked ≡ s.asked
 at_asked None now reason s = refl
@@ -220,7 +220,7 @@ lost_count : (now : ℕ) (reason : Reason) (place : ℕ) (c : Option Child) (s :
 lost_count now reason place None s = refl
 lost_count now reason place (Some c) s =
     let bidden = nat_le s.ending place in
-    again_count (not bidden && lives_again bidden c.restart reason) now place (record s { children = slice_set s.children place (gone bidden reason c) })
+    again_count (not bidden && wanted_again bidden reason c) now place c.id reason (record s { children = slice_set s.children place (gone bidden reason c) })
 
 at_count : (at : Option ℕ) (now : ℕ) (reason : Reason) (s : Standing) → (heard_at at now reason s).started ≡ s.started
 at_count None now reason s = refl

@@ -8,6 +8,7 @@ pub mod Telling
 pub mod Before
 pub mod Homes
 pub mod Families
+pub mod Changing
 pub mod Asking
 pub mod Tending
 pub mod Opened

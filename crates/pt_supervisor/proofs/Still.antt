@@ -1,5 +1,5 @@
 -- Supervisors in a node that is still.
-use Rattle.std.proofs.Common.{◌≡◌, ◌⊎◌, inl, inr, ℕ, zero, suc, ◌<◌, ◌≤◌, Bool, true, false, cond, ◌||◌, List, [], ◌∷◌, length, get_or, slice_get, Option, Some, None, is_some, refl, sym, ap, subst, ◌∙◌, arith}
+use Rattle.std.proofs.Common.{◌≡◌, ◌⊎◌, inl, inr, ℕ, zero, suc, ◌<◌, ◌≤◌, Bool, true, false, cond, ◌||◌, not, List, [], ◌∷◌, length, get_or, slice_get, Option, Some, None, is_some, refl, sym, ap, subst, ◌∙◌, arith}
 use Rattle.std.specs.Prelude.{nat_le}
 use Rattle.std.specs.List.{list_any, find}
 use Rattle.std.specs.Option.{option_map}
@@ -50,7 +50,7 @@ use Rattle.pt_supervisor.specs.declared.asked.Stage.TheVariants.{Waiting, Until,
 use Rattle.pt_supervisor.specs.declared.children.Child.{Child}
 use Rattle.pt_supervisor.specs.declared.children.Shutdown.{Shutdown}
 use Rattle.pt_supervisor.specs.declared.children.Shutdown.TheVariants.{Infinity}
-use Rattle.pt_supervisor.specs.Children.{last_alive, leaving_in, or_before}
+use Rattle.pt_supervisor.specs.Children.{last_alive, leaving, leaving_in, or_before}
 use Rattle.pt_supervisor.specs.Ending.{monitor_of, told_in, next_at_stage}
 use Rattle.pt_supervisor.specs.Hearing.{Standing}
 use Rattle.pt_supervisor.specs.Supervising.{EndsLast}
@@ -139,10 +139,12 @@ among_all p q m (living s) = open_among m q s.watching
 among_all p q m (ended r s) = omega arith
 
 -- the last one stands in a place
-in_place : (o : Option Child) (children : List Child) (n : ℕ) (before : Option (Pid × Shutdown)) (q : Pid) (shutdown : Shutdown) → slice_get children n ≡ o → (before ≡ Some (q, shutdown) → IsPlaced children q)
-    → or_before (leaving_in o) before ≡ Some (q, shutdown) → IsPlaced children q
-in_place None children n before q shutdown at go is = go is
-in_place (Some c) children n before q shutdown at go is = by_pid c.pid refl is
+in_place : (all : Bool) (o : Option Child) (children : List Child) (n : ℕ) (before : Option (Pid × Shutdown)) (q : Pid) (shutdown : Shutdown) → slice_get children n ≡ o → (before ≡ Some (q, shutdown) → IsPlaced children q)
+    → or_before (leaving_in all o) before ≡ Some (q, shutdown) → IsPlaced children q
+in_place all None children n before q shutdown at go is = go is
+in_place all (Some c) children n before q shutdown at go is = by_cases (all || not c.wanted)
+    (λ ends. by_pid c.pid refl (subst (λ (b : Bool). or_before (cond b (leaving c) None) before ≡ Some (q, shutdown)) ends is))
+    (λ stays. go (subst (λ (b : Bool). or_before (cond b (leaving c) None) before ≡ Some (q, shutdown)) stays is))
   where
     by_pid : (pid : Option Pid) → c.pid ≡ pid → or_before (option_map {U = Pid × Shutdown} (λ p. (p, c.shutdown)) pid) before ≡ Some (q, shutdown) → IsPlaced children q
     by_pid None none is = go is
@@ -153,11 +155,8 @@ in_place (Some c) children n before q shutdown at go is = by_pid c.pid refl is
 
 last_placed : (children : List Child) (first n : ℕ) (q : Pid) (shutdown : Shutdown) → last_alive children first n ≡ Some (q, shutdown) → IsPlaced children q
 last_placed children first zero q shutdown is = absurd (cc)
-last_placed children first (suc n) q shutdown is = by_cases (nat_le first n)
-    (λ within. in_place (slice_get children n) children n (last_alive children first n) q shutdown refl (last_placed children first n q shutdown)
-    (subst (λ (b : Bool). cond b (or_before (leaving_in (slice_get children n)) (last_alive children first n)) (last_alive children first n) ≡ Some (q, shutdown)) within is))
-    (λ below. last_placed children first n q shutdown
-    (subst (λ (b : Bool). cond b (or_before (leaving_in (slice_get children n)) (last_alive children first n)) (last_alive children first n) ≡ Some (q, shutdown)) below is))
+last_placed children first (suc n) q shutdown is =
+    in_place (nat_le first n) (slice_get children n) children n (last_alive children first n) q shutdown refl (last_placed children first n q shutdown) is
 
 living_or : (f : Phase) → is_unborn f ≡ false → is_ended f ≡ false → is_living f ≡ true
 living_or unborn born on = absurd (cc)

@@ -46,7 +46,7 @@ use Rattle.pt_supervisor.specs.Ending.{bids, gone_at, gone_in, is_ref, monitor_o
 use Rattle.pt_supervisor.specs.Limits.{moment}
 use Rattle.pt_supervisor.specs.Hearing.{Standing, at_stage, monitor_closed, gone_heard, heard, heard_gone}
 use Rattle.pt_supervisor.specs.Supervising.{EndsChild, TellsToEnd, WatchesChild, after_watching, StartsOf, Nursery, BearsAs, StartsAt, StartsOne, StartsFirst, StartsAll, SupervisorScene, nursery, SupervisorSettles, AdvancesAs, SupervisorAttends, SupervisorHandles, Supervises, with_pid, with_one, after_attending}
-use Rattle.pt_supervisor.specs.Keeping.{is_end_of, is_cut, has_cut, all_events, IsTied, IsHeld, Family, all_children, was_started, has_told, IsPlaced, Remembers, AreAsked, IsWatched, Holds, Tends, PartOf, HoldsAs, Keeps, SupervisorBegins, AllBegin, ActsAs, SuperviseAs}
+use Rattle.pt_supervisor.specs.Keeping.{is_end_of, is_cut, has_cut, all_events, IsTied, IsHeld, Family, all_children, was_started, has_told, IsPlaced, Remembers, AreAsked, IsWatched, Holds, HoldsChildren, ChangesBefore, ChangesAfter, Tends, PartOf, HoldsAs, Keeps, SupervisorBegins, AllBegin, ActsAs, SuperviseAs}
 use Rattle.pt_supervisor.proofs.Tying.{or_left, stays_in, tied_by, is_unlink, handled_tied, handled_traps}
 use Rattle.pt_supervisor.proofs.Telling.{found_any, waits_told}
 use Rattle.pt_supervisor.proofs.Families.{none_at, Less, less_heard, heard_asked, Goes, goes_is, goes_then, goes_event, cut_later, remembers_step, remembers_less, Kept, family_step, kept_is, own_phase, told_as, told_goes, told_kept, watched_as, watched_goes, watched_kept, born_goes, born_kept}
@@ -318,7 +318,7 @@ took me item before was d taken = record {
     st : (s : ProcessState) × (phase_of was me ≡ living s)
     st = living_of (phase_of was me) taken.2
 
-taken_kept : (past : Past) (me : Pid) (item : Item) (s m : Standing) (before : Next) (was d : ShardState) → Less item s m → ItemIsTaken me before (Some item) was d → Holds past s before me was → Kept past m.children m.started m.stopping me d
+taken_kept : (past : Past) (me : Pid) (item : Item) (s m : Standing) (before : Next) (was d : ShardState) → Less item s m → ItemIsTaken me before (Some item) was d → HoldsChildren past s before me was → Kept past m.children m.started m.stopping me d
 taken_kept past me item s m before was d less taken h = record {
   remembers = remembers_less past item s m me was d k.later k.bare
       (λ q placed is were. waits_told me q past was.start were (events was.journal) (found_any (is_end_of q) (fits taken.0) (state_in was me).waiting item taken.3 is)) less h.remembers;
@@ -345,7 +345,7 @@ abbrev StillAsked : Item → Standing → Standing → Type 0
 StillAsked item s m =
     (a : Asked) → m.asked ≡ Some a → (s.asked ≡ Some a) × ((n : Ref) → monitor_of a.stage ≡ Some n → is_down_item n item ≡ false)
 
-taken_asks : (past : Past) (me : Pid) (item : Item) (s m : Standing) (before : Next) (was d : ShardState) → Less item s m → StillAsked item s m → ItemIsTaken me before (Some item) was d → Holds past s before me was → AreAsked past m.children m.asked me d
+taken_asks : (past : Past) (me : Pid) (item : Item) (s m : Standing) (before : Next) (was d : ShardState) → Less item s m → StillAsked item s m → ItemIsTaken me before (Some item) was d → HoldsChildren past s before me was → AreAsked past m.children m.asked me d
 taken_asks past me item s m before was d less still taken h a is placed =
     let k = took me item before was d taken in
     asked_step past a me was d k.later
@@ -375,7 +375,7 @@ goes_again : (traps : Bool) (before : Next) (children : List Child) → (traps �
 goes_again traps before children (inl h) = inl h
 goes_again traps before children (inr h) = inr (refl, h.1)
 
-refused_holds : (past : Past) (s m : Standing) (me : Pid) (before : Next) (was d e : ShardState) → m ≡ s → d ≡ was → e ≡ d → Holds past s before me was → Holds past m Proceed me e
+refused_holds : (past : Past) (s m : Standing) (me : Pid) (before : Next) (was d e : ShardState) → m ≡ s → d ≡ was → e ≡ d → HoldsChildren past s before me was → Holds past m Proceed me e
 refused_holds past s m me before was d e same is as_is h =
     subst (λ (x : Standing). Holds past x Proceed me e) (sym same) (subst (Holds past s Proceed me) (sym (as_is ∙ is)) (record {
       waits = tt;
@@ -385,7 +385,7 @@ refused_holds past s m me before was d e same is as_is h =
       asks = h.asks;
     }))
 
-refused_attends : (past : Past) (s m : Standing) (me : Pid) (now : ℕ) (before : Next) (was d e : ShardState) (answer : Bool) → answer ≡ false → m ≡ cond answer (gone_heard now s) s → d ≡ was → e ≡ d → Holds past s before me was → Attended past answer m me e
+refused_attends : (past : Past) (s m : Standing) (me : Pid) (now : ℕ) (before : Next) (was d e : ShardState) (answer : Bool) → answer ≡ false → m ≡ cond answer (gone_heard now s) s → d ≡ was → e ≡ d → HoldsChildren past s before me was → Attended past answer m me e
 refused_attends past s m me now before was d e answer off same is as_is h =
     subst (λ (a : Bool). Attended past a m me e) (sym off) (refused_holds past s m me before was d e (same ∙ ap (λ (b : Bool). cond b (gone_heard now s) s) off) is as_is h)
 
@@ -434,7 +434,7 @@ found_with past me now s e (Some p) is k = (
         subst (λ (x : Pid). has_told me x (all_events past e) ≡ true) (sym q_is) ((k.1 a.0 a.1 (subst (λ (x : Pid). IsPlaced s.children x) q_is placed)).gone a.2)
 
 flag_attends : (past : Past) (me : Pid) (now : ℕ) (s m : Standing) (before : Next) (was d e : ShardState) (on answer : Bool) (result : Result Bool Fault) → Calls me (Some (Flag me true)) on d result e → answer ≡ is_ok result → m ≡ cond answer (gone_heard now s) s
-    → ItemIsTaken me before None was d → Holds past s before me was → Attended past answer m me e
+    → ItemIsTaken me before None was d → HoldsChildren past s before me was → Attended past answer m me e
 flag_attends past me now s m before was d e on answer (Ok x) c ok same taken h =
     subst (λ (a : Bool). Attended past a m me e) (sym ok)
     (subst (λ (x : Standing). KeptWith past x me e) (sym (same ∙ ap (λ (b : Bool). cond b (gone_heard now s) s) ok)) (found_with past me now s e (gone_in s.asked) refl (kept, asks)))
@@ -476,7 +476,7 @@ less_same : (item : Item) (s : Standing) → ((q : Pid) → is_end_of q item ≡
 less_same item s none = record { sub = λ j q is. is; stop = λ h. h; out = λ h j q is. none q; kept = λ j q is. inl is; count = refl }
 
 heard_attends : (past : Past) (me : Pid) (item : Item) (s m n : Standing) (before : Next) (was : ShardState) (d e : DeskState) (answer : Bool) → answer ≡ true → m ≡ n → e ≡ d → Less item s n → StillAsked item s n
-    → ItemIsTaken me before (Some item) was d.shard → Holds past s before me was → Attended past answer m me e.shard
+    → ItemIsTaken me before (Some item) was d.shard → HoldsChildren past s before me was → Attended past answer m me e.shard
 heard_attends past me item s m n before was d e answer on is same less still taken h =
     subst (λ (a : Bool). Attended past a m me e.shard) (sym on)
     (subst (λ (x : Standing). KeptWith past x me e.shard) (sym is) (
@@ -494,7 +494,7 @@ still_down m from r now s a is =
     (k.0, λ n by. ap (λ (o : Option Ref). is_ref o m) (sym by) ∙ k.1)
 
 attends_to : (past : Past) (me : Pid) (time : ℕ) (item : Option Item) (s m : Standing) (before : Next) (was : ShardState) (d e : DeskState) (answer : Bool) → SupervisorAttends me time item s d answer m e
-    → ItemIsTaken me before item was d.shard → Holds past s before me was → Attended past answer m me e.shard
+    → ItemIsTaken me before item was d.shard → HoldsChildren past s before me was → Attended past answer m me e.shard
 attends_to past me time (Some (Exit from r)) s m before was d e answer a taken h =
     heard_attends past me (Exit from r) s m (heard (moment s.timed d.shard.clock time) from r s) before was d e answer a.0 a.1 a.2 (less_heard (moment s.timed d.shard.clock time) from r s h.family.apart)
     (λ x is. (sym (heard_asked (moment s.timed d.shard.clock time) from r s) ∙ is, λ n by. refl)) taken h
@@ -540,6 +540,31 @@ module _ {S B : Type 0} (starts : StartsOf S B) (me : Pid) where
     keeps = λ past before was taken born holds.
         then_holds past time h.answer h.mid next new h.goes waits (attends_to past me time item old.standing h.mid.standing before was old.desk h.mid.desk h.answer h.attends taken holds);
   }
+
+-- what the program asks of it meanwhile ---------------------------------------------------------------------------
+
+pub holds_children : (past : Past) (s : Standing) (next : Next) (me : Pid) (d : ShardState) → Holds past s next me d → HoldsChildren past s next me d
+holds_children past s next me d h = record { remembers = h.remembers; traps = h.traps; family = h.family; asks = h.asks }
+
+pub changes_before : ChangesBefore
+changes_before me item s t d next new e changes tends = record {
+  acts = tends.acts;
+  keeps = λ past before was taken born h. tends.keeps past before was taken born (changes past before me was h);
+}
+
+pub changes_after : ChangesAfter
+changes_after me item s d next new t e tends changes = record {
+  acts = tends.acts;
+  keeps = λ past before was taken born h.
+      let k = changes past next me e (holds_children past new next me e (tends.keeps past before was taken born h)) in
+      record {
+        waits = tt;
+        remembers = k.remembers;
+        traps = goes_again (state_in e me).traps next t.children k.traps;
+        family = k.family;
+        asks = k.asks;
+      };
+}
 
 -- what comes to it ---------------------------------------------------------------------------------------------
 
@@ -697,7 +722,7 @@ module _ {B : Type 0} (past : Past) (part : PartOf B) where
   hands_as None before me item was d next now e h born taken later acts = subst (λ (x : Option Standing). HoldsAs past x next me e) (sym acts.0) tt
   hands_as (Some s) before me item was d next now e h born taken later acts =
       subst (λ (x : Option Standing). HoldsAs past x next me e) (sym acts.1)
-      (let k = acts.2.keeps past before was taken born (h.0 (taken_lives me before item was d taken)) in (
+      (let k = acts.2.keeps past before was taken born (holds_children past s before me was (h.0 (taken_lives me before item was d taken))) in (
         λ alive. k,
         k.waits,
         k.remembers,

@@ -13,7 +13,7 @@ use Rattle.pt_supervisor.specs.Children.{PermanentAreWanted, is_missing, is_temp
 use Rattle.pt_signal.specs.Values.{is_pid}
 use Rattle.pt_supervisor.specs.Ending.{gone_in}
 use Rattle.pt_supervisor.specs.Limits.{allows}
-use Rattle.pt_supervisor.specs.Hearing.{Standing, gone_heard, gone, heard, heard_at, heard_gone, lives_again, lost, restarted_child, started_again, stopped}
+use Rattle.pt_supervisor.specs.Hearing.{Standing, gone_heard, gone, heard, heard_at, heard_gone, lives_again, lost, wanted_again, restarted_child, started_again, stopped}
 use Rattle.pt_crew.proofs.Waking.{by_cases}
 
 pub set_same : (xs : List Child) (i : ℕ) (v : Child) → i < length xs → slice_get (slice_set xs i v) i ≡ Some v
@@ -44,6 +44,10 @@ kept_wanted children place c v at same wants k j x here is = elim (cases_eq j pl
       )
   | inr apart ↦ k j x (set_other children place j v x apart here) is
 ]
+
+and_both : (a b : Bool) → a ≡ true → b ≡ true → (a && b) ≡ true
+and_both true b is too = too
+and_both false b is too = absurd (cc)
 
 permanent_again : (bidden : Bool) (restart : Restart) (reason : Reason) → restart ≡ Restart.Permanent → lives_again bidden restart reason ≡ true
 permanent_again true restart reason is = ap (λ (r : Restart). not (is_temporary r)) is
@@ -121,45 +125,45 @@ revived_keeps xs first n k j x at is =
 
 -- what a restart does to the children ----------------------------------------------------------------
 
-restarted_keeps : (allowed : Bool) (now place : ℕ) (s : Standing) → PermanentAreWanted s.children → PermanentAreWanted (restarted_child allowed now place s).children
-restarted_keeps true now place s k = revived_keeps s.children (ends_from s.strategy place (length s.children)) (length s.children) k
-restarted_keeps false now place s k = k
+restarted_keeps : (allowed : Bool) (now place id : ℕ) (reason : Reason) (s : Standing) → PermanentAreWanted s.children → PermanentAreWanted (restarted_child allowed now place id reason s).children
+restarted_keeps true now place id reason s k = revived_keeps s.children (ends_from s.strategy place (length s.children)) (length s.children) k
+restarted_keeps false now place id reason s k = k
 
-again_wants : (again : Bool) (now place : ℕ) (s : Standing) → PermanentAreWanted s.children → PermanentAreWanted (started_again again now place s).children
-again_wants true now place s k = restarted_keeps (allows now s.span s.most s.times) now place s k
-again_wants false now place s k = k
+again_wants : (again : Bool) (now place id : ℕ) (reason : Reason) (s : Standing) → PermanentAreWanted s.children → PermanentAreWanted (started_again again now place id reason s).children
+again_wants true now place id reason s k = restarted_keeps (allows now s.span s.most s.times) now place id reason s k
+again_wants false now place id reason s k = k
 
-restarted_get : (allowed : Bool) (now place : ℕ) (s : Standing) (j : ℕ) (x : Child) → slice_get (restarted_child allowed now place s).children j ≡ Some x → (c : Child) × (slice_get s.children j ≡ Some c) × Kin c x
-restarted_get true now place s j x at = revived_get s.children (ends_from s.strategy place (length s.children)) (length s.children) j x at
-restarted_get false now place s j x at = (x, at, kin_same x)
+restarted_get : (allowed : Bool) (now place id : ℕ) (reason : Reason) (s : Standing) (j : ℕ) (x : Child) → slice_get (restarted_child allowed now place id reason s).children j ≡ Some x → (c : Child) × (slice_get s.children j ≡ Some c) × Kin c x
+restarted_get true now place id reason s j x at = revived_get s.children (ends_from s.strategy place (length s.children)) (length s.children) j x at
+restarted_get false now place id reason s j x at = (x, at, kin_same x)
 
-pub again_get : (again : Bool) (now place : ℕ) (s : Standing) (j : ℕ) (x : Child) → slice_get (started_again again now place s).children j ≡ Some x → (c : Child) × (slice_get s.children j ≡ Some c) × Kin c x
-again_get true now place s j x at = restarted_get (allows now s.span s.most s.times) now place s j x at
-again_get false now place s j x at = (x, at, kin_same x)
+pub again_get : (again : Bool) (now place id : ℕ) (reason : Reason) (s : Standing) (j : ℕ) (x : Child) → slice_get (started_again again now place id reason s).children j ≡ Some x → (c : Child) × (slice_get s.children j ≡ Some c) × Kin c x
+again_get true now place id reason s j x at = restarted_get (allows now s.span s.most s.times) now place id reason s j x at
+again_get false now place id reason s j x at = (x, at, kin_same x)
 
-restarted_kept : (allowed : Bool) (now place : ℕ) (s : Standing) (j : ℕ) (c : Child) → slice_get s.children j ≡ Some c → (x : Child) × (slice_get (restarted_child allowed now place s).children j ≡ Some x) × Kin c x
-restarted_kept true now place s j c at = revived_kept s.children (ends_from s.strategy place (length s.children)) (length s.children) j c at
-restarted_kept false now place s j c at = (c, at, kin_same c)
+restarted_kept : (allowed : Bool) (now place id : ℕ) (reason : Reason) (s : Standing) (j : ℕ) (c : Child) → slice_get s.children j ≡ Some c → (x : Child) × (slice_get (restarted_child allowed now place id reason s).children j ≡ Some x) × Kin c x
+restarted_kept true now place id reason s j c at = revived_kept s.children (ends_from s.strategy place (length s.children)) (length s.children) j c at
+restarted_kept false now place id reason s j c at = (c, at, kin_same c)
 
-pub again_kept : (again : Bool) (now place : ℕ) (s : Standing) (j : ℕ) (c : Child) → slice_get s.children j ≡ Some c → (x : Child) × (slice_get (started_again again now place s).children j ≡ Some x) × Kin c x
-again_kept true now place s j c at = restarted_kept (allows now s.span s.most s.times) now place s j c at
-again_kept false now place s j c at = (c, at, kin_same c)
+pub again_kept : (again : Bool) (now place id : ℕ) (reason : Reason) (s : Standing) (j : ℕ) (c : Child) → slice_get s.children j ≡ Some c → (x : Child) × (slice_get (started_again again now place id reason s).children j ≡ Some x) × Kin c x
+again_kept true now place id reason s j c at = restarted_kept (allows now s.span s.most s.times) now place id reason s j c at
+again_kept false now place id reason s j c at = (c, at, kin_same c)
 
-restarted_asked : (allowed : Bool) (now place : ℕ) (s : Standing) → (restarted_child allowed now place s).asked ≡ s.asked
-restarted_asked true now place s = refl
-restarted_asked false now place s = refl
+restarted_asked : (allowed : Bool) (now place id : ℕ) (reason : Reason) (s : Standing) → (restarted_child allowed now place id reason s).asked ≡ s.asked
+restarted_asked true now place id reason s = refl
+restarted_asked false now place id reason s = refl
 
-pub again_asked : (again : Bool) (now place : ℕ) (s : Standing) → (started_again again now place s).asked ≡ s.asked
-again_asked true now place s = restarted_asked (allows now s.span s.most s.times) now place s
-again_asked false now place s = refl
+pub again_asked : (again : Bool) (now place id : ℕ) (reason : Reason) (s : Standing) → (started_again again now place id reason s).asked ≡ s.asked
+again_asked true now place id reason s = restarted_asked (allows now s.span s.most s.times) now place id reason s
+again_asked false now place id reason s = refl
 
-restarted_count : (allowed : Bool) (now place : ℕ) (s : Standing) → (restarted_child allowed now place s).started ≡ s.started
-restarted_count true now place s = refl
-restarted_count false now place s = refl
+restarted_count : (allowed : Bool) (now place id : ℕ) (reason : Reason) (s : Standing) → (restarted_child allowed now place id reason s).started ≡ s.started
+restarted_count true now place id reason s = refl
+restarted_count false now place id reason s = refl
 
-pub again_count : (again : Bool) (now place : ℕ) (s : Standing) → (started_again again now place s).started ≡ s.started
-again_count true now place s = restarted_count (allows now s.span s.most s.times) now place s
-again_count false now place s = refl
+pub again_count : (again : Bool) (now place id : ℕ) (reason : Reason) (s : Standing) → (started_again again now place id reason s).started ≡ s.started
+again_count true now place id reason s = restarted_count (allows now s.span s.most s.times) now place id reason s
+again_count false now place id reason s = refl
 
 lost_keeps : (now : ℕ) (reason : Reason) (place : ℕ) (c : Option Child) (s : Standing) → slice_get s.children place ≡ c → PermanentAreWanted s.children
     → PermanentAreWanted (lost now reason place c s).children
@@ -167,8 +171,8 @@ lost_keeps now reason place None s at k = k
 lost_keeps now reason place (Some c) s at k =
     let bidden = nat_le s.ending place in
     let v = gone bidden reason c in
-    again_wants (not bidden && lives_again bidden c.restart reason) now place (record s { children = slice_set s.children place v })
-    (kept_wanted s.children place c v at refl (λ is w. permanent_again bidden c.restart reason is) k)
+    again_wants (not bidden && wanted_again bidden reason c) now place c.id reason (record s { children = slice_set s.children place v })
+    (kept_wanted s.children place c v at refl (λ is w. and_both c.wanted (lives_again bidden c.restart reason) w (permanent_again bidden c.restart reason is)) k)
 
 at_keeps : (at : Option ℕ) (now : ℕ) (reason : Reason) (s : Standing) → PermanentAreWanted s.children → PermanentAreWanted (heard_at at now reason s).children
 at_keeps None now reason s k = k

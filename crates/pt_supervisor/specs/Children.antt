@@ -17,21 +17,21 @@ is_missing c = c.wanted && not (is_some c.pid)
 abbrev pub leaving : Child → Option (Pid × Shutdown)
 leaving c = option_map (λ p. (p, c.shutdown)) c.pid
 
--- the same at a place, if there is such a place
-abbrev pub leaving_in : Option Child → Option (Pid × Shutdown)
-leaving_in None = None
-leaving_in (Some c) = leaving c
+-- the same at a place, if there is such a place, and the child there is to end: all there are, or it is not wanted
+abbrev pub leaving_in : Bool → Option Child → Option (Pid × Shutdown)
+leaving_in all None = None
+leaving_in all (Some c) = cond (all || not c.wanted) (leaving c) None
 
 abbrev pub or_before : {A : Type 0} → Option A → Option A → Option A
 or_before None before = before
 or_before (Some a) before = Some a
 
--- the last of the first n children that lives, from a place on
+-- the last of the first n children that lives and is to end: from a place on each is, and before it each that is not
+-- wanted
 abbrev pub last_alive : List Child → ℕ → ℕ → Option (Pid × Shutdown)
 last_alive children first zero = None
 last_alive children first (suc n) =
-    cond (nat_le first n) (or_before (leaving_in (slice_get children n)) (last_alive children first n))
-    (last_alive children first n)
+    or_before (leaving_in (nat_le first n) (slice_get children n)) (last_alive children first n)
 
 -- of the first n nobody is missing
 abbrev pub AreStarted : List Child → ℕ → Type 0
@@ -40,6 +40,11 @@ AreStarted children n = (place : ℕ) (c : Child) → place < n → slice_get ch
 -- none of them lives
 abbrev pub NoneLives : List Child → Type 0
 NoneLives children = (place : ℕ) (c : Child) → slice_get children place ≡ Some c → c.pid ≡ None
+
+-- none of them lives that is not wanted
+abbrev pub NoneUnwanted : List Child → Type 0
+NoneUnwanted children =
+    (place : ℕ) (c : Child) → slice_get children place ≡ Some c → c.wanted ≡ false → c.pid ≡ None
 
 -- each permanent child is to live
 abbrev pub PermanentAreWanted : List Child → Type 0

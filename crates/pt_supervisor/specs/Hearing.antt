@@ -7,12 +7,13 @@ use Rattle.pt_signal.specs.declared.reason.Reason.{Reason}
 use Rattle.pt_supervisor.specs.declared.asked.Asked.{Asked}
 use Rattle.pt_supervisor.specs.declared.asked.Stage.{Stage}
 use Rattle.pt_supervisor.specs.declared.children.Child.{Child}
+use Rattle.pt_supervisor.specs.declared.gave_up.GaveUp.{GaveUp}
 use Rattle.pt_supervisor.specs.declared.limit.Limit.{Limit}
 use Rattle.pt_supervisor.specs.declared.restart.Restart.{Restart}
 use Rattle.pt_supervisor.specs.declared.restart.Strategy.{Strategy}
 use Rattle.pt_supervisor.specs.declared.supervisor.Supervisor.{Supervisor}
 use Rattle.pt_supervisor.specs.Restarts.{starts_again, ends_from}
-use Rattle.pt_supervisor.specs.Limits.{recent, allows, counted_restarts}
+use Rattle.pt_supervisor.specs.Limits.{recent, allows, counted_restarts, gave_up_over}
 use Rattle.pt_supervisor.specs.Children.{is_temporary, revived}
 use Rattle.pt_signal.specs.Values.{is_pid}
 use Rattle.pt_supervisor.specs.Ending.{gone_in, unless_by}
@@ -35,6 +36,8 @@ pub record Standing : Type 0 where
   pub asked : Option Asked
   -- how many children it has started
   pub started : ℕ
+  -- why it gave up, if it has
+  pub gave_up : Option GaveUp
 
 abbrev pub standing : {S : Type 0} → Supervisor S → Standing
 standing s = record {
@@ -49,6 +52,7 @@ standing s = record {
   stopping = s.stopping;
   asked = s.asked;
   started = s.started;
+  gave_up = s.gave_up;
 }
 
 -- what its program says of its children
@@ -69,6 +73,7 @@ begun strategy children limit = record {
   stopping = None;
   asked = None;
   started = 0;
+  gave_up = None;
 }
 
 -- all its children are to end, and then it with this reason
@@ -89,31 +94,39 @@ abbrev pub lives_again : Bool → Restart → Reason → Bool
 lives_again true restart reason = not (is_temporary restart)
 lives_again false restart reason = starts_again restart reason
 
+-- one that was not wanted any more does not live again
+abbrev pub wanted_again : Bool → Reason → Child → Bool
+wanted_again bidden reason c = c.wanted && lives_again bidden c.restart reason
+
 -- a child that has ended
 abbrev pub gone : Bool → Reason → Child → Child
-gone bidden reason c = record c { pid = None; wanted = lives_again bidden c.restart reason }
+gone bidden reason c = record c { pid = None; wanted = wanted_again bidden reason c }
 
 -- One more restart, for the child at a place, if it is allowed: those whom the strategy names are ended first, and each
--- of them is to live again unless it is temporary. Else the supervisor gives up.
-abbrev pub restarted_child : Bool → ℕ → ℕ → Standing → Standing
-restarted_child true now place s = record s {
+-- of them is to live again unless it is temporary. Else the supervisor gives up, since the child with this id exited there
+-- with this reason.
+abbrev pub restarted_child : Bool → ℕ → ℕ → ℕ → Reason → Standing → Standing
+restarted_child true now place id reason s = record s {
   children = revived s.children (ends_from s.strategy place (length s.children)) (length s.children);
   times = counted_restarts true now (recent now s.span s.times);
   ending = ends_from s.strategy place (length s.children);
 }
-restarted_child false now place s = stopped Reason.Shutdown (record s { times = recent now s.span s.times })
+restarted_child false now place id reason s = stopped Reason.Shutdown (record s {
+  times = recent now s.span s.times;
+  gave_up = Some (gave_up_over id place reason (recent now s.span s.times) s.span s.timed);
+})
 
 -- one that its supervisor ended, or that is not to live again, makes no restart of its own
-abbrev pub started_again : Bool → ℕ → ℕ → Standing → Standing
-started_again true now place s = restarted_child (allows now s.span s.most s.times) now place s
-started_again false now place s = s
+abbrev pub started_again : Bool → ℕ → ℕ → ℕ → Reason → Standing → Standing
+started_again true now place id reason s = restarted_child (allows now s.span s.most s.times) now place id reason s
+started_again false now place id reason s = s
 
 -- the child at a place has ended
 abbrev pub lost : ℕ → Reason → ℕ → Option Child → Standing → Standing
 lost now reason place None s = s
 lost now reason place (Some c) s =
     let bidden = nat_le s.ending place in
-    started_again (not bidden && lives_again bidden c.restart reason) now place
+    started_again (not bidden && wanted_again bidden reason c) now place c.id reason
     (record s { children = slice_set s.children place (gone bidden reason c) })
 
 abbrev pub heard_at : Option ℕ → ℕ → Reason → Standing → Standing

@@ -158,12 +158,25 @@ pub record Holds (past : Past) (s : Standing) (next : Next) (me : Pid) (d : Shar
   pub family : Family past s.children s.stopping me d
   pub asks : AreAsked past s.children s.asked me d
 
--- a supervisor sees to an item, or to none: it acts for itself alone, and upholds that, whatever was before
+-- of that what says nothing of what it waits for, whatever the program asked of it meanwhile
+pub record HoldsChildren (past : Past) (s : Standing) (next : Next) (me : Pid) (d : ShardState) : Type 0 where
+  pub remembers : Remembers past s.children s.started me d
+  pub traps : ((state_in d me).traps ≡ true) ⊎ ((next ≡ Proceed) × NoneLives s.children)
+  pub family : Family past s.children s.stopping me d
+  pub asks : AreAsked past s.children s.asked me d
+
+-- a supervisor that upholds it as it was upholds it as it is
+abbrev pub HoldsWhere : Standing → Standing → Type 0
+HoldsWhere was is =
+    (past : Past) (next : Next) (me : Pid) (d : ShardState) → HoldsChildren past was next me d
+    → HoldsChildren past is next me d
+
+-- a supervisor sees to an item, or to none: it acts for itself alone, and upholds all that, whatever it waited for before
 pub record Tends (me : Pid) (item : Option Item) (s : Standing) (d : ShardState) (next : Next) (new : Standing)
     (e : ShardState) : Type 0 where
   pub acts : ActsFor me d e
   pub keeps : (past : Past) (before : Next) (was : ShardState) → ItemIsTaken me before item was d
-      → is_unborn (phase_of was me) ≡ false → Holds past s before me was → Holds past new next me e
+      → is_unborn (phase_of was me) ≡ false → HoldsChildren past s before me was → Holds past new next me e
 
 -- the behaviours of those who are born are what the program's `Start` gave
 abbrev pub AllStarted : {S B : Type 0} → StartsOf S B → Pid → List (Role B) → Type 0
@@ -210,6 +223,18 @@ ActsAs (Some s) me item d next now e = (new : Standing) × (now ≡ Some new) ×
 abbrev pub AnswerAs : {B : Type 0} → PartOf B → Answers B
 AnswerAs part time b d me item next now e births =
     ActsAs (part b) me item d next (part now) e × AllBegin part births
+
+-- So a supervisor may be changed before it sees to an item, by calls that keep what it upholds of its children; and
+-- afterwards, if it proceeds then.
+abbrev pub ChangesBefore : Type 0
+ChangesBefore =
+    (me : Pid) (item : Option Item) (s t : Standing) (d : ShardState) (next : Next) (new : Standing) (e : ShardState)
+    → HoldsWhere s t → Tends me item t d next new e → Tends me item s d next new e
+
+abbrev pub ChangesAfter : Type 0
+ChangesAfter =
+    (me : Pid) (item : Option Item) (s : Standing) (d : ShardState) (next : Next) (new t : Standing) (e : ShardState)
+    → Tends me item s d next new e → HoldsWhere new t → Tends me item s d Proceed t e
 
 abbrev pub SuperviseAs : {B : Type 0} → Answers B → PartOf B → Type 0
 SuperviseAs {B} answers part =

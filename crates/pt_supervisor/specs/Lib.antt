@@ -1,8 +1,11 @@
+pub mod Text
 pub mod Restarts
 pub mod Limits
 pub mod Ending
 pub mod Children
+pub mod Seen
 pub mod Hearing
+pub mod Calling
 pub mod Supervising
 pub mod Keeping
 pub mod Stopping

@@ -1,5 +1,7 @@
 -- How many restarts a supervisor makes.
 use Rattle.std.specs.Prelude.{◌≡◌, ℕ, ◌-◌, nat_le, nat_lt, cond, Bool, true, false, List, [], ◌∷◌, ◌++◌, length, filter}
+use Rattle.pt_signal.specs.declared.reason.Reason.{Reason}
+use Rattle.pt_supervisor.specs.declared.gave_up.GaveUp.{GaveUp}
 use Rattle.pt_supervisor.specs.declared.limit.Limit.{Limit}
 
 -- no restart was made
@@ -28,3 +30,14 @@ Allows now old answer new =
     (answer ≡ allows now old.span old.most old.times.items)
     × (new.times.items ≡ counted_restarts answer now (recent now old.span old.times.items))
     × (new.most ≡ old.most) × (new.span ≡ old.span) × (new.timed ≡ old.timed)
+
+-- why no more restart is made, where the child with this id exited in this place, and so many were made within the span
+abbrev pub gave_up_over : ℕ → ℕ → Reason → List ℕ → ℕ → Bool → GaveUp
+gave_up_over id place reason times span timed = record {
+  id = id;
+  place = place;
+  reason = reason;
+  restarts = length times;
+  span = span;
+  timed = timed;
+}

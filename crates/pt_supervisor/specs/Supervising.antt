@@ -27,7 +27,7 @@ use Rattle.pt_supervisor.specs.declared.asked.Stage.TheVariants.{Gone, Watched, 
 use Rattle.pt_supervisor.specs.declared.children.Child.{Child}
 use Rattle.pt_supervisor.specs.declared.children.Shutdown.{Shutdown}
 use Rattle.pt_supervisor.specs.declared.restart.Restart.{Restart}
-use Rattle.pt_supervisor.specs.Children.{AreStarted, NoneLives, PermanentAreWanted}
+use Rattle.pt_supervisor.specs.Children.{AreStarted, NoneLives, NoneUnwanted, PermanentAreWanted}
 use Rattle.pt_supervisor.specs.Children.{is_missing, last_alive}
 use Rattle.pt_supervisor.specs.Ending.{bids, is_noproc, stage_of, stage_told, next_at_stage}
 use Rattle.pt_supervisor.specs.declared.supervisor.Supervisor.{Supervisor}
@@ -214,8 +214,8 @@ pub record SupervisorHandles {S B : Type 0} (starts : StartsOf S B) (me : Pid) (
   pub same : (mid.start ≡ old.start) × (mid.born ≡ old.born)
   pub goes : after_attending starts me time answer mid next new
 
--- What it waits for tells how its children stand: for any item where each that is to live was started, and none is to
--- end; for the DOWN of one, where that is the last of those that are to end, and it was told so, or killed; until a time,
+-- What it waits for tells how its children stand: for any item where each that is to live was started, none that is not
+-- wanted lives, and none is to end; for the DOWN of one, where that is the last of those that are to end, and it was told so, or killed; until a time,
 -- where it has to end by then. It ends where none lives.
 abbrev pub EndsLast : Pid → Shutdown → Stage → Standing → Type 0
 EndsLast p shutdown stage s =
@@ -225,6 +225,7 @@ EndsLast p shutdown stage s =
 abbrev pub WaitsFor : Pick → Standing → Type 0
 WaitsFor Pick.Any s =
     AreStarted s.children (length s.children) × (s.ending ≡ length s.children) × (s.stopping ≡ None) × (s.asked ≡ None)
+    × NoneUnwanted s.children
 WaitsFor (Pick.DownOf m) s =
     (p : Pid) × (shutdown : Shutdown)
     × (((shutdown ≡ Shutdown.Infinity) × EndsLast p shutdown (Waiting m) s) ⊎ EndsLast p shutdown (Killed m) s)

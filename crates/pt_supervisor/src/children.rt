@@ -1,9 +1,11 @@
 //! The children of a supervisor.
 
-ghost use Rattle.std.specs.Prelude.{◌≡◌, ◌<◌, IfSome, None, true, position, length};
+ghost use Rattle.std.specs.Prelude.{◌≡◌, ◌<◌, IfSome, None, Some, true, position, length};
 ghost use Rattle.std.specs.Option.{option_map};
-ghost use Rattle.pt_supervisor.specs.Children.{is_missing, last_alive, leaving, revived, revived_child};
+ghost use Rattle.pt_supervisor.specs.Children.{is_missing, last_alive, leaving, leaving_in, revived, revived_child};
+ghost use Rattle.pt_supervisor.specs.Hearing.{wanted_again};
 ghost use Rattle.pt_signal.specs.Values.{is_pid};
+ghost use Rattle.pt_supervisor.specs.Calling.{place_of_id};
 ghost use Rattle.pt_supervisor.specs.Ending.{bids, stage_told};
 
 use crate::asked::Stage;
@@ -58,19 +60,29 @@ pub struct Child {
     pub shutdown: Shutdown,
     /// Whether the supervisor wants it alive.
     pub wanted: bool,
+    /// What the program calls it.
+    pub id: u64,
 }
 
 impl Child {
-    /// A child that is to be started, and is ended by an exit signal `shutdown`.
+    /// A child that is to be started, and is ended by an exit signal `shutdown`. Its id is 0.
     pub fn new(restart: Restart) -> Child
-        ensures { result ≡ record { pid = None; restart = restart; shutdown = Shutdown.Infinity; wanted = true } }
+        ensures { result ≡ record { pid = None; restart = restart; shutdown = Shutdown.Infinity; wanted = true; id = 0 } }
     {
         Child {
             pid: None,
             restart,
             shutdown: Shutdown::Infinity,
             wanted: true,
+            id: 0,
         }
+    }
+
+    /// The same child with this id.
+    pub fn with_id(self, id: u64) -> Child
+        ensures { result ≡ record self { id = id } }
+    {
+        Child { id, ..self }
     }
 
     /// The same child, to be ended in this way.
@@ -104,6 +116,31 @@ impl Child {
         }
     }
 
+    /// Whether it is to live again after it exited with this reason, ended by its supervisor (`bidden`) or by itself.
+    pub(crate) fn lives_again(&self, bidden: bool, reason: Reason) -> bool
+        ensures { result ≡ wanted_again bidden reason self.now }
+    {
+        if !self.wanted {
+            return false;
+        }
+        if bidden {
+            self.restart != Restart::Temporary
+        } else {
+            self.restart.starts_again(reason)
+        }
+    }
+
+    /// Its pid, if it has one and is to end, and how it is ended. It is to end if all are, or if it is not wanted.
+    fn to_leave(&self, all: bool) -> Option<(Pid, Shutdown)>
+        ensures { result ≡ leaving_in all (Some self.now) }
+    {
+        if all || !self.wanted {
+            self.leaving()
+        } else {
+            None
+        }
+    }
+
     /// Its pid, if it has one, and how it is ended.
     pub fn leaving(&self) -> Option<(Pid, Shutdown)>
         ensures { result ≡ leaving self.now }
@@ -133,14 +170,24 @@ pub fn place_of(children: &[Child], pid: Pid) -> Option<usize>
     children.iter().position(|child| child.is_of(pid))
 }
 
-/// The last child from the place `first` on that has a pid, and how it is ended.
+/// The place of the first child with this id.
+pub(crate) fn place_of_id(children: &[Child], id: u64) -> Option<usize>
+    ensures place { result ≡ place_of_id id children.now }
+    ensures within { IfSome result (λ i. i < length children.now) }
+{
+    children.iter().position(|child| child.id == id)
+}
+
+/// The last child that has a pid and is to end, and how it is ended: from the place `first` on each is to end, and before
+/// that each that is not wanted.
 pub fn last_alive(children: &[Child], first: usize) -> Option<(Pid, Shutdown)>
     ensures { result ≡ last_alive children.now first (length children.now) }
 {
     let mut last = None;
     for place in 0..children.len() {
-        if place >= first && children[place].pid.is_some() {
-            last = children[place].leaving();
+        let leaving = children[place].to_leave(place >= first);
+        if leaving.is_some() {
+            last = leaving;
         }
     }
     last

@@ -1,5 +1,6 @@
 //! What holds for each supervisor, as the contract of a function that does nothing.
 
+ghost use Rattle.pt_supervisor.specs.Keeping.{ChangesAfter, ChangesBefore};
 ghost use Rattle.pt_supervisor.specs.Supervising.{PermanentLive, StaysWanted};
 
 /// For any item that a supervisor handles, each permanent child stays one that it wants alive. So if it waits for any
@@ -7,4 +8,13 @@ ghost use Rattle.pt_supervisor.specs.Supervising.{PermanentLive, StaysWanted};
 pub fn permanent_children_live()
     ensures stays { StaysWanted }
     ensures live { PermanentLive }
+{}
+
+/// A behaviour may change its supervisor by calls that keep what it upholds of its children (`HoldsWhere`, as
+/// [`Supervisor::terminate_child`](crate::Supervisor::terminate_child) and its like have it), before it passes an item to
+/// it (`before`). So it may afterwards, if it returns [`Next::Proceed`](pt_crew::Next::Proceed) then (`after`). It is
+/// [`Supervised`](crate::Supervised) still: the supervisor tends to its children as one that nobody changed.
+pub fn changed_supervisors_tend()
+    ensures before { ChangesBefore }
+    ensures after { ChangesAfter }
 {}

@@ -4,8 +4,8 @@
 //! every item to [`Supervisor::handle`]. The program says by [`Start`] what the children do. A child may hold a
 //! supervisor, too.
 //!
-//! Tests: `checks/tried/test_calls/supervisors.rt.txt`, `checks/tried/test_calls/timed_supervisors.rt.txt` and
-//! `crates/test_calls/src/supervisors.rt`.
+//! Tests: `checks/tried/test_calls/supervisors.rt.txt`, `checks/tried/test_calls/timed_supervisors.rt.txt`,
+//! `checks/tried/test_calls/children.rt.txt` and `crates/test_calls/src/supervisors.rt`.
 //!
 //! # What is proved
 //!
@@ -23,23 +23,37 @@
 //! - **Children are counted.** A supervisor counts each child that it spawns. (`CountsBirths`)
 //! - **No orphans.** No child of a supervisor that stopped by itself is alive, unless that child sent it an exit
 //!   signal. (`stopped_children_ended`)
-//! - **Permanent children.** A supervisor always wants its permanent children alive. (`permanent_children_live`)
+//! - **Permanent children.** A supervisor always wants its permanent children alive, as long as no call ends one.
+//!   (`permanent_children_live`)
+//! - **Giving up.** A supervisor that gave up says which child exited, with which reason, and how many restarts it had made
+//!   in what span. (`gave_up`)
+//! - **What it tells.** What it tells of its children, and how many it counts, is exact. (`which_children`,
+//!   `count_children`)
+//! - **Children at run time.** Each call about a child says what it changes and when it is refused. A refused call changes
+//!   nothing. (`TerminatesChild`, `RestartsChild`, `AddsChild`, `DeletesChild`)
+//! - **Theorems at run time.** Each of these calls keeps what both theorems need. (`changed_supervisors_tend`)
 #![tactic(auto)]
 
 mod asked;
+mod child_fault;
 mod children;
 mod gathering;
+mod gave_up;
 mod laws;
 mod limit;
 mod restart;
+mod seen;
 mod supervised;
 mod supervisor;
 
 pub use asked::{Asked, Stage};
+pub use child_fault::ChildFault;
 pub use children::{Child, Shutdown};
 pub use gathering::gathered_children_live;
-pub use laws::permanent_children_live;
+pub use gave_up::GaveUp;
+pub use laws::{changed_supervisors_tend, permanent_children_live};
 pub use limit::Limit;
 pub use restart::{Restart, Strategy};
+pub use seen::{ChildCounts, ChildSeen, ChildState};
 pub use supervised::{Supervised, quiet_children_live, stopped_children_ended};
 pub use supervisor::{Start, Supervisor};

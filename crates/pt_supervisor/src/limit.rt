@@ -2,6 +2,8 @@
 
 ghost use Rattle.std.specs.Prelude.{◌≤◌, vec_capacity};
 
+use crate::gave_up::GaveUp;
+use pt_node::Reason;
 use std::alloc::{AllocError, Global};
 
 /// At most so many restarts within a span, of stamps or of time.
@@ -21,7 +23,7 @@ pub struct Limit {
 
 impl Limit {
     ghost use Rattle.std.specs.Prelude.{◌≡◌, IfOk, [], cond, false, nat_lt, length, true};
-    ghost use Rattle.pt_supervisor.specs.Limits.{Allows, is_none, moment};
+    ghost use Rattle.pt_supervisor.specs.Limits.{Allows, gave_up_over, is_none, moment};
 
     /// At most `most` restarts within `span` stamps. Fails if there is no memory for their times.
     pub fn new(alloc: Global, most: usize, span: u64) -> Result<Limit, AllocError>
@@ -70,5 +72,19 @@ impl Limit {
         }
         self.times.push_reserved(now);
         true
+    }
+
+    /// Why a supervisor gives up that may make no further restart, since the child with this id exited in this place.
+    pub(crate) fn over(&self, id: u64, place: usize, reason: Reason) -> GaveUp
+        ensures { result ≡ gave_up_over id place reason self.now.times.items self.now.span self.now.timed }
+    {
+        GaveUp {
+            id,
+            place,
+            reason,
+            restarts: self.times.len(),
+            span: self.span,
+            timed: self.timed,
+        }
     }
 }

@@ -7,11 +7,15 @@ ghost use Rattle.pt_shard.specs.declared.fault.Fault.{Fault};
 ghost use Rattle.pt_crew.specs.declared.behaviour.Next.{Next};
 
 use crate::asked::{Asked, Stage, gone_in, is_noproc, stage_of, unless_by};
-use crate::children::{Child, Shutdown, is_process, last_alive, place_of, revive};
+use crate::child_fault::{ChildFault, present};
+use crate::children::{Child, Shutdown, is_process, last_alive, place_of, place_of_id, revive};
+use crate::gave_up::GaveUp;
 use crate::limit::Limit;
-use crate::restart::{Restart, Strategy};
+use crate::restart::Strategy;
+use crate::seen::{ChildCounts, ChildSeen, ChildState, counted, seen};
 use pt_crew::{Births, CallFault, Next, exit_signal, monitor, spawn_child, trap};
 use pt_node::{Desk, Fault, Item, Pick, Pid, Reason, Ref};
+use std::alloc::{AllocError, Global};
 use std::mem;
 
 /// What the children of a supervisor do, as the program says.
@@ -45,24 +49,28 @@ pub struct Supervisor<S> {
     asked: Option<Asked>,
     /// The number of children that it has started.
     started: u64,
+    /// Why it gave up, if it has.
+    gave_up: Option<GaveUp>,
     ghost all: { ForSome stopping (λ r. ending ≡ 0) },
 }
 
 impl<S> Supervisor<S> {
-    ghost use Rattle.std.specs.Prelude.{◌<◌, true, cond, length, slice_get};
+    ghost use Rattle.std.specs.Prelude.{◌<◌, IfOk, true, cond, length, map, slice_get};
     ghost use Rattle.pt_desk.specs.DeskState.{GoesOn};
     ghost use Rattle.pt_crew.specs.Births.{born, kept_roles, time_told};
     ghost use Rattle.pt_crew.specs.Visiting.{takes};
-    ghost use Rattle.pt_supervisor.specs.Children.{AreStarted, PermanentAreWanted};
+    ghost use Rattle.pt_supervisor.specs.Calling.{AddsChild, DeletesChild, RestartsChild, TerminatesChild, with_wanted, without_child};
+    ghost use Rattle.pt_supervisor.specs.Children.{AreStarted, NoneUnwanted, PermanentAreWanted};
     ghost use Rattle.pt_supervisor.specs.declared.asked.Stage.TheVariants.{Gone};
     ghost use Rattle.pt_supervisor.specs.Ending.{child_end_heard, is_noproc, stage_of};
     ghost use Rattle.pt_supervisor.specs.Hearing.{at_stage, begun, monitor_closed, gone_heard, heard, lost, program_of, standing};
     ghost use Rattle.pt_supervisor.specs.Limits.{moment};
     ghost use Rattle.pt_supervisor.specs.Hearing.{started_again, stopped};
+    ghost use Rattle.pt_supervisor.specs.Seen.{child_seen, children_counted};
     ghost use Rattle.pt_supervisor.specs.Supervising.{Advances, EndsChild, SupervisorAttends, SupervisorHandles, TellsToEnd};
     ghost use Rattle.pt_supervisor.specs.Supervising.{CountsBirths, SetsAt, StartsAll, StartsOne, Supervises, WatchesChild};
     ghost use Rattle.pt_supervisor.specs.Supervising.{nursery, supervisor_scene};
-    ghost use Rattle.pt_supervisor.specs.Keeping.{BearsFrom, Tends};
+    ghost use Rattle.pt_supervisor.specs.Keeping.{BearsFrom, HoldsWhere, Tends};
 
     /// A supervisor of these children, each with the rule by which it is started again. It has no parent: see
     /// [`Supervisor::under`].
@@ -81,6 +89,7 @@ impl<S> Supervisor<S> {
             stopping: None,
             asked: None,
             started: 0,
+            gave_up: None,
         }
     }
 
@@ -102,6 +111,7 @@ impl<S> Supervisor<S> {
             stopping,
             asked,
             started,
+            gave_up,
         } = self;
         Supervisor {
             start,
@@ -113,6 +123,7 @@ impl<S> Supervisor<S> {
             stopping,
             asked,
             started,
+            gave_up,
         }
     }
 
@@ -121,6 +132,20 @@ impl<S> Supervisor<S> {
         ensures { result.now ≡ (standing self.now).children }
     {
         self.children.as_slice()
+    }
+
+    /// Its children, in their places, each with its id and what has become of its process. Fails if there is no memory.
+    pub fn which_children(&self, alloc: Global) -> Result<Vec<ChildSeen>, AllocError>
+        ensures { IfOk result (λ v. v.items ≡ map child_seen (standing self.now).children) }
+    {
+        seen(alloc, self.children.as_slice())
+    }
+
+    /// How many children it has, how many of them are alive, and how many are to be started.
+    pub fn count_children(&self) -> ChildCounts
+        ensures { result ≡ children_counted (standing self.now).children }
+    {
+        counted(self.children.as_slice())
     }
 
     /// The child that it ends now, and what it has done to end it.
@@ -150,6 +175,14 @@ impl<S> Supervisor<S> {
         self.started
     }
 
+    /// Why it gave up, if it has: which child was not started again, how often it had started children again, and in what
+    /// span. It then ends its children and exits with `shutdown`. [`Crew::left`](pt_crew::Crew::left) has its value then.
+    pub fn gave_up(&self) -> Option<GaveUp>
+        ensures { result ≡ (standing self.now).gave_up }
+    {
+        self.gave_up
+    }
+
     /// Puts another `Start` in the place of its own, and returns that. All else stays.
     pub fn replace_start(&mut self, start: S) -> S
         ensures was { result ≡ program_of self.old }
@@ -167,6 +200,116 @@ impl<S> Supervisor<S> {
     {
         self.ending = 0;
         self.stopping = Some(reason);
+    }
+
+    /// Asks the supervisor to end the child with this id, alive or not, as its specification says. It is not started again,
+    /// unless [`Supervisor::restart_child`] asks for it, or a strategy names it, as in Erlang.
+    ///
+    /// The supervisor does so when it handles the next item, or proceeds. So a behaviour calls this in its `handle`, and
+    /// then passes the item on. Erlang's `terminate_child` returns once the child has exited; here it has once the
+    /// supervisor waits for any item again. A temporary child keeps its place, too.
+    #[tactic(auto, using(crate::proofs::Changing::holds_same))]
+    pub fn terminate_child(&mut self, id: u64) -> Result<(), ChildFault>
+        ensures does { TerminatesChild id (standing self.old) result (standing self.new) }
+        ensures holds { HoldsWhere (standing self.old) (standing self.new) }
+        ensures start { program_of self.new ≡ program_of self.old }
+    {
+        let Some(place) = place_of_id(self.children.as_slice(), id) else {
+            return Err(ChildFault::NotFound);
+        };
+        self.want(place, false);
+        Ok(())
+    }
+
+    /// Asks the supervisor to start the child with this id, which must be neither alive nor about to be started. It does
+    /// so when it handles the next item, or proceeds, as with [`Supervisor::terminate_child`].
+    #[tactic(auto, using(crate::proofs::Changing::holds_same))]
+    pub fn restart_child(&mut self, id: u64) -> Result<(), ChildFault>
+        ensures does { RestartsChild id (standing self.old) result (standing self.new) }
+        ensures holds { HoldsWhere (standing self.old) (standing self.new) }
+        ensures start { program_of self.new ≡ program_of self.old }
+    {
+        let Some(place) = place_of_id(self.children.as_slice(), id) else {
+            return Err(ChildFault::NotFound);
+        };
+        match self.children[place].state() {
+            ChildState::Running(_) => Err(ChildFault::Running),
+            ChildState::Restarting => Err(ChildFault::Restarting),
+            ChildState::Undefined => {
+                self.want(place, true);
+                Ok(())
+            }
+        }
+    }
+
+    /// Takes in a child behind the others, with this id, restart and shutdown. Returns its place, with which `Start` is
+    /// called for it.
+    ///
+    /// The supervisor starts it when it handles the next item, or proceeds, as with [`Supervisor::terminate_child`]. It
+    /// tries again if the start fails.
+    #[tactic(auto, using(crate::proofs::Changing::holds_same))]
+    pub fn start_child(&mut self, child: Child) -> Result<usize, ChildFault>
+        ensures does { AddsChild child (standing self.old) result (standing self.new) }
+        ensures holds { HoldsWhere (standing self.old) (standing self.new) }
+        ensures start { program_of self.new ≡ program_of self.old }
+    {
+        if let Some(place) = place_of_id(self.children.as_slice(), child.id) {
+            return Err(present(self.children[place].state()));
+        }
+        let place = self.children.len();
+        let child = Child {
+            pid: None,
+            wanted: true,
+            ..child
+        };
+        match self.children.push(child) {
+            Ok(()) => Ok(place),
+            Err(_) => Err(ChildFault::Memory),
+        }
+    }
+
+    /// Forgets the child with this id, which must be neither alive nor about to be started. Returns the place that it had.
+    ///
+    /// The children behind it move up, so `Start` is called for each of them with the place before from now on.
+    #[tactic(auto, using(crate::proofs::Changing::holds_same))]
+    pub fn delete_child(&mut self, id: u64) -> Result<usize, ChildFault>
+        ensures does { DeletesChild id (standing self.old) result (standing self.new) }
+        ensures holds { HoldsWhere (standing self.old) (standing self.new) }
+        ensures start { program_of self.new ≡ program_of self.old }
+    {
+        let Some(place) = place_of_id(self.children.as_slice(), id) else {
+            return Err(ChildFault::NotFound);
+        };
+        match self.children[place].state() {
+            ChildState::Running(_) => Err(ChildFault::Running),
+            ChildState::Restarting => Err(ChildFault::Restarting),
+            ChildState::Undefined => {
+                self.forget(place);
+                Ok(place)
+            }
+        }
+    }
+
+    /// Forgets the child at a place.
+    fn forget(&mut self, place: usize)
+        requires { place < length (standing self.old).children }
+        ensures standing { standing self.new ≡ without_child place (standing self.old) }
+        ensures start { program_of self.new ≡ program_of self.old }
+    {
+        let _ = self.children.remove(place);
+        if place < self.ending {
+            self.ending -= 1;
+        }
+    }
+
+    /// Notes whether the child at a place is wanted.
+    fn want(&mut self, place: usize, wanted: bool)
+        requires { place < length (standing self.old).children }
+        ensures standing { standing self.new ≡ with_wanted wanted place (standing self.old) }
+        ensures start { program_of self.new ≡ program_of self.old }
+    {
+        let child = self.children[place];
+        self.children[place] = Child { wanted, ..child };
     }
 
     /// Handles an item, or begins, and returns what the supervisor does next.
@@ -301,26 +444,23 @@ impl<S> Supervisor<S> {
     {
         let bidden = place >= self.ending;
         let child = self.children[place];
-        let again = if bidden {
-            child.restart != Restart::Temporary
-        } else {
-            child.restart.starts_again(reason)
-        };
+        let again = child.lives_again(bidden, reason);
         self.children[place] = Child {
             pid: None,
             wanted: again,
             ..child
         };
         if !bidden && again {
-            self.restart(now, place);
+            self.restart(now, place, child.id, reason);
         }
     }
 
-    /// Notes that the child at a place is to be started again. If that is allowed, those that the strategy names end
-    /// first, and are then started again, also one that was done. Else all end, and the supervisor.
-    fn restart(&mut self, now: u64, place: usize)
+    /// Notes that the child at a place, which has this id and exited with this reason, is to be started again. If that is
+    /// allowed, those that the strategy names end first, and are then started again, also one that was done. Else all end,
+    /// and the supervisor.
+    fn restart(&mut self, now: u64, place: usize, id: u64, reason: Reason)
         requires { 0 < self.old.ending }
-        ensures standing { standing self.new ≡ started_again true now place (standing self.old) }
+        ensures standing { standing self.new ≡ started_again true now place id reason (standing self.old) }
         ensures start { program_of self.new ≡ program_of self.old }
     {
         if self.limit.allows(now) {
@@ -328,6 +468,7 @@ impl<S> Supervisor<S> {
             revive(self.children.as_mut_slice(), first);
             self.ending = first;
         } else {
+            self.gave_up = Some(self.limit.over(id, place, reason));
             self.stop(Reason::Shutdown);
         }
     }
@@ -467,6 +608,7 @@ impl<S> Supervisor<S> {
             → PermanentAreWanted (standing self.new).children }
         ensures started { result ≡ true
             → AreStarted (standing self.new).children (length (standing self.new).children) }
+        ensures unwanted { NoneUnwanted (standing self.old).children → NoneUnwanted (standing self.new).children }
         ensures takes { takes desk.new.shard.journal ≡ takes desk.old.shard.journal }
         ensures kept { kept_roles births.new ≡ kept_roles births.old }
         ensures goes_on { GoesOn desk.old desk.new }
@@ -499,6 +641,7 @@ impl<S> Supervisor<S> {
           started = (standing self.new).started;
         } }
         ensures at { SetsAt place result (standing self.old).children (standing self.new).children }
+        ensures unwanted { NoneUnwanted (standing self.old).children → NoneUnwanted (standing self.new).children }
         ensures takes { takes desk.new.shard.journal ≡ takes desk.old.shard.journal }
         ensures kept { kept_roles births.new ≡ kept_roles births.old }
         ensures goes_on { GoesOn desk.old desk.new }

@@ -58,7 +58,7 @@ starts_post old boss place result new = (new ≡ old) × (result ≡ child_of_po
 
 -- a new supervisor
 abbrev pub child_as : ChildSpec → Child
-child_as spec = record { pid = None; restart = spec.restart; shutdown = spec.shutdown; wanted = true }
+child_as spec = record { pid = None; restart = spec.restart; shutdown = spec.shutdown; wanted = true; id = spec.tag }
 
 abbrev pub post_as : ChildSpec → Post
 post_as spec = record { tag = spec.tag; again = false }
@@ -76,4 +76,5 @@ begun_as spec children = record {
   stopping = None;
   asked = None;
   started = 0;
+  gave_up = None;
 }

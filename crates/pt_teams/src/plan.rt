@@ -134,7 +134,11 @@ fn children_of(alloc: Global, specs: &[ChildSpec]) -> Result<Vec<Child>, AllocEr
 {
     specs
         .iter()
-        .map(|spec| Child::new(spec.restart).ended_by(spec.shutdown))
+        .map(|spec| {
+            Child::new(spec.restart)
+                .ended_by(spec.shutdown)
+                .with_id(spec.tag)
+        })
         .collect(alloc)
 }
 

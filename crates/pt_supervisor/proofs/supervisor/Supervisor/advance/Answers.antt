@@ -1,10 +1,11 @@
 -- `Supervisor::advance`: its clauses `supervises` and `permanent`.
-use Rattle.std.proofs.Common.{◌≡◌, length, None, Some, refl, sym, ap, subst, ◌∙◌, arith}
+use Rattle.std.proofs.Common.{◌≡◌, List, length, None, Some, refl, sym, ap, subst, ◌∙◌, arith}
+use Rattle.pt_supervisor.specs.declared.children.Child.{Child}
 use Rattle.pt_supervisor.specs.Children.{PermanentAreWanted, last_alive}
 use Rattle.pt_supervisor.specs.Ending.{stage_of}
 use Rattle.pt_supervisor.specs.Hearing.{Standing, standing}
 use Rattle.pt_supervisor.proofs.Ending.{ends_supervise}
-use Rattle.pt_supervisor.proofs.Starting.{none_live}
+use Rattle.pt_supervisor.proofs.Starting.{none_live, none_unwanted}
 use Rattle.pt_supervisor.proofs.supervisor.Supervisor.advance.Goals as goal
 
 pub returns-in-Some-clause-supervises : goal.returns-in-Some-clause-supervises
@@ -27,9 +28,13 @@ pub returns-then-start_missing-clause-supervises :
     goal.returns-then-start_missing-clause-supervises
 returns-then-start_missing-clause-supervises g c =
     let rest = c.start_missing.ensures.rest in
-    let len : c.len-self.result ≡ length c.args.self.now.children.items = omega arith in (
+    let len : c.len-self.result ≡ length c.args.self.now.children.items = omega arith in
+    let items = c.args.self.now.children.items in
+    let none : last_alive items c.args.self.now.ending (length items) ≡ None =
+    ap (λ (xs : List Child). last_alive xs c.args.self.now.ending (length xs)) (sym c.as_slice.ensures.value) ∙ (sym c.last_alive.ensures ∙ c.in_default.is) in (
       c.if-start_missing.ensures.started refl,
       ap (λ (s : Standing). s.ending) rest ∙ (len ∙ sym c.start_missing.ensures.count),
       ap (λ (s : Standing). s.stopping) rest ∙ c.in_default-stopping.is,
       ap (λ (s : Standing). s.asked) rest,
+      c.start_missing.ensures.unwanted (none_unwanted items c.args.self.now.ending none),
     )

@@ -1,4 +1,4 @@
--- `Supervisor::start_missing`: its clauses `goes_on`, `does` and `permanent`, and its loop over `place`.
+-- `Supervisor::start_missing`: its clauses `goes_on`, `does`, `permanent` and `unwanted`, and its loop over `place`.
 use Rattle.std.proofs.Common.{true, refl, ◌∙◌, ap, arith}
 use Rattle.pt_desk.proofs.Turning.{goes_on_then}
 use Rattle.pt_supervisor.specs.Hearing.{Standing, standing}
@@ -14,6 +14,7 @@ loop-place-preserved g c =
       rest = c.start_at.ensures.rest ∙ ap (λ (s : Standing). record s { children = (standing c.start_at.new.self).children; started = (standing c.start_at.new.self).started }) inv.rest;
       started = one_started c.loop-place.place true (standing c.loop-place.self).children (standing c.start_at.new.self).children refl c.if-not-start_at.ensures.at inv.started;
       permanent = λ k. c.start_at.ensures.at.permanent (inv.permanent k);
+      unwanted = λ k. c.start_at.ensures.unwanted (inv.unwanted k);
       count = c.start_at.ensures.at.count ∙ inv.count;
       takes = c.start_at.ensures.takes ∙ inv.takes;
       kept = c.start_at.ensures.kept ∙ inv.kept;
@@ -38,3 +39,9 @@ returns-then-not-start_at-clause-permanent g c = λ k. c.start_at.ensures.at.per
 
 pub returns-clause-permanent : goal.returns-clause-permanent
 returns-clause-permanent g c = c.loop-place.invariant.permanent
+
+pub returns-then-not-start_at-clause-unwanted : goal.returns-then-not-start_at-clause-unwanted
+returns-then-not-start_at-clause-unwanted g c = λ k. c.start_at.ensures.unwanted (c.loop-place.invariant.unwanted k)
+
+pub returns-clause-unwanted : goal.returns-clause-unwanted
+returns-clause-unwanted g c = c.loop-place.invariant.unwanted

@@ -3,7 +3,7 @@ use Rattle.std.proofs.Common.{◌≡◌, length}
 use Rattle.pt_desk.specs.DeskState.{GoesOn}
 use Rattle.pt_crew.specs.Births.{kept_roles}
 use Rattle.pt_crew.specs.Visiting.{takes}
-use Rattle.pt_supervisor.specs.Children.{AreStarted, PermanentAreWanted}
+use Rattle.pt_supervisor.specs.Children.{AreStarted, NoneUnwanted, PermanentAreWanted}
 use Rattle.pt_supervisor.specs.Hearing.{standing}
 use Rattle.pt_supervisor.specs.Supervising.{StartsFirst, nursery, supervisor_scene}
 use Rattle.pt_supervisor.proofs.supervisor.Supervisor.start_missing.Given as goal
@@ -17,6 +17,7 @@ invariant-loop-place g l = record {
   };
   started : AreStarted (standing l.self).children l.place;
   permanent : PermanentAreWanted (standing l.fn.self).children → PermanentAreWanted (standing l.self).children;
+  unwanted : NoneUnwanted (standing l.fn.self).children → NoneUnwanted (standing l.self).children;
   count : length (standing l.self).children ≡ length (standing l.fn.self).children;
   takes : takes l.desk.shard.journal ≡ takes l.fn.desk.shard.journal;
   kept : kept_roles l.births ≡ kept_roles l.fn.births;

@@ -1,0 +1,8 @@
+-- `Supervisor::restart_child`: its clause `holds`.
+use Rattle.std.proofs.Common.{true}
+use Rattle.pt_supervisor.specs.Hearing.{standing}
+use Rattle.pt_supervisor.proofs.Changing.{with_wanted_holds}
+use Rattle.pt_supervisor.proofs.supervisor.Supervisor.restart_child.Goals as goal
+
+pub returns-in-Undefined-clause-holds : goal.returns-in-Undefined-clause-holds
+returns-in-Undefined-clause-holds g c = with_wanted_holds true c.in-Some.place (standing c.args.self.now) (standing c.want.new.self) c.want.ensures.standing

@@ -1,0 +1,8 @@
+-- `Supervisor::terminate_child`: its clause `holds`.
+use Rattle.std.proofs.Common.{false}
+use Rattle.pt_supervisor.specs.Hearing.{standing}
+use Rattle.pt_supervisor.proofs.Changing.{with_wanted_holds}
+use Rattle.pt_supervisor.proofs.supervisor.Supervisor.terminate_child.Goals as goal
+
+pub returns-clause-holds : goal.returns-clause-holds
+returns-clause-holds g c = with_wanted_holds false c.in-Some.place (standing c.args.self.now) (standing c.want.new.self) c.want.ensures.standing
