@@ -29,13 +29,10 @@ from unproved import Fault, command, keeping_toolchain, kit  # noqa: E402
 ROOT = Path(__file__).resolve().parent.parent
 PROGRAM = "pt_c_unproved"
 EXPORT = re.compile(r'#\[unsafe\(no_mangle\)\]\n(?:#\[.*\]\n)*pub extern "C" fn (\w+)\(([^)]*)\)( -> u32)?')
-# How a struct that is passed by value crosses: by a pointer, or as its two fields.
-BY_POINTER = ("PtPid", "PtBody", "PtPick", "PtConfig", "PtNext", "PtItem", "PtRequest", "PtPost",
-              "PtSupervisorSpec")
-BY_FIELDS = {"PtRef": ("desk", "number"), "PtReason": ("code", "number"), "PtTimer": ("at", "number")}
-FIELD_TYPES = {"PtRef": ["uint8_t", "uint64_t"], "PtReason": ["uint32_t", "uint32_t"], "PtTimer": ["uint64_t", "uint64_t"]}
 ROW = re.compile(r"(&(?:mut )?)\[(\w+)\]")
-PLAIN = {"u8": "uint8_t", "u32": "uint32_t", "u64": "uint64_t", "usize": "size_t", "bool": "bool"}
+PLAIN = {"u8": "uint8_t", "u32": "uint32_t", "u64": "uint64_t", "i64": "int64_t", "usize": "size_t", "bool": "bool"}
+# Structs by their names: their fields, with their types.
+Structs = dict[str, list[tuple[str, str]]]
 
 
 @dataclass(frozen=True)
@@ -137,7 +134,7 @@ def with_external(text: str, all_exports: list[Export]) -> str:
     return re.sub(r"^define internal ([^@\n]*@inner_\w+\()", r"define \1", text, flags=re.M)
 
 
-def crossing(name: str, kind: str) -> tuple[list[str], list[str], list[str]]:
+def crossing(name: str, kind: str, structs: Structs) -> tuple[list[str], list[str], list[str]]:
     """A parameter: its declarations in C, those of the inner function, and what is handed on."""
     if kind == "Global":
         return [], [], []
@@ -145,42 +142,54 @@ def crossing(name: str, kind: str) -> tuple[list[str], list[str], list[str]]:
         return [f"void *{name}", f"size_t {name}_count"], ["void *", "size_t"], [name, f"{name}_count"]
     if kind.startswith("&mut "):
         return [f"void *{name}"], ["void *"], [name]
-    if kind in BY_POINTER:
-        return [f"{kind} {name}"], [f"{kind} *"], [f"&{name}"]
-    if kind in BY_FIELDS:
-        first, second = BY_FIELDS[kind]
-        return [f"{kind} {name}"], FIELD_TYPES[kind], [f"{name}.{first}", f"{name}.{second}"]
     if kind in PLAIN:
         return [f"{PLAIN[kind]} {name}"], [PLAIN[kind]], [name]
-    raise Fault(f"a parameter of type {kind}: how does it cross?")
+    fields = structs[kind]
+    # (a struct of two words crosses as its fields, and one of more by a pointer)
+    if len(fields) == 2 and all(word in PLAIN for _, word in fields):
+        return [f"{kind} {name}"], [PLAIN[word] for _, word in fields], [f"{name}.{field}" for field, _ in fields]
+    return [f"{kind} {name}"], [f"{kind} *"], [f"&{name}"]
 
 
-STRUCTS = """\
+def structs_by_value(all_exports: list[Export]) -> Structs:
+    """The structs that are passed by value, and those within them, each behind those that it has."""
+    sys.path.insert(0, str(ROOT / "bindings"))
+    from abi_source import Source  # noqa: PLC0415  (it reads the exports by this module)
+
+    source, found = Source(), Structs()
+
+    def add(kind: str) -> None:
+        if kind in source.structs and kind not in found:
+            for field in source.structs[kind].fields:
+                add(field.kind)
+            found[kind] = [(field.name, field.kind) for field in source.structs[kind].fields]
+
+    for it in all_exports:
+        for _, kind in it.parameters:
+            if kind != "Global" and not kind.startswith("&") and kind not in PLAIN:
+                add(kind)
+                if kind not in found:
+                    raise Fault(f"a parameter of type {kind}: how does it cross?")
+    return found
+
+
+HEAD = """\
 #include <stdbool.h>
 #include <stddef.h>
 #include <stdint.h>
-typedef struct { uint8_t shard; uint32_t slot; uint32_t version; } PtPid;
-typedef struct { uint8_t desk; uint64_t number; } PtRef;
-typedef struct { uint32_t code; uint32_t number; } PtReason;
-typedef struct { uint64_t at; uint64_t number; } PtTimer;
-typedef struct { uint32_t kind; int64_t num; bool has_who; PtPid who; } PtBody;
-typedef struct { uint32_t code; uint32_t kind; PtPid pid; PtRef reference; } PtPick;
-typedef struct { uint32_t slots; uint32_t top_version; uint32_t lane; uint64_t start; } PtConfig;
-typedef struct { uint32_t code; PtReason reason; uint64_t until; PtPick pick; } PtNext;
-typedef struct { uint32_t code; bool alive; PtPid pid; PtRef reference; PtReason reason; PtBody body; } PtItem;
-typedef struct { PtPid from; uint32_t asks; int64_t number; } PtRequest;
-typedef struct { PtPid to; PtBody body; } PtPost;
-typedef struct {
-    uint32_t strategy; bool timed; bool has_parent; PtPid parent; size_t most; uint64_t span;
-} PtSupervisorSpec;
+const char pt_c_is_not_proved = 1;
 """
 
 
 def shim(all_exports: list[Export]) -> str:
     """The functions that C calls."""
-    text = STRUCTS + "const char pt_c_is_not_proved = 1;\n"
+    structs = structs_by_value(all_exports)
+    text = HEAD
+    for name, fields in structs.items():
+        body = " ".join(f"{PLAIN.get(kind, kind)} {field};" for field, kind in fields)
+        text += f"typedef struct {{ {body} }} {name};\n"
     for it in all_exports:
-        parts = [crossing(*parameter) for parameter in it.parameters]
+        parts = [crossing(*parameter, structs) for parameter in it.parameters]
         outer, inner, words = (", ".join(word for part in parts for word in part[at]) or "void" for at in range(3))
         result, back = ("uint32_t", "return ") if it.returns else ("void", "")
         text += f"{result} inner_{it.name}({inner});\n{result} {it.name}({outer});\n"

@@ -1,7 +1,8 @@
 #!/usr/bin/env bash
 # Builds the static library and what stands over it, and runs all of it: C, Rust and Python play one table of calls, the
 # worked rows of checks/rows and those of crews, and compare each answer; each compares its structs and codes with what the
-# library says of itself; the C examples run under valgrind.
+# library says of itself; the C examples run under valgrind. Before that it compares what each has of the interface with the
+# sources (bindings/abi.py).
 #
 #   bindings/run.sh           everything, over an archive of `rt lib`, which proves what was not proved on this machine
 #   bindings/run.sh --gate    everything, over an archive that is built on the libraries which `rt ci` has just proved
@@ -39,6 +40,8 @@ if ! command -v valgrind >/dev/null; then
     echo "bindings: no valgrind: the memory of the C examples is not looked at (apt-get install valgrind libc6-dbg)"
 fi
 [ "$mode" != --tools ] || exit 0
+
+"$here/abi.py"
 
 kit=$(dirname "$("$rt" doc)")
 work=$(mktemp -d)
@@ -115,7 +118,7 @@ by_the_page() { # SED-SCRIPT
 mkdir -p "$work/page"
 ln -s "$here" "$work/page/bindings"
 by_the_page '' >"$work/printed"
-for example in about asking bad_codes crew crew_load losses no_memory refused refused_team refused_tools resumed ring \
+for example in about asking bad_codes crew crew_load layout losses no_memory refused refused_team refused_tools resumed ring \
     supervisor team tools; do
     by_the_page "/^\.\//d; s/ping_pong/$example/g" >"$work/printed"
     [ -x "$work/page/$example" ] || { echo "bindings: the lines of docs/EMBEDDING.md do not build $example"; exit 1; }
@@ -130,6 +133,7 @@ build asking
 build bad_codes
 build crew
 build crew_load
+build layout
 build rows
 build supervisor
 build tools
@@ -142,6 +146,7 @@ build refused_team
 build refused_tools
 build team
 "$work/about"
+"$work/layout"
 "$work/bad_codes"
 "$work/crew_load"
 "$work/asking" | diff "$here/c/asking.out" -
@@ -157,12 +162,13 @@ build team
 "$work/team" | diff "$here/c/team.out" -
 "$work/tools" | diff "$here/c/tools.out" -
 "$work/ring" >"$work/printed"
+strict="-Wall -Wextra -Wpedantic -pedantic-errors -Werror -fsyntax-only"
+cc -std=c99 $strict -x c "$here/c/pundewo_text.h"
+for standard in c11 c17; do
+    cc -std=$standard $strict "$here/c/layout.c"
+done
 for standard in c++11 c++20; do
-    echo '#include "pundewo_text.h"
-        pt_desk desk = PT_NO_DESK; pt_gathered node = PT_NO_GATHERED; pt_quiet quiet = PT_NO_QUIET; pt_history all = PT_NO_HISTORY;
-        pt_crew crew = PT_NO_CREW; pt_team team = PT_NO_TEAM; pt_timers timers = PT_NO_TIMERS; pt_names names = PT_NO_NAMES;
-        pt_door door = PT_NO_DOOR; pt_way_in way_in = PT_NO_WAY_IN;' |
-        cc -x c++ -std=$standard -I "$here/c" -Wall -Wextra -Wpedantic -Werror -fsyntax-only -
+    cc -x c++ -std=$standard $strict "$here/c/layout.c"
 done
 if command -v valgrind >/dev/null; then
     # (fair: four threads that spin would else wait for each other for minutes)
@@ -224,7 +230,11 @@ echo "rust: the telephone exchange passed"
     if command -v mypy >/dev/null; then
         for level in 3.9 "$(python3 -c 'import sys; print("%d.%d" % sys.version_info[:2])')"; do
             mypy --strict --cache-dir=/dev/null --python-version "$level" pundewo build_wheel.py examples tests ../bad_clients.py
+            MYPYPATH=..:../../.ci mypy --strict --cache-dir=/dev/null --python-version "$level" ../abi.py ../abi_tests.py
         done
+    fi
+    if python3 -m pyflakes --version >/dev/null 2>&1; then
+        python3 -m pyflakes .
     fi
 )
 echo "python: tests passed"

@@ -18,6 +18,7 @@ SOURCE = "crates/pt_render/src/choices.rt"
 PLACES = {
     "CHANGELOG.md": r"^## (\S+)",
     "crates/pt_explorer/src/options.rt": r'\.version\("(.*)"\)',
+    "bindings/c/pundewo.h": r'^#define PUNDEWO_VERSION "(.*)"',
     "bindings/rust/Cargo.toml": r'^version = "(.*)"',
     "bindings/python/pundewo/__init__.py": r'^__version__ = "(.*)"',
     "bench/rust/Cargo.toml": r'^version = "(.*)"',

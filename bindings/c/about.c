@@ -1,4 +1,4 @@
-/* Compares what the library says of itself with pundewo.h: sizes, where the fields stand, and codes. */
+/* Compares what the library says of itself with pundewo.h: its version, sizes, where the fields are, and codes. */
 #include <stdio.h>
 #include <string.h>
 
@@ -163,7 +163,19 @@ static void codes(void) {
         is("a code", written[k], all[k]);
 }
 
+/* The text of the library begins with the version of the header. */
+static void version(void) {
+    static const char begins[] = "pundewo " PUNDEWO_VERSION ", ";
+    char parts[32];
+    snprintf(parts, sizeof parts, "%d.%d.%d", PUNDEWO_VERSION_MAJOR, PUNDEWO_VERSION_MINOR, PUNDEWO_VERSION_PATCH);
+    if (strncmp(pundewo_build, begins, sizeof begins - 1) != 0 || strcmp(parts, PUNDEWO_VERSION) != 0) {
+        printf("version: '%s' in the library, %s (%s) in the header\n", pundewo_build, PUNDEWO_VERSION, parts);
+        wrong++;
+    }
+}
+
 int main(void) {
+    version();
     samples();
     asking();
     sizes();

@@ -20,10 +20,12 @@ from contextlib import ExitStack, contextmanager
 from threading import Lock
 from typing import Any, Callable, Iterator, Optional, Sequence, TypeVar, Union
 
+from ._abi import (
+    CAccount, CAnswer, CBody, CConfig, CEvent, CHandle, CIds, CItem, CJob, CLeftOver, CLoss, CNext, CPid, CRef, CTurned,
+)
 from ._library import (
-    BUILD, CAccount, CAnswer, CBody, CConfig, CEvent, CHandle, CIds, CItem, CJob, CLeftOver, CLoss, CNext, CPick, CPid, CReason,
-    CRef, CSignal, CTurned, body_of, c_body, c_next, c_pick, c_pid, c_reason, c_ref, event_of, ids_of, item_of, job_of,
-    left_over_of, lib, next_of, other, own, pick_of, pid_of, reason_of, ref_of, texts_of,
+    BUILD, c_body, c_next, c_pick, c_pid, c_reason, c_ref, event_of, ids_of, item_of, job_of, left_over_of, lib, next_of,
+    other, own, pid_of, reason_of, ref_of, texts_of,
 )
 from .values import (
     ANY, EVENTS, ITEMS, JOBS, KILL, KILLED, NEXTS, NOPROC, NORMAL, PICKS, PROCEED, REASONS, RUNNING, SHUTDOWN, SIGNALS, U8,

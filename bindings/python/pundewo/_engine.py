@@ -15,7 +15,8 @@ from ._behaviour import (
     CRASH, GO_ON, KILLS, MESSAGE, OVER, PROCEED, STOP, TIMEOUT, Answer, Behaviour, Call, CallFault, Down, Event, Exit, Message,
     Next, RunOver, ServerDown, behaviour_of,
 )
-from ._library import CAnswer, CJob, item_of, reader, reason_of
+from ._abi import CAnswer, CJob
+from ._library import item_of, reader, reason_of
 from ._process import WAITS, Address, Porter, Seat, bytes_of
 from ._sending import HOLDS, Sending, Task, kind_of
 from .values import ITEMS, JOBS, KILL, NORMAL, SHUTDOWN, U8, Pick, Pid, Reason, Ref, unchecked

@@ -9,7 +9,8 @@ from typing import TYPE_CHECKING, Any, Optional, Union
 
 from . import Desk, Fault
 from . import Next as Does
-from ._library import CAnswer, CPid, c_next
+from ._abi import CAnswer, CPid
+from ._library import c_next
 from ._behaviour import (
     GO_ON, MESSAGE, OVER, Alarm, Answer, Behaviour, Call, CallTimeout, Down, Event, Request, RunOver, seconds,
 )

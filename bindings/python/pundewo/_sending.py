@@ -12,7 +12,7 @@ from ._behaviour import (
     ANSWER, GO_ON, MESSAGE, NEWS, OVER, REQUEST, Alarm, Answer, Call, CallTimeout, Event, Holder, Request, ServerDown,
     Unanswered,
 )
-from ._library import CBody
+from ._abi import CBody
 from ._process import Address, Seat
 from .values import NOPROC, U8, U32, Pid, Ref, of_type
 

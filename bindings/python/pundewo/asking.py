@@ -18,9 +18,8 @@ import ctypes as c
 from typing import Any, NamedTuple, Optional
 
 from . import Desk, Fault, _fault, _Held
-from ._library import (
-    CCall, CHandle, CHeard, CItem, CPost, CRequest, body_of, c_body, c_item, c_pid, lib, pid_of, reason_of, ref_of,
-)
+from ._abi import HEARD_CODES, CCall, CHandle, CHeard, CPost, CRequest
+from ._library import body_of, c_body, c_item, c_pid, lib, pid_of, reason_of, ref_of
 from .values import I64, U32, U64, Body, Code, Item, Pid, Reason, Ref, number, of_type
 
 __all__ = [
@@ -29,7 +28,7 @@ __all__ = [
 ]
 
 # What an item means to a call.
-HEARD = ("answer", "server-down", "late", "not-mine")
+HEARD = HEARD_CODES
 
 
 class Request(NamedTuple):

@@ -16,9 +16,10 @@ import ctypes as c
 from typing import NamedTuple, Optional, Sequence, Union
 
 from . import Desk, Gathered, History, Loss, Settled, _fault, _OfDesk, answers_of, goes_on
-from ._library import (
-    CChild, CChildSpec, CNext, CNotice, CPid, CSupervisorSpec, CTurned, c_next, c_pid, job_of, lib, next_of, pid_of,
+from ._abi import (
+    RESTART_CODES, SHUTDOWN_CODES, STRATEGY_CODES, CChild, CChildSpec, CNext, CNotice, CPid, CSupervisorSpec, CTurned,
 )
+from ._library import c_next, c_pid, job_of, lib, next_of, pid_of
 from .values import (
     PROCEED, U16, U32, U64, Code, Item, Next, Pid, Reason, Turned, flag, number, of_type, one_of, shown, unchecked,
 )
@@ -27,9 +28,9 @@ __all__ = ["RESTARTS", "STRATEGIES", "Child", "ChildSpec", "Notice", "Supervisor
 
 # Which others a supervisor ends and starts again with a child that has exited: no other, all others, or those that were
 # listed after it.
-STRATEGIES = ("one_for_one", "one_for_all", "rest_for_one")
+STRATEGIES = STRATEGY_CODES
 # Whether a child is started again when it has exited: always; unless it exited with `normal` or `shutdown`; never.
-RESTARTS = ("permanent", "transient", "temporary")
+RESTARTS = RESTART_CODES
 
 # How a child is ended: "infinity", by `shutdown`, however long that takes; a time, by `shutdown`, and after this time by
 # `kill`; "brutal_kill", by `kill`.
@@ -84,11 +85,12 @@ def _c_child(field: str, child: ChildSpec) -> CChildSpec:
     tag, restart, shutdown = of_type(field, child, ChildSpec)
     crossing = CChildSpec(number(f"{field}.tag", tag, 0, U64), RESTARTS.index(one_of(f"{field}.restart", restart, RESTARTS)))
     if shutdown == "brutal_kill":
-        crossing.shutdown = 2
+        crossing.shutdown = SHUTDOWN_CODES.index("brutal_kill")
     elif shutdown != "infinity":
         if isinstance(shutdown, str):
             raise ValueError(f"{field}.shutdown is {shown(shutdown)}, and must be a time, 'infinity' or 'brutal_kill'")
-        crossing.shutdown, crossing.time = 1, number(f"{field}.shutdown", shutdown, 0, U64)
+        crossing.shutdown = SHUTDOWN_CODES.index("after")
+        crossing.time = number(f"{field}.shutdown", shutdown, 0, U64)
     return crossing
 
 

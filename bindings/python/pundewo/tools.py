@@ -15,7 +15,8 @@ import ctypes as c
 from typing import NamedTuple, Optional
 
 from . import _fault, _Held
-from ._library import CFired, CHolder, CName, CPid, CTimer, c_pid, c_ref, lib, pid_of, ref_of
+from ._abi import CFired, CHolder, CName, CPid, CTimer
+from ._library import c_pid, c_ref, lib, pid_of, ref_of
 from .values import U64, Code, Pid, Ref, number, of_type
 
 __all__ = ["Fired", "Holder", "Names", "Timer", "Timers"]

@@ -11,8 +11,12 @@ bool alone.
 from __future__ import annotations
 
 from dataclasses import dataclass
-from enum import IntEnum
 from typing import TYPE_CHECKING, Any, Callable, Iterable, NamedTuple, Optional, Sequence, TypeVar, Union
+
+from ._abi import (
+    CONFIG_DEFAULT, EVENT_CODES, ITEM_CODES, JOB_CODES, NEXT_CODES, PICK_CODES, REASON_CODES, SIGNAL_CODES,
+)
+from ._abi import Code as Code
 
 T = TypeVar("T")
 
@@ -83,34 +87,6 @@ def maybe(field: str, value: object, kind: type[T]) -> Optional[T]:
     if value is None or isinstance(value, kind):
         return value
     raise TypeError(f"{field} is {shown(value)}, and must be None or of type {kind.__name__}")
-
-
-class Code(IntEnum):
-    """What calls answer."""
-
-    OK = 0
-    FULL = 1
-    MEMORY = 2
-    WORN = 3
-    GONE = 4
-    MYSELF = 5
-    NOPROC = 6
-    UNKNOWN = 7
-    NOTHING = 8
-    EMPTY = 9
-    FILLED = 10
-    BAD_DESKS = 11
-    BAD_SLOTS = 12
-    BAD_TOP_VERSION = 13
-    BAD_LANE = 14
-    BAD_START = 15
-    BAD_CODE = 16
-    NOT_RUNNING = 17
-    WRONG_DESK = 18
-    BAD_NAME = 19
-    TAKEN = 20
-    HAS_NAME = 21
-    BAD_PLACES = 22
 
 
 # A named tuple of checked fields without the checks, for fields that the library wrote.
@@ -203,8 +179,8 @@ class Ids(_Checked, _Ids):
         return str(self.one) if self.two is None else f"{self.one}+{self.two}"
 
 
-REASONS = ("normal", "kill", "killed", "noproc", "shutdown")
-_REASONS = (*REASONS, "other")
+# The reasons without a number: all but "other".
+REASONS = REASON_CODES[:-1]
 
 
 class _Reason(NamedTuple):
@@ -218,7 +194,7 @@ class Reason(_Checked, _Reason):
     __slots__ = ()
 
     def __new__(cls, name: str, number: int = 0) -> Reason:
-        name = one_of("Reason.name", name, _REASONS)
+        name = one_of("Reason.name", name, REASON_CODES)
         return unchecked(cls, (name, _reason_number(number, U32 if name == "other" else 0)))
 
     def __str__(self) -> str:
@@ -251,7 +227,7 @@ class Body(_Checked, _Body):
         return f"{self.kind} {self.num}" + (f" who {self.who}" if self.who is not None else "")
 
 
-ITEMS = ("user", "exit", "down", "alive")
+ITEMS = ITEM_CODES
 _ITEM_FIELDS = {"user": ("body",), "exit": ("reason",), "down": ("reference", "reason"),
                 "alive": ("reference", "alive")}
 
@@ -285,7 +261,7 @@ class Item(_Checked, _Item):
         return " ".join(str(word) for word in words if word is not None)
 
 
-PICKS = ("kind", "from", "exit-of", "down-of", "alive-of", "any")
+PICKS = PICK_CODES
 
 
 class _Pick(NamedTuple):
@@ -313,7 +289,7 @@ class Pick(_Checked, _Pick):
 
 
 ANY = Pick()
-NEXTS = ("wait", "wait-until", "proceed", "stop", "running")
+NEXTS = NEXT_CODES
 
 
 class _Next(NamedTuple):
@@ -364,7 +340,7 @@ class Loss(_Checked, _Loss):
 
 
 PROCEED, RUNNING = Next("proceed"), Next("running")
-JOBS = ("start", "proceed", "item", "timeout", "exit")
+JOBS = JOB_CODES
 
 
 class _Job(NamedTuple):
@@ -399,7 +375,7 @@ class Job(_Checked, _Job):
         return " ".join(str(word) for word in words if word is not None)
 
 
-SIGNALS = ("message", "link", "unlink", "exit", "link-exit", "monitor", "demonitor", "down", "alive-ask", "alive-say")
+SIGNALS = SIGNAL_CODES
 _SIGNAL_WORDS: dict[str, tuple[type, ...]] = {
     "message": (Body,), "link": (LinkId,), "unlink": (Ids,), "exit": (Reason,), "link-exit": (Ids, Reason),
     "monitor": (Ref,), "demonitor": (Ref,), "down": (Ref, Reason), "alive-ask": (Ref,), "alive-say": (Ref, bool),
@@ -430,7 +406,7 @@ class Signal(_Checked, _Signal):
         return " ".join([self.name, *texts])
 
 
-EVENTS = ("born", "said", "came", "took", "flag", "left", "refused")
+EVENTS = EVENT_CODES
 _EVENT_FIELDS = {"born": (), "said": ("peer", "signal"), "came": ("peer", "signal"), "took": ("pick", "item"),
                  "flag": ("on",), "left": ("reason",), "refused": ("peer",)}
 
@@ -559,7 +535,8 @@ class Config(_Checked, _Config):
 
     __slots__ = ()
 
-    def __new__(cls, slots: int = 1024, top_version: int = U32, lane: int = 64, start: int = 0) -> Config:
+    def __new__(cls, slots: int = CONFIG_DEFAULT[0], top_version: int = CONFIG_DEFAULT[1], lane: int = CONFIG_DEFAULT[2],
+                start: int = CONFIG_DEFAULT[3]) -> Config:
         return unchecked(cls, (
             number("Config.slots", slots, 0, U32), number("Config.top_version", top_version, 0, U32),
             number("Config.lane", lane, 0, U32), number("Config.start", start, 0, U64)))

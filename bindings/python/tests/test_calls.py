@@ -12,6 +12,7 @@ from typing import Any, Callable, Iterator
 from unittest import mock
 
 import pundewo as p
+from pundewo import _abi as abi
 from pundewo import _library as library
 from domains import BODY, BYTE, CONFIG, LONG, NEXT, PICK, PID, REASON, REF, SHAPES, SHORT, WORD, Domain, Flag, Ints
 
@@ -131,9 +132,9 @@ def back(word: Any) -> Any:
     if hasattr(word, "_obj"):
         return getattr(word._obj, "value", None)
     kinds: dict[type, Callable[[Any], Any]] = {
-        library.CPid: library.pid_of, library.CRef: library.ref_of, library.CBody: library.body_of,
-        library.CReason: library.reason_of, library.CPick: library.pick_of, library.CNext: library.next_of,
-        library.CConfig: lambda config: p.Config(*(getattr(config, field) for field, _ in config._fields_))}
+        abi.CPid: library.pid_of, abi.CRef: library.ref_of, abi.CBody: library.body_of,
+        abi.CReason: library.reason_of, abi.CPick: library.pick_of, abi.CNext: library.next_of,
+        abi.CConfig: lambda config: p.Config(*(getattr(config, field) for field, _ in config._fields_))}
     return kinds[type(word)](word) if type(word) in kinds else word
 
 

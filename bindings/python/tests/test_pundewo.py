@@ -9,10 +9,12 @@ import pundewo as p
 import pundewo.values as v
 from crew_rows import OnCrew
 from pundewo import Code, Config, Fault, Pick, Pid, Reason, Ref
-from pundewo._library import (
-    CAccount, CAnswer, CAskingAbout, CBody, CCall, CConfig, CEvent, CFired, CHeard, CHolder, CIds, CItem, CJob, CLeftOver,
-    CLoss, CName, CNext, CPick, CPid, CPost, CReason, CRef, CRequest, CSignal, CTimer, CTurned, lib,
+from pundewo import _abi as abi
+from pundewo._abi import (
+    CAccount, CAnswer, CAskingAbout, CBody, CCall, CCodes, CConfig, CEvent, CFired, CHeard, CHolder, CIds, CItem, CJob,
+    CLeftOver, CLoss, CName, CNext, CPick, CPid, CPost, CReason, CRef, CRequest, CSignal, CSizes, CTimer, CTurned,
 )
+from pundewo._library import lib
 
 
 # Calls by their names in the table, of a node's value and the words behind the name.
@@ -280,18 +282,19 @@ class About(unittest.TestCase):
                          (c.sizeof(CCall), c.sizeof(CRequest), c.sizeof(CHeard), c.sizeof(CPost)))
 
     def test_sizes_and_codes(self) -> None:
-        kinds = [CPid, CRef, CIds, CReason, CBody, CItem, CPick, CSignal, CEvent, CLeftOver,
-                 CTurned, CAccount, CConfig, CNext, CJob, CAnswer, CLoss, CTimer, CFired, CName, CHolder]
-        sizes = (c.c_size_t * (len(kinds) + 1))()
-        lib.pt_about_sizes(sizes)
-        self.assertEqual(list(sizes)[:-1], [c.sizeof(kind) for kind in kinds])
+        kinds = [CPid, CRef, CIds, CReason, CBody, CItem, CPick, CSignal, CEvent, CLeftOver, CTurned, CAccount, CConfig,
+                 CNext, CJob, CAnswer, CLoss, CTimer, CFired, CName, CHolder, CCodes]
+        sizes, codes = CSizes(), CCodes()
+        lib.pt_about_sizes(c.byref(sizes))
+        lib.pt_about_codes(c.byref(codes))
+        self.assertEqual([getattr(sizes, name) for name, *_ in CSizes._fields_], [c.sizeof(kind) for kind in kinds])
+        self.assertEqual({name: getattr(codes, name) for name, *_ in CCodes._fields_}, abi.CODES)
+        # the words are in the order of the codes
         wanted = [code.value for code in Code]
         for names in (v.REASONS + ("other",), v.ITEMS, v.PICKS, v.SIGNALS, v.EVENTS, v.NEXTS, v.JOBS):
             wanted += range(len(names))
-        self.assertEqual(sizes[-1], 4 * len(wanted))
-        codes = (c.c_uint32 * len(wanted))()
-        lib.pt_about_codes(codes)
-        self.assertEqual(list(codes), wanted)
+        self.assertEqual(list(abi.CODES.values()), wanted)
+        self.assertEqual(tuple(Config()), abi.CONFIG_DEFAULT)
 
 
 class BadCodes(unittest.TestCase):

@@ -8,7 +8,8 @@ from typing import Any
 
 import pundewo as p
 from pundewo import ANY, PROCEED, RUNNING, Body, Item, Next
-from pundewo._library import CChild, CChildSpec, CNotice, CPid, CSupervisorSpec, lib
+from pundewo._abi import TEAM_CODES, CChild, CChildSpec, CNotice, CPid, CSupervisorSpec, CTeamCodes
+from pundewo._library import lib
 from pundewo.teams import Child, ChildSpec, Notice, SupervisorSpec, Team, go_on
 
 WAIT = Next("wait", ANY)
@@ -188,17 +189,16 @@ class Teams(unittest.TestCase):
         self.assertEqual((caught.exception.code, caught.exception.call), (p.Code.EMPTY, "Team.queued"))
 
     def test_structs_are_those_of_the_library(self) -> None:
-        class Codes(c.Structure):
-            _fields_ = [("codes", c.c_uint32 * 9), ("sizes", c.c_size_t * 4)]
-
-        told, spec, of_child, child, notice = Codes(), CSupervisorSpec(), CChildSpec(), CChild(), CNotice()
+        told, spec, of_child, child, notice = CTeamCodes(), CSupervisorSpec(), CChildSpec(), CChild(), CNotice()
         lib.pt_about_teams(c.byref(told))
         lib.pt_about_supervisor_spec(c.byref(spec))
         lib.pt_about_child_spec(c.byref(of_child))
         lib.pt_about_child(c.byref(child))
         lib.pt_about_notice(c.byref(notice))
-        self.assertEqual(list(told.codes), [0, 1, 2] * 3)
-        self.assertEqual(list(told.sizes), [c.sizeof(kind) for kind in (CSupervisorSpec, CChildSpec, CChild, CNotice)])
+        self.assertEqual({name: getattr(told, name) for name in TEAM_CODES}, TEAM_CODES)
+        self.assertEqual(list(TEAM_CODES.values()), [0, 1, 2] * 3)
+        self.assertEqual((told.supervisor_spec, told.child_spec, told.child, told.notice),
+                         (c.sizeof(CSupervisorSpec), c.sizeof(CChildSpec), c.sizeof(CChild), c.sizeof(CNotice)))
 
         def pid(it: CPid) -> tuple[int, int, int]:
             return it.shard, it.slot, it.version

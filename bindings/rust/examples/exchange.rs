@@ -154,7 +154,7 @@ impl Behaviour for Caller {
                     Ok(monitor) => self.talk(cx, line, monitor),
                     Err(_) => AGAIN,
                 },
-                Ok(Err(CallFault::Timeout)) => self.hang_up(cx, &line, false),
+                Ok(Err(CallFault::Timeout(_))) => self.hang_up(cx, &line, false),
                 _ => AGAIN,
             },
             (Event::Answer(_), Doing::Talks(line, monitor)) => self.talk(cx, line, monitor),

@@ -68,9 +68,9 @@ pub enum Heard {
 impl From<RawHeard> for Heard {
     fn from(raw: RawHeard) -> Heard {
         match raw.code {
-            0 => Heard::Answer(raw.answer),
-            1 => Heard::ServerDown(raw.reason.into()),
-            2 => Heard::Late,
+            raw::PT_HEARD_ANSWER => Heard::Answer(raw.answer),
+            raw::PT_HEARD_SERVER_DOWN => Heard::ServerDown(raw.reason.into()),
+            raw::PT_HEARD_LATE => Heard::Late,
             _ => Heard::NotMine,
         }
     }
@@ -382,12 +382,14 @@ impl From<Item> for RawItem {
     fn from(item: Item) -> RawItem {
         let blank = RawItem::default();
         match item {
-            Item::User(pid, body) => RawItem { code: 0, pid, body: body.into(), ..blank },
-            Item::Exit(pid, reason) => RawItem { code: 1, pid, reason: reason.into(), ..blank },
+            Item::User(pid, body) => RawItem { code: raw::PT_ITEM_USER, pid, body: body.into(), ..blank },
+            Item::Exit(pid, reason) => RawItem { code: raw::PT_ITEM_EXIT, pid, reason: reason.into(), ..blank },
             Item::Down(monitor, pid, reason) => {
-                RawItem { code: 2, pid, reference: monitor.into(), reason: reason.into(), ..blank }
+                RawItem { code: raw::PT_ITEM_DOWN, pid, reference: monitor.into(), reason: reason.into(), ..blank }
             }
-            Item::Alive(question, pid, alive) => RawItem { code: 3, alive, pid, reference: question.into(), ..blank },
+            Item::Alive(question, pid, alive) => {
+                RawItem { code: raw::PT_ITEM_ALIVE, alive, pid, reference: question.into(), ..blank }
+            }
         }
     }
 }

@@ -514,11 +514,13 @@ impl From<Next> for RawNext {
     fn from(next: Next) -> RawNext {
         let blank = RawNext::default();
         match next {
-            Next::Wait(pick) => RawNext { code: 0, pick: pick.into(), ..blank },
-            Next::WaitUntil(pick, until) => RawNext { code: 1, pick: pick.into(), until, ..blank },
-            Next::Proceed => RawNext { code: 2, ..blank },
-            Next::Stop(reason) => RawNext { code: 3, reason: reason.into(), ..blank },
-            Next::Running => RawNext { code: 4, ..blank },
+            Next::Wait(pick) => RawNext { code: raw::PT_NEXT_WAIT, pick: pick.into(), ..blank },
+            Next::WaitUntil(pick, until) => {
+                RawNext { code: raw::PT_NEXT_WAIT_UNTIL, pick: pick.into(), until, ..blank }
+            }
+            Next::Proceed => RawNext { code: raw::PT_NEXT_PROCEED, ..blank },
+            Next::Stop(reason) => RawNext { code: raw::PT_NEXT_STOP, reason: reason.into(), ..blank },
+            Next::Running => RawNext { code: raw::PT_NEXT_RUNNING, ..blank },
         }
     }
 }
@@ -527,10 +529,10 @@ impl From<RawNext> for Next {
     #[inline]
     fn from(raw: RawNext) -> Next {
         match raw.code {
-            0 => Next::Wait(raw.pick.into()),
-            1 => Next::WaitUntil(raw.pick.into(), raw.until),
-            2 => Next::Proceed,
-            3 => Next::Stop(raw.reason.into()),
+            raw::PT_NEXT_WAIT => Next::Wait(raw.pick.into()),
+            raw::PT_NEXT_WAIT_UNTIL => Next::WaitUntil(raw.pick.into(), raw.until),
+            raw::PT_NEXT_PROCEED => Next::Proceed,
+            raw::PT_NEXT_STOP => Next::Stop(raw.reason.into()),
             _ => Next::Running,
         }
     }
@@ -540,10 +542,10 @@ impl From<RawJob> for Job {
     #[inline]
     fn from(raw: RawJob) -> Job {
         let what = match raw.code {
-            0 => What::Start,
-            1 => What::Proceed,
-            2 => What::Item(raw.item.into()),
-            3 => What::Timeout,
+            raw::PT_JOB_START => What::Start,
+            raw::PT_JOB_PROCEED => What::Proceed,
+            raw::PT_JOB_ITEM => What::Item(raw.item.into()),
+            raw::PT_JOB_TIMEOUT => What::Timeout,
             _ => What::Exit(raw.reason.into(), raw.was.into()),
         };
         Job { pid: raw.pid, tag: raw.tag, what }

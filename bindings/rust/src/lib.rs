@@ -104,8 +104,8 @@ pub fn build() -> &'static str {
     text.to_str().unwrap_or("pundewo")
 }
 
-const OK: u32 = 0;
-const NOTHING: u32 = 8;
+const OK: u32 = raw::PT_OK;
+const NOTHING: u32 = raw::PT_NOTHING;
 
 const NONE: Handle = Handle { at: null_mut() };
 
@@ -136,22 +136,22 @@ impl Held {
 #[cold]
 fn fault_of(code: u32) -> Fault {
     match code {
-        1 => Fault::Full,
-        2 => Fault::Memory,
-        3 => Fault::Worn,
-        4 => Fault::Gone,
-        5 => Fault::Myself,
-        6 => Fault::NoProc,
-        7 => Fault::Unknown,
-        11 => Fault::BadDesks,
-        12 => Fault::BadSlots,
-        13 => Fault::BadTopVersion,
-        14 => Fault::BadLane,
-        15 => Fault::BadStart,
-        16 => Fault::BadCode,
-        17 => Fault::NotRunning,
-        18 => Fault::WrongDesk,
-        22 => Fault::BadPlaces,
+        raw::PT_FULL => Fault::Full,
+        raw::PT_MEMORY => Fault::Memory,
+        raw::PT_WORN => Fault::Worn,
+        raw::PT_GONE => Fault::Gone,
+        raw::PT_MYSELF => Fault::Myself,
+        raw::PT_NOPROC => Fault::NoProc,
+        raw::PT_UNKNOWN => Fault::Unknown,
+        raw::PT_BAD_DESKS => Fault::BadDesks,
+        raw::PT_BAD_SLOTS => Fault::BadSlots,
+        raw::PT_BAD_TOP_VERSION => Fault::BadTopVersion,
+        raw::PT_BAD_LANE => Fault::BadLane,
+        raw::PT_BAD_START => Fault::BadStart,
+        raw::PT_BAD_CODE => Fault::BadCode,
+        raw::PT_NOT_RUNNING => Fault::NotRunning,
+        raw::PT_WRONG_DESK => Fault::WrongDesk,
+        raw::PT_BAD_PLACES => Fault::BadPlaces,
         _ => unreachable!("the library answered {code}"),
     }
 }

@@ -476,9 +476,9 @@ fn raw_children(children: &[ChildSpec]) -> Vec<RawChildSpec> {
 
 fn shutdown_out(shutdown: Shutdown) -> (u32, u64) {
     match shutdown {
-        Shutdown::Infinity => (0, 0),
-        Shutdown::After(time) => (1, time),
-        Shutdown::BrutalKill => (2, 0),
+        Shutdown::Infinity => (raw::PT_SHUTDOWN_INFINITY, 0),
+        Shutdown::After(time) => (raw::PT_SHUTDOWN_AFTER, time),
+        Shutdown::BrutalKill => (raw::PT_BRUTAL_KILL, 0),
     }
 }
 
@@ -486,9 +486,9 @@ impl From<ChildSpec> for RawChildSpec {
     fn from(child: ChildSpec) -> RawChildSpec {
         let (shutdown, time) = shutdown_out(child.shutdown);
         let restart = match child.restart {
-            Restart::Permanent => 0,
-            Restart::Transient => 1,
-            Restart::Temporary => 2,
+            Restart::Permanent => raw::PT_PERMANENT,
+            Restart::Transient => raw::PT_TRANSIENT,
+            Restart::Temporary => raw::PT_TEMPORARY,
         };
         RawChildSpec { tag: child.tag, restart, shutdown, time }
     }
@@ -497,9 +497,9 @@ impl From<ChildSpec> for RawChildSpec {
 impl From<SupervisorSpec> for RawSupervisorSpec {
     fn from(spec: SupervisorSpec) -> RawSupervisorSpec {
         let strategy = match spec.strategy {
-            Strategy::OneForOne => 0,
-            Strategy::OneForAll => 1,
-            Strategy::RestForOne => 2,
+            Strategy::OneForOne => raw::PT_ONE_FOR_ONE,
+            Strategy::OneForAll => raw::PT_ONE_FOR_ALL,
+            Strategy::RestForOne => raw::PT_REST_FOR_ONE,
         };
         let SupervisorSpec { most, span, timed, parent, .. } = spec;
         let has_parent = parent.is_some();
@@ -510,13 +510,13 @@ impl From<SupervisorSpec> for RawSupervisorSpec {
 impl From<RawChild> for Child {
     fn from(raw: RawChild) -> Child {
         let restart = match raw.restart {
-            0 => Restart::Permanent,
-            1 => Restart::Transient,
+            raw::PT_PERMANENT => Restart::Permanent,
+            raw::PT_TRANSIENT => Restart::Transient,
             _ => Restart::Temporary,
         };
         let shutdown = match raw.shutdown {
-            0 => Shutdown::Infinity,
-            1 => Shutdown::After(raw.time),
+            raw::PT_SHUTDOWN_INFINITY => Shutdown::Infinity,
+            raw::PT_SHUTDOWN_AFTER => Shutdown::After(raw.time),
             _ => Shutdown::BrutalKill,
         };
         Child { pid: raw.has_pid.then_some(raw.pid), restart, shutdown, wanted: raw.wanted }

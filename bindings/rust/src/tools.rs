@@ -177,17 +177,17 @@ impl std::error::Error for NameFault {}
 fn named(code: u32) -> Result<(), NameFault> {
     match code {
         OK => Ok(()),
-        2 => Err(NameFault::Memory),
-        19 => Err(NameFault::BadName),
-        20 => Err(NameFault::Taken),
-        21 => Err(NameFault::HasName),
+        raw::PT_MEMORY => Err(NameFault::Memory),
+        raw::PT_BAD_NAME => Err(NameFault::BadName),
+        raw::PT_TAKEN => Err(NameFault::Taken),
+        raw::PT_HAS_NAME => Err(NameFault::HasName),
         _ => unreachable!("the library answered {code}"),
     }
 }
 
 /// The value that a call for a name wrote, or `None` if it says that there is nothing.
 fn found_by_name<T>(code: u32, value: T) -> Result<Option<T>, NameFault> {
-    if code == 19 { Err(NameFault::BadName) } else { Ok(found(code, value)) }
+    if code == raw::PT_BAD_NAME { Err(NameFault::BadName) } else { Ok(found(code, value)) }
 }
 
 /// The process that has a name, and the monitor that it was registered with.

@@ -123,45 +123,14 @@ fn the_structs_of_calls_are_the_librarys() {
 
 #[test]
 fn each_size_is_the_librarys() {
-    let mut told = [0; 22];
-    unsafe { pt_about_sizes(told.as_mut_ptr()) };
-    let mine = [
-        size_of::<Pid>(),
-        size_of::<RawRef>(),
-        size_of::<RawIds>(),
-        size_of::<RawReason>(),
-        size_of::<RawBody>(),
-        size_of::<RawItem>(),
-        size_of::<RawPick>(),
-        size_of::<RawSignal>(),
-        size_of::<RawEvent>(),
-        size_of::<RawLeftOver>(),
-        size_of::<RawTurned>(),
-        size_of::<RawAccount>(),
-        size_of::<Config>(),
-        size_of::<RawNext>(),
-        size_of::<RawJob>(),
-        size_of::<RawAnswer>(),
-        size_of::<RawLoss>(),
-        size_of::<RawTimer>(),
-        size_of::<RawFired>(),
-        size_of::<RawName>(),
-        size_of::<RawHolder>(),
-        told[21],
-    ];
-    assert_eq!(told, mine);
+    let mut told = RawSizes::default();
+    unsafe { pt_about_sizes(&mut told) };
+    assert_eq!(format!("{told:?}"), format!("{SIZES:?}"));
 }
 
 #[test]
 fn each_code_is_the_librarys() {
-    let mut sizes = [0; 22];
-    unsafe { pt_about_sizes(sizes.as_mut_ptr()) };
-    // the answers, and then the codes of reasons, items, picks, signals and events, as `values.rs` reads them, and of what
-    // a process of a crew does next and is told
-    let table = (0..23).chain(0..6).chain(0..4).chain(0..6).chain(0..10).chain(0..7);
-    let wanted: Vec<u32> = table.chain(0..5).chain(0..5).collect();
-    assert_eq!(sizes[21], wanted.len() * size_of::<u32>());
-    let mut told = vec![0; wanted.len()];
-    unsafe { pt_about_codes(told.as_mut_ptr()) };
-    assert_eq!(told, wanted);
+    let mut told = RawCodes::default();
+    unsafe { pt_about_codes(&mut told) };
+    assert_eq!(told, CODES);
 }

@@ -253,7 +253,7 @@ fn calls_from_outside_end_once() -> Result<(), Error> {
     let server = runtime.spawn(server())?;
     assert_eq!(runtime.call(&server, LONG, |reply| Asked::Double(21, reply)), Ok(42));
     assert_eq!(runtime.call(&server, LONG, |reply| Asked::Elsewhere(4, reply)), Ok(8));
-    assert_eq!(runtime.call(&server, Duration::from_millis(20), Asked::Never), Err(CallFault::Timeout));
+    assert_eq!(runtime.call(&server, Duration::from_millis(20), Asked::Never), Err(CallFault::Timeout(None)));
     assert_eq!(runtime.call(&server, LONG, Asked::Drop), Err(CallFault::Dropped));
     assert_eq!(runtime.call(&server, LONG, Asked::Crash), Err(CallFault::Dropped));
     assert_eq!(runtime.call(&server, LONG, |reply| Asked::Double(21, reply)), Err(CallFault::Dropped));
@@ -301,7 +301,7 @@ fn calls_of_a_process_end_once() -> Result<(), Error> {
     asker.send(ask(LONG, Asked::Drop));
     let mut answers: Vec<_> = (0..4).map(|_| got(&get)).collect();
     answers.sort_by_key(|&(place, _)| place);
-    let wanted = [Ok(2), Err(CallFault::Timeout), Ok(4), Err(CallFault::Dropped)];
+    let wanted = [Ok(2), Err(CallFault::Timeout(None)), Ok(4), Err(CallFault::Dropped)];
     assert_eq!(answers, wanted.into_iter().enumerate().collect::<Vec<_>>());
     // two wait as the server crashes: each hears of it once, by what comes first
     asker.send(ask(LONG, Asked::Never));
@@ -610,14 +610,39 @@ fn what_is_asked_of_a_desk_that_is_held_up_ends_in_time() -> Result<(), Error> {
         assert!(
             pid == stuck.pid() && name.contains("Acts<") && fault.to_string().contains("is held up by <0.1.1>, a ")
         );
-        assert_eq!(runtime.call(&server, SHORT, |reply| Asked::Double(21, reply)), Err(CallFault::Timeout));
+        let answer = runtime.call(&server, SHORT, |reply| Asked::Double(21, reply));
+        assert_eq!(answer, Err(CallFault::Timeout(Some((pid, name)))));
+        let wanted = format!("there was no answer in time: the desk of the server is held up by <0.1.1>, a {name}");
+        assert_eq!(answer.expect_err("a server that is held up").to_string(), wanted);
     }
+    // a process of another desk hears the same
+    let (give, answers) = channel();
+    let asks = runtime.spawn_on(1, asker(server.clone(), give))?;
+    asks.send(ask(SHORT, |reply| Asked::Double(21, reply)));
+    let (place, answer) = got(&answers);
+    let Err(CallFault::Timeout(Some((pid, name)))) = answer else { panic!("{answer:?}") };
+    assert!(place == 0 && pid == stuck.pid() && name.contains("Acts<"));
     assert!(runtime.spawn_within(LONG, 1, acts::<(), _>(|_, _| Next::DONE)).is_ok() && drops.try_recv().is_err());
     leave.send(())?;
     assert_eq!(runtime.call(&server, LONG, |reply| Asked::Double(21, reply)), Ok(42));
     (0..3).for_each(|_| got(&drops));
     assert!(runtime.spawn_within(LONG, 0, acts::<(), _>(|_, _| Next::DONE)).is_ok());
-    assert_eq!(runtime.stop()?.spawned, 4);
+    assert_eq!(runtime.stop()?.spawned, 5);
+    Ok(())
+}
+
+/// A process asks a server on its own desk, which waits: nobody holds up the call, and not the process that hears of it.
+#[test]
+fn a_call_that_nobody_holds_up_names_nobody() -> Result<(), Error> {
+    let runtime = start(1);
+    let (give, answers) = channel();
+    let server = runtime.spawn(server())?;
+    let asks = runtime.spawn(asker(server, give))?;
+    asks.send(ask(Duration::from_millis(20), Asked::Never));
+    let (_, answer) = got(&answers);
+    assert_eq!(answer, Err(CallFault::Timeout(None)));
+    assert_eq!(CallFault::Timeout(None).to_string(), "there was no answer in time");
+    runtime.stop()?;
     Ok(())
 }
 
@@ -679,11 +704,13 @@ impl Drop for Held {
 fn a_handle_stops_a_run() -> Result<(), Error> {
     let runtime = start(2);
     let (give, told) = channel();
+    let (begin, begun) = channel();
     for desk in [0, 1] {
-        let give = give.clone();
+        let (give, begin) = (give.clone(), begin.clone());
         let traps = acts::<(), _>(move |cx, event| match event {
             None => {
                 cx.trap_exits(true).expect("a flag");
+                begin.send(()).expect("a test");
                 Next::Wait
             }
             Some(Event::Exit(exit)) => {
@@ -694,6 +721,8 @@ fn a_handle_stops_a_run() -> Result<(), Error> {
         });
         runtime.spawn_on(desk, traps)?;
     }
+    // (one that is told to exit before it traps exits is told nothing)
+    (0..2).for_each(|_| got(&begun));
     let handle = runtime.handle();
     let stops = std::thread::spawn(move || {
         handle.stop();

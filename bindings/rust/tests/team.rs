@@ -3,7 +3,6 @@
 use pundewo::raw::*;
 use pundewo::team::{Child, ChildSpec, News, Notice, Origin, Restart, Shutdown, Strategy, SupervisorSpec, Team, go_on};
 use pundewo::{Body, Config, Desk, Fault, Item, Next, Node, NotTaken, Pick, Pid, Reason, gather, open};
-use std::mem::size_of;
 
 const ANY: Next = Next::Wait(Pick::Any);
 const CRASH: Reason = Reason::Other(1);
@@ -248,10 +247,7 @@ fn structs_and_codes_are_the_librarys() {
         pt_about_job(&mut job);
     }
     let pid = |first: u8| Pid { shard: first, slot: u32::from(first) + 1, version: u32::from(first) + 2 };
-    assert_eq!([codes.strategies, codes.restarts, codes.shutdowns], [[0, 1, 2]; 3]);
-    let sizes =
-        [size_of::<RawSupervisorSpec>(), size_of::<RawChildSpec>(), size_of::<RawChild>(), size_of::<RawNotice>()];
-    assert_eq!([codes.supervisor_spec, codes.child_spec, codes.child, codes.notice], sizes);
+    assert_eq!(codes, TEAM_CODES);
     assert_eq!((spec.strategy, spec.timed, spec.has_parent), (1, true, true));
     assert_eq!((spec.parent, spec.most, spec.span), (pid(4), 7, 8));
     assert_eq!((of_child.tag, of_child.restart, of_child.shutdown, of_child.time), (1, 2, 3, 4));

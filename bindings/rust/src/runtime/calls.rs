@@ -4,7 +4,7 @@ use super::ANSWER;
 use super::hub::Hub;
 use super::payloads::{Given, Slot};
 use super::timing::Key;
-use crate::{Fault, Reason, Ref};
+use crate::{Fault, Pid, Reason, Ref};
 use std::any::Any;
 use std::collections::HashMap;
 use std::fmt;
@@ -19,8 +19,10 @@ use std::sync::mpsc::SyncSender;
 pub enum CallFault {
     /// The server exited for this reason, with the text of its panic if that is how it exited.
     Down(Reason, Option<Arc<str>>),
-    /// There was no answer in time.
-    Timeout,
+    /// There was no answer in time: the process whose handler was running on the server's desk then, if one was, and the
+    /// name of the type of its behaviour. It may be the server. There is none to name if the server waits itself, or is on
+    /// the desk of the process that asked.
+    Timeout(Option<(Pid, &'static str)>),
     /// The request was dropped unanswered: its [`Reply`] was, or the server had exited.
     Dropped,
     /// The address is of another run than the one that was to call. Nothing was asked.
@@ -32,7 +34,10 @@ impl fmt::Display for CallFault {
         match self {
             CallFault::Down(_, Some(text)) => write!(f, "the server panicked: {text}"),
             CallFault::Down(reason, None) => write!(f, "the server exited: {reason}"),
-            CallFault::Timeout => f.write_str("there was no answer in time"),
+            CallFault::Timeout(Some((pid, behaviour))) => {
+                write!(f, "there was no answer in time: the desk of the server is held up by {pid}, a {behaviour}")
+            }
+            CallFault::Timeout(None) => f.write_str("there was no answer in time"),
             CallFault::Dropped => f.write_str("the request was dropped unanswered"),
             CallFault::OtherRun => Fault::OtherRun.fmt(f),
         }
@@ -166,6 +171,8 @@ impl<R: Send + 'static> fmt::Debug for Reply<R> {
 
 /// A call that has not ended.
 pub(crate) struct Open {
+    /// The desk of the server.
+    pub(crate) desk: u8,
     pub(crate) monitor: Option<Ref>,
     pub(crate) alarm: Option<Key>,
 }

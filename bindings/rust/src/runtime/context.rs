@@ -99,7 +99,7 @@ impl<M: Send + 'static> Context<'_, M> {
     ///
     /// The answer is the fault of a spawn if that failed, or [`Fault::BadDesks`] if there is no such desk.
     pub fn spawn_on<B: Behaviour>(&mut self, desk: u8, behaviour: B) -> Call<Result<Address<B::Message>, Fault>> {
-        let (call, reply) = self.open(fresh_number(), None, None);
+        let (call, reply) = self.open(fresh_number(), desk, None, None);
         match self.worker.hub.places.get(usize::from(desk)) {
             Some(place) => {
                 place.post(Task::Do(Box::new(move |worker| reply.send(worker.spawn(Parent::Outside, behaviour)))));
@@ -188,7 +188,7 @@ impl<M: Send + 'static> Context<'_, M> {
         let monitor = self.monitor(to)?;
         let (at, me, number) = (self.worker.hub.after(limit), self.me.pid(), number_of(monitor));
         let alarm = self.worker.alarms.set(at, Box::new(move |worker| worker.tell_process(me, OVER, number)));
-        let (call, reply) = self.open(number, Some(monitor), Some(alarm));
+        let (call, reply) = self.open(number, to.pid().shard, Some(monitor), Some(alarm));
         self.send(to, ask(reply));
         Ok(call)
     }
@@ -217,10 +217,11 @@ impl<M: Send + 'static> Context<'_, M> {
     fn open<R: Send + 'static>(
         &mut self,
         number: i64,
+        desk: u8,
         monitor: Option<Ref>,
         alarm: Option<Key>,
     ) -> (Call<R>, Reply<R>) {
-        self.calls.insert(number, Open { monitor, alarm });
+        self.calls.insert(number, Open { desk, monitor, alarm });
         let reply = Reply::to_process(self.me.mailbox.clone(), self.me.hub.clone(), number);
         (Call { number, of: PhantomData }, reply)
     }

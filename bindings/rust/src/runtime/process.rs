@@ -44,7 +44,7 @@ impl<B: Behaviour> Process<B> {
                 self.close(worker, number).then_some(Event::Answer(Answer { number, given }))
             }
             Item::User(_, Body { kind: OVER, num: number, .. }) => {
-                let given = Err(CallFault::Timeout);
+                let given = Err(CallFault::Timeout(self.holder(worker, number)));
                 self.close(worker, number).then_some(Event::Answer(Answer { number, given }))
             }
             Item::User(_, Body { num, .. }) => self.me.mailbox.take(num).map(Event::Message),
@@ -55,6 +55,12 @@ impl<B: Behaviour> Process<B> {
             }
             Item::Alive(..) => None,
         }
+    }
+
+    /// The process whose handler runs on the desk that was asked, if that is another desk than this one.
+    fn holder(&self, worker: &Worker, number: i64) -> Option<(Pid, &'static str)> {
+        let desk = self.calls.get(&number)?.desk;
+        if desk == worker.number { None } else { worker.hub.running(usize::from(desk)) }
     }
 
     /// The news of a monitor, which may be that of a call.

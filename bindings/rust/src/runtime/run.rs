@@ -232,7 +232,8 @@ impl Handle {
     /// # Errors
     ///
     /// [`CallFault::OtherRun`], if the server is of another run, and then nothing was asked; [`CallFault::Timeout`], if there
-    /// is no answer in time; [`CallFault::Dropped`], if the server has exited or has dropped the request.
+    /// is no answer in time, with the process that holds up the server's desk; [`CallFault::Dropped`], if the server has
+    /// exited or has dropped the request.
     pub fn call<M: Send + 'static, R: Send + 'static>(
         &self,
         server: &Address<M>,
@@ -245,7 +246,7 @@ impl Handle {
         let (give, get) = sync_channel(1);
         server.send(ask(Reply::to_thread(give)));
         get.recv_timeout(limit).map_err(|fault| match fault {
-            RecvTimeoutError::Timeout => CallFault::Timeout,
+            RecvTimeoutError::Timeout => CallFault::Timeout(self.0.running(usize::from(server.pid().shard))),
             RecvTimeoutError::Disconnected => CallFault::Dropped,
         })
     }

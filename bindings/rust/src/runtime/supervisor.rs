@@ -163,7 +163,7 @@ impl Supervisor {
     }
 
     /// How many restarts it makes at most in a time: Erlang's `intensity` and `period`. Without this 3 in five seconds. A
-    /// restart counts while less than this time has gone by since, so with a time of zero none counts.
+    /// restart counts until more than this time has gone by since.
     #[must_use]
     pub fn limit(mut self, most: usize, within: Duration) -> Supervisor {
         self.limit = Limit::new(most, within);
