@@ -7,7 +7,7 @@
 ghost use Rattle.std.specs.Prelude.{◌≡◌, ◌++◌, [], reverse, IfOk};
 ghost use Rattle.pt_events.specs.History.{IsLegal};
 ghost use Rattle.pt_events.specs.Journal.{events};
-ghost use Rattle.pt_supervisor.specs.Gathering.{AllChildrenLive};
+ghost use Rattle.pt_pauses.specs.Gathering.{AllChildrenLive};
 ghost use Rattle.example_scenes.specs.Team.{AreTeams, boss_of};
 
 use crate::stage::{BUDGET, Curtain, DESKS, rested};

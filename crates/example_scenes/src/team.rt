@@ -11,9 +11,10 @@ ghost use Rattle.pt_workers.specs.Desks.{all_shards};
 ghost use Rattle.pt_workers.specs.Stillness.{AreStill};
 ghost use Rattle.pt_node.specs.Pasts.{GoOnFrom};
 ghost use Rattle.pt_crew.specs.Running.{AllUphold, AreIdle, UpholdsOn};
-ghost use Rattle.pt_supervisor.specs.Keeping.{AnswerAs, IsStillNode, SupervisorBegins, Keeps};
-ghost use Rattle.pt_supervisor.specs.Gathering.{AllChildrenLive};
-ghost use Rattle.pt_supervisor.specs.Stopping.{StoppedChildrenEnded};
+ghost use Rattle.pt_supervisor.specs.Keeping.{AnswerAs, SupervisorBegins, Keeps};
+ghost use Rattle.pt_pauses.specs.Still.{IsStillNode};
+ghost use Rattle.pt_pauses.specs.Gathering.{AllChildrenLive};
+ghost use Rattle.pt_pauses.specs.Stopping.{StoppedChildrenEnded};
 ghost use Rattle.example_scenes.specs.declared.team.Member.{Member};
 ghost use Rattle.example_scenes.specs.Team.{AreTeams, boss_of};
 
@@ -21,12 +22,9 @@ use crate::stage::{BUDGET, Curtain, DESKS, first_of, rested};
 use anyhow::{Result, bail};
 use pt_crew::{Behaviour, Births, Crew, Next, are_idle};
 use pt_node::{Account, Config, Desk, Fault, FreeGate, Item, Node, Pick, Pid, Quiet, Reason, open};
-use pt_pauses::paused_children_live;
+use pt_pauses::{gathered_children_live, paused_children_live, quiet_children_live, stopped_children_ended};
 use pt_resting::{RestGate, RestingWork};
-use pt_supervisor::{
-    Child, Limit, Restart, Start, Strategy, Supervised, Supervisor, gathered_children_live,
-    quiet_children_live, stopped_children_ended,
-};
+use pt_supervisor::{Child, Limit, Restart, Start, Strategy, Supervised, Supervisor};
 use std::alloc::{AllocError, Global};
 use std::fmt::{self, Display, Formatter, Write};
 use std::sync::Wait;

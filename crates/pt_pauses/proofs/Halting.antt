@@ -31,8 +31,9 @@ use Rattle.pt_crew.specs.Running.{UpholdsOn}
 use Rattle.pt_crew.specs.Waking.{IsAwake}
 use Rattle.pt_crew.proofs.Runs.{idle_awake}
 use Rattle.pt_supervisor.specs.Keeping.{Keeps, PartOf, SuperviseAs}
-use Rattle.pt_supervisor.proofs.Still.{StillLaws, awake_idle, children_live, still_node}
-use Rattle.pt_supervisor.proofs.Stopping.{stopped_children}
+use Rattle.pt_pauses.proofs.Still.{StillLaws, children_live, still_node}
+use Rattle.pt_supervisor.proofs.Resting.{awake_idle}
+use Rattle.pt_pauses.proofs.Stopping.{stopped_children}
 use Rattle.pt_supervisor.proofs.Tending.{upheld}
 use Rattle.pt_epochs.specs.declared.epochs.Plan.{Plan}
 use Rattle.pt_epochs.specs.declared.epochs.Pause.{Pause}

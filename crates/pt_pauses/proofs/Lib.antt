@@ -1,4 +1,13 @@
 -- The lemmas that more than one function of the crate uses.
+pub mod Before
+pub mod Homes
+pub mod Opened
+pub mod Ended
+pub mod Trapping
+pub mod Stopping
+pub mod Still
+pub mod AllLive
+pub mod Quieting
 pub mod Receipts
 pub mod Resuming
 pub mod Pausing

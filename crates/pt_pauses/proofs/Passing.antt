@@ -22,9 +22,9 @@ use Rattle.pt_crew.specs.Running.{AllUphold, CrewsDo}
 use Rattle.pt_crew.specs.Upholding.{Relation, IsUpheld}
 use Rattle.pt_crew.proofs.Runs.{rest_upholds, run_upholds}
 use Rattle.pt_supervisor.specs.Keeping.{Keeps, PartOf, SuperviseAs}
-use Rattle.pt_supervisor.specs.Gathering.{AllChildrenLive}
-use Rattle.pt_supervisor.proofs.AllLive.{all_children_live}
-use Rattle.pt_supervisor.proofs.Still.{StillLaws, still_node}
+use Rattle.pt_pauses.specs.Gathering.{AllChildrenLive}
+use Rattle.pt_pauses.proofs.AllLive.{all_children_live}
+use Rattle.pt_pauses.proofs.Still.{StillLaws, still_node}
 use Rattle.pt_supervisor.proofs.Tending.{upheld}
 use Rattle.pt_epochs.specs.declared.epochs.Outcome.{Outcome}
 use Rattle.pt_epochs.specs.declared.epochs.Outcome.TheVariants as outcome

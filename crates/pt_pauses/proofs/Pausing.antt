@@ -39,8 +39,8 @@ use Rattle.pt_crew.specs.Running.{UpholdsOn}
 use Rattle.pt_crew.proofs.Upholding.{born_then}
 use Rattle.pt_supervisor.specs.Hearing.{Standing}
 use Rattle.pt_supervisor.specs.Keeping.{HoldsAs, Keeps, PartOf, SuperviseAs, WereTold}
-use Rattle.pt_supervisor.proofs.Before.{desk_told}
-use Rattle.pt_supervisor.proofs.Homes.{born_here}
+use Rattle.pt_pauses.proofs.Before.{desk_told}
+use Rattle.pt_pauses.proofs.Homes.{born_here}
 use Rattle.pt_supervisor.proofs.Tending.{begins as all_begin, upheld}
 use Rattle.pt_epochs.specs.Epochs.{CrewBegins}
 use Rattle.pt_pauses.specs.Pauses.{AllHold, Pauses}

@@ -23,7 +23,7 @@ use Rattle.pt_supervisor.specs.Children.{NoneLives}
 use Rattle.pt_supervisor.specs.Hearing.{Standing}
 use Rattle.pt_supervisor.specs.Keeping.{is_cut, all_events, IsTied, IsHeld, Family, tells_end, has_told, WereTold, all_children, IsPlaced, Remembers, AreAsked, IsWatched, bids_to, Holds, HoldsAs}
 use Rattle.pt_supervisor.proofs.Tying.{or_left, or_right}
-use Rattle.pt_supervisor.proofs.Stopping.{any_both, any_events, any_filter}
+use Rattle.pt_pauses.proofs.Stopping.{any_both, any_events, any_filter}
 
 -- phases that were left behind ------------------------------------------------------------------
 

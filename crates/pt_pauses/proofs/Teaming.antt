@@ -18,7 +18,7 @@ use Rattle.pt_supervisor.specs.Keeping.{Keeps}
 use Rattle.pt_teams.specs.declared.member.Member.{Member}
 use Rattle.pt_teams.specs.declared.team.Team.{Team}
 use Rattle.pt_teams.specs.Members.{boss_part, member_answers}
-use Rattle.pt_teams.specs.Quieting.{AllTeamsUphold}
+use Rattle.pt_pauses.specs.Quieting.{AllTeamsUphold}
 use Rattle.pt_teams.specs.Teaming.{AttendsTeam, TeamGoesOn, TeamUpholds}
 use Rattle.pt_pauses.specs.Pauses.{Pauses}
 use Rattle.pt_pauses.specs.Teams.{TeamsPause, TeamPausesHold}

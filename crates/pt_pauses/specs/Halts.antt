@@ -18,8 +18,8 @@ use Rattle.pt_crew.specs.Crews.{roles}
 use Rattle.pt_crew.specs.Running.{UpholdsOn, is_idle}
 use Rattle.pt_supervisor.specs.Hearing.{Standing}
 use Rattle.pt_supervisor.specs.Keeping.{Keeps, PartOf}
-use Rattle.pt_supervisor.specs.Gathering.{AllChildrenLive}
-use Rattle.pt_supervisor.specs.Stopping.{StartedEnded}
+use Rattle.pt_pauses.specs.Gathering.{AllChildrenLive}
+use Rattle.pt_pauses.specs.Stopping.{StartedEnded}
 use Rattle.pt_epochs.specs.declared.epochs.Plan.{Plan}
 use Rattle.pt_epochs.specs.declared.halted.Halted.{Halted}
 use Rattle.pt_epochs.specs.declared.halted.Halted.TheVariants.{Running, Turning, Gathering, Settling}

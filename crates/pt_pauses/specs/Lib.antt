@@ -1,3 +1,7 @@
+pub mod Still
+pub mod Stopping
+pub mod Gathering
+pub mod Quieting
 pub mod Pauses
 pub mod Halts
 pub mod Teams

@@ -19,7 +19,7 @@ use Rattle.pt_crew.specs.Visiting.{Answers}
 use Rattle.pt_crew.specs.Upholding.{AllStill}
 use Rattle.pt_crew.specs.Running.{AllUphold, CrewsDo}
 use Rattle.pt_supervisor.specs.Keeping.{Keeps, PartOf}
-use Rattle.pt_supervisor.specs.Gathering.{AllChildrenLive}
+use Rattle.pt_pauses.specs.Gathering.{AllChildrenLive}
 use Rattle.pt_epochs.specs.declared.epochs.Outcome.{Outcome}
 use Rattle.pt_epochs.specs.declared.epochs.Pause.TheVariants.{Idle}
 use Rattle.pt_epochs.specs.declared.epochs.Plan.{Plan}

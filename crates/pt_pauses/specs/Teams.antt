@@ -10,7 +10,7 @@ use Rattle.pt_node.specs.Gathering.{Gathers}
 use Rattle.pt_node.specs.Pasts.{GoOnFrom}
 use Rattle.pt_node.specs.Resuming.{Resumes}
 use Rattle.pt_teams.specs.declared.team.Team.{Team}
-use Rattle.pt_teams.specs.Quieting.{AllTeamsUphold}
+use Rattle.pt_pauses.specs.Quieting.{AllTeamsUphold}
 use Rattle.pt_teams.specs.Teaming.{TeamGoesOn}
 
 -- each team goes on with this history

@@ -12,7 +12,7 @@ use pt_supervisor::Supervised;
 ///
 /// It needs that the node was gathered, settled and resumed, and that each crew began again (`hold`). What happened
 /// until then counts as what was before, from the first opening of the node on: an unlink of a child, or news of its
-/// exit. So by [`gathered_children_live`](pt_supervisor::gathered_children_live) each child that a supervisor wants
+/// exit. So by [`gathered_children_live`](crate::gathered_children_live) each child that a supervisor wants
 /// alive is alive once the node is still again, or unlinked itself, unless the supervisor is ending one that traps exits
 /// and lives on.
 ///
@@ -20,7 +20,7 @@ use pt_supervisor::Supervised;
 /// until it is still (`rests`). What the desks go on from stays through every other call of them, too (`from`).
 ///
 /// A supervisor that left its crew before the pause forgets no child either (`left`). So
-/// [`stopped_children_ended`](pt_supervisor::stopped_children_ended) holds of it behind the pause.
+/// [`stopped_children_ended`](crate::stopped_children_ended) holds of it behind the pause.
 pub fn paused_children_live<B: Supervised + Drop, G: Gate>(gate: &G)
     ensures run { RunHolds B.answers B.supervisor (begins_by (λ _. Going) (G.lets gate.now)) }
     ensures rounds { RoundsHold B.answers B.supervisor (begins_by (λ _. Going) (G.lets gate.now)) }

@@ -7,7 +7,7 @@ ghost use Rattle.pt_pauses.specs.Teams.{TeamPausesHold};
 ///
 /// It needs that the node was gathered, settled and resumed, and that each team went on with the node's history
 /// ([`Team::go_on`](pt_teams::Team::go_on)). What happened until then counts as what was before. So by
-/// [`node_children_live`](pt_teams::node_children_live) each child that a supervisor wants alive is alive once the node is
+/// [`node_children_live`](crate::node_children_live) each child that a supervisor wants alive is alive once the node is
 /// still again, or unlinked itself, unless the supervisor is ending one that traps exits and lives on. This holds over any
 /// number of pauses, one after the other.
 pub fn paused_team_children_live()

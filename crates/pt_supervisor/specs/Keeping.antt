@@ -1,10 +1,10 @@
--- How a supervisor's children are on its desk, and in a node that is still.
+-- How a supervisor's children are on its desk.
 --
 -- Everywhere here `past` is what happened on a desk, or on its node, before the desk's journal: [] where nothing is known
 -- of it.
 use Rattle.std.specs.Prelude.{◌≡◌, ⊤, ℕ, ◌&&◌, Bool, true, false, is_some, List, [], ◌∷◌, ◌++◌, Option, Some, None, Ok}
 use Rattle.std.specs.List.{flat_map, list_any}
-use Rattle.std.specs.Prelude.{◌⊎◌, ◌<◌, length, take, slice_get, slice_index_or}
+use Rattle.std.specs.Prelude.{◌⊎◌, take, slice_get}
 use Rattle.pt_signal.specs.declared.pid.Pid.{Pid}
 use Rattle.pt_signal.specs.declared.ids.Ref.{Ref}
 use Rattle.pt_signal.specs.declared.item.Item.{Item}
@@ -15,31 +15,25 @@ use Rattle.pt_signal.specs.Values.{same_pid}
 use Rattle.pt_signal.specs.Process.{ProcessState, held}
 use Rattle.pt_events.specs.declared.event.Event.{Event}
 use Rattle.pt_events.specs.declared.event.Event.TheVariants.{Said, Came, Refused}
-use Rattle.pt_events.specs.declared.event.Stamped.{Stamped}
-use Rattle.pt_events.specs.History.{Past, Start, at_start, is_unborn, state_of, life, alive}
-use Rattle.pt_events.specs.Journal.{IsMerge, events}
+use Rattle.pt_events.specs.History.{Past, Start, at_start, is_unborn, state_of}
+use Rattle.pt_events.specs.Journal.{events}
 use Rattle.pt_shard.specs.ShardState.{ShardState, phase_of, state_in, lives}
-use Rattle.pt_gathered.specs.Gathered.{GatheredState, IsGathered, begins, journals}
-use Rattle.pt_gathered.specs.Lawful.{IsQuietNode, LinksStand, WatchesStand}
-use Rattle.pt_gathered.specs.Pasts.{GoesOnFrom}
 use Rattle.pt_laws.specs.Watch.{is_down_item, is_open}
 use Rattle.pt_crew.specs.declared.behaviour.Next.{Next}
 use Rattle.pt_crew.specs.declared.behaviour.Next.TheVariants.{Proceed}
 use Rattle.pt_crew.specs.declared.births.Role.{Role}
 use Rattle.pt_crew.specs.declared.crew.Crew.{Crew}
 use Rattle.pt_crew.specs.Visiting.{Answers}
-use Rattle.pt_crew.specs.Upholding.{Relation, ActsFor, ItemIsTaken, Upholds, child_by, children_by}
+use Rattle.pt_crew.specs.Upholding.{Relation, ActsFor, ItemIsTaken, child_by, children_by}
 use Rattle.pt_crew.specs.Waking.{has_work}
 use Rattle.pt_crew.specs.Crews.{roles}
 use Rattle.pt_supervisor.specs.declared.asked.Asked.{Asked}
-use Rattle.pt_supervisor.specs.declared.asked.Stage.{Stage}
-use Rattle.pt_supervisor.specs.declared.asked.Stage.TheVariants.{Waiting, Until}
 use Rattle.pt_supervisor.specs.declared.children.Child.{Child}
 use Rattle.pt_supervisor.specs.declared.children.Shutdown.{Shutdown}
 use Rattle.pt_supervisor.specs.Children.{NoneLives}
-use Rattle.pt_supervisor.specs.Ending.{gone_at, monitor_of, told_in, next_at_stage}
+use Rattle.pt_supervisor.specs.Ending.{gone_at, monitor_of, told_in}
 use Rattle.pt_supervisor.specs.Hearing.{Standing}
-use Rattle.pt_supervisor.specs.Supervising.{EndsLast, StartsOf, Supervises}
+use Rattle.pt_supervisor.specs.Supervising.{StartsOf, Supervises}
 
 -- the pid of the child at a place, if one lives there by all that its supervisor has heard
 abbrev pub pid_of_child : Option Child → Option Pid
@@ -245,58 +239,3 @@ SuperviseAs {B} answers part =
 -- nobody of the crew has anything to do
 abbrev pub IsIdle : {B : Type 0} → Crew B → ShardState → Type 0
 IsIdle {B} c d = (p : Pid) (role : B × Next) → roles c p ≡ Some role → has_work role.1 (phase_of d p) ≡ false
-
--- as an exit signal `shutdown` of me came to q, q trapped exits
-abbrev pub HasTrapped : Start → Past → Pid → Pid → Type 0
-HasTrapped start history me q =
-    (later : Past) × (before : Past) × (history ≡ later ++ Came me q (Signal.Exit Reason.Shutdown) ∷ before)
-    × ((state_of (life start before q)).traps ≡ true)
-
--- no time ends the wait for the child, as its specification has none, or it is killed at a time
-abbrev pub IsSpared : Shutdown → Stage → Type 0
-IsSpared shutdown (Waiting m) = shutdown ≡ Shutdown.Infinity
-IsSpared shutdown (Until m at) = ⊤
-IsSpared shutdown _ = ⊥
-
--- The supervisor p ends q, the last of its children that are to end, and waits for that. q lives. It was told to end, and
--- trapped that, before the journals of the node or since; and it was given no time, or its time has not come. The last
--- two are said of a past that is all that happened, or of none.
-pub record IsEnding (past : Past) (s : Standing) (next : Next) (p q : Pid) (g : GatheredState) (merged : List Stamped)
-    : Type 0 where
-  pub shutdown : Shutdown
-  pub stage : Stage
-  pub last : EndsLast q shutdown stage s
-  pub waits : next ≡ next_at_stage stage
-  pub lives : alive (begins g) (events merged) q ≡ true
-  pub trapped : GoesOnFrom past g ⊎ (past ≡ [])
-      → IsSpared shutdown stage × (HasTrapped (begins g) (events merged) p q ⊎ HasTrapped [] past p q)
-
--- The child has a process that lives, or took its link with the supervisor p away itself.
-abbrev pub ChildLives : Past → Child → Pid → ShardState → GatheredState → List Stamped → Type 0
-ChildLives past child p d g merged =
-    (q : Pid) × (child.pid ≡ Some q)
-    × ((alive (begins g) (events merged) q ≡ true) ⊎ (has_cut p q (all_events past d) ≡ true))
-
--- The desk of the crew is one of the node. In each merge of the node's journals a supervisor of the crew that lives has,
--- for each child that is to live, a process that lives, or took its link with it away itself; unless it is ending one
--- that traps exits and lives on.
-abbrev pub ChildrenLive : {B : Type 0} → Past → PartOf B → Crew B → ShardState → GatheredState → Type 0
-ChildrenLive {B} past part c d g =
-    (merged : List Stamped) → IsMerge (journals g) merged → (p : Pid) (b : B) (next : Next) (s : Standing)
-    → roles c p ≡ Some (b, next) → part b ≡ Some s → lives d p ≡ true → p.shard ≡ d.number
-    → (place : ℕ) (child : Child) → slice_get s.children place ≡ Some child → child.wanted ≡ true
-    → ChildLives past child p d g merged ⊎ ((q : Pid) × IsEnding past s next p q g merged)
-
--- the node is quiet, and links and monitors stand at both ends or at neither
-pub record IsStillNode (g : GatheredState) : Type 0 where
-  pub quiet : IsQuietNode g
-  pub links : LinksStand g
-  pub watches : WatchesStand g
-
--- So it is in a node that is still: where the desk of a crew, whose supervisors uphold that their children are held, is
--- one of a gathered node that is still, and nobody of the crew has anything to do.
-abbrev pub QuietChildrenLive : {B : Type 0} → PartOf B → Type 0
-QuietChildrenLive {B} part =
-    (past : Past) (c : Crew B) (d : ShardState) (g : GatheredState) → IsGathered g → IsStillNode g
-    → d.number < length g.shards → d ≡ slice_index_or g.shards d.number d → Upholds (Keeps past part) c d
-    → IsIdle c d → ChildrenLive past part c d g

@@ -8,5 +8,3 @@ pub mod Hearing
 pub mod Calling
 pub mod Supervising
 pub mod Keeping
-pub mod Stopping
-pub mod Gathering

@@ -4,7 +4,7 @@ ghost use Rattle.std.specs.Prelude.{◌≡◌};
 ghost use Rattle.pt_supervisor.specs.Ending.{gone_in, is_noproc, is_ref, monitor_of, stage_of, unless_by, next_at_stage};
 
 use pt_crew::{CallFault, Next};
-use pt_node::{Fault, Pick, Pid, Ref};
+use pt_workers::{Fault, Pick, Pid, Ref};
 
 /// What a supervisor has done to end a child.
 #[derive(Clone, Copy, Debug, PartialEq, Eq)]

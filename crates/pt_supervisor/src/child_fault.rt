@@ -4,7 +4,7 @@ ghost use Rattle.std.specs.Prelude.{◌≡◌};
 ghost use Rattle.pt_supervisor.specs.Calling.{present_fault};
 
 use crate::seen::ChildState;
-use pt_node::Pid;
+use pt_workers::Pid;
 use thiserror::Error;
 
 /// Why a call about a child is refused. The supervisor is as it was then.

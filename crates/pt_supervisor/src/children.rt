@@ -10,7 +10,7 @@ ghost use Rattle.pt_supervisor.specs.Ending.{bids, stage_told};
 
 use crate::asked::Stage;
 use crate::restart::Restart;
-use pt_node::{Pid, Reason, Ref};
+use pt_workers::{Pid, Reason, Ref};
 
 /// How a supervisor ends a child: `shutdown` of a child's specification.
 #[derive(Clone, Copy, Debug, PartialEq, Eq)]

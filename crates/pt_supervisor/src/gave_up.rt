@@ -2,7 +2,7 @@
 
 #![tactic(auto, unfolding(crate::specs::Text::gave_up_text, crate::specs::Text::restarts_text, crate::specs::Text::unit_text))]
 
-use pt_node::Reason;
+use pt_workers::Reason;
 use std::fmt;
 
 /// Why a supervisor gave up: a child exited that was to be started again, and its limit allowed no further restart.

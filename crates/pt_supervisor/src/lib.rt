@@ -17,12 +17,7 @@
 //!   has a time to exit is killed only if its supervisor runs at that time or later and has not got that. (`EndsChild`)
 //! - **Handling.** The contract of `handle` says all that it does on the desk, also if a call fails.
 //!   (`SupervisorHandles`)
-//! - **Children are restarted.** Once the node is quiet and the crew idle, each child that a live supervisor wants is
-//!   alive, or unlinked itself. One case is left: the supervisor is ending a child that traps exits and lives on, and
-//!   has time left to. (`quiet_children_live`, `gathered_children_live`)
 //! - **Children are counted.** A supervisor counts each child that it spawns. (`CountsBirths`)
-//! - **No orphans.** No child of a supervisor that stopped by itself is alive, unless that child sent it an exit
-//!   signal. (`stopped_children_ended`)
 //! - **Permanent children.** A supervisor always wants its permanent children alive, as long as no call ends one.
 //!   (`permanent_children_live`)
 //! - **Giving up.** A supervisor that gave up says which child exited, with which reason, and how many restarts it had made
@@ -31,13 +26,12 @@
 //!   `count_children`)
 //! - **Children at run time.** Each call about a child says what it changes and when it is refused. A refused call changes
 //!   nothing. (`TerminatesChild`, `RestartsChild`, `AddsChild`, `DeletesChild`)
-//! - **Theorems at run time.** Each of these calls keeps what both theorems need. (`changed_supervisors_tend`)
+//! - **Theorems at run time.** Each of these calls keeps what both theorems on children need. (`changed_supervisors_tend`)
 #![tactic(auto)]
 
 mod asked;
 mod child_fault;
 mod children;
-mod gathering;
 mod gave_up;
 mod laws;
 mod limit;
@@ -49,11 +43,10 @@ mod supervisor;
 pub use asked::{Asked, Stage};
 pub use child_fault::ChildFault;
 pub use children::{Child, Shutdown};
-pub use gathering::gathered_children_live;
 pub use gave_up::GaveUp;
 pub use laws::{changed_supervisors_tend, permanent_children_live};
 pub use limit::Limit;
 pub use restart::{Restart, Strategy};
 pub use seen::{ChildCounts, ChildSeen, ChildState};
-pub use supervised::{Supervised, quiet_children_live, stopped_children_ended};
+pub use supervised::Supervised;
 pub use supervisor::{Start, Supervisor};

@@ -3,7 +3,7 @@
 ghost use Rattle.std.specs.Prelude.{◌≤◌, vec_capacity};
 
 use crate::gave_up::GaveUp;
-use pt_node::Reason;
+use pt_workers::Reason;
 use std::alloc::{AllocError, Global};
 
 /// At most so many restarts within a span, of stamps or of time.

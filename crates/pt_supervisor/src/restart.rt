@@ -3,7 +3,7 @@
 ghost use Rattle.std.specs.Prelude.{◌≡◌};
 ghost use Rattle.pt_supervisor.specs.Restarts.{ends_from, starts_again};
 
-use pt_node::Reason;
+use pt_workers::Reason;
 
 /// Whether a child is started again when it has exited.
 #[derive(Clone, Copy, Debug, PartialEq, Eq)]

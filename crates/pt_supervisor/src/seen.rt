@@ -6,7 +6,7 @@ ghost use Rattle.pt_supervisor.specs.Children.{is_missing};
 ghost use Rattle.pt_supervisor.specs.Seen.{child_seen, children_counted, has_process, state_of_child};
 
 use crate::children::Child;
-use pt_node::Pid;
+use pt_workers::Pid;
 use std::alloc::{AllocError, Global};
 
 /// What has become of a child's process, by all that its supervisor has heard.

@@ -14,7 +14,7 @@ use crate::limit::Limit;
 use crate::restart::Strategy;
 use crate::seen::{ChildCounts, ChildSeen, ChildState, counted, seen};
 use pt_crew::{Births, CallFault, Next, exit_signal, monitor, spawn_child, trap};
-use pt_node::{Desk, Fault, Item, Pick, Pid, Reason, Ref};
+use pt_workers::{Desk, Fault, Item, Pick, Pid, Reason, Ref};
 use std::alloc::{AllocError, Global};
 use std::mem;
 

@@ -9,4 +9,3 @@ pub mod Upheld
 pub mod Becoming
 pub mod Idle
 pub mod Keeping
-pub mod Quieting

@@ -3,4 +3,3 @@ pub mod Planning
 pub mod Members
 pub mod Teaming
 pub mod Taken
-pub mod Quieting

@@ -30,22 +30,14 @@
 //!   `MemberStays`)
 //! - **Resuming.** Over the desk of a resumed node each process is in the queue, supervisors too, and does next what it was
 //!   to do. With the history of the node before, the reason of each exit in it is kept. (`begin_again`, `TeamGoesOn`)
-//! - **Children are restarted, and no orphans.** What both theorems of `pt_supervisor` need of a crew, each call of a team
-//!   keeps; and so does the program, if it does nothing for a supervisor. So they hold of every program with a team.
-//!   (`team_children_live`, `TeamUpholds`)
-//! - **Whole nodes.** Once no team of a node has anything to do, and the node was gathered and settled, each child that a
-//!   supervisor wants alive lives, on each desk, or unlinked itself; unless the supervisor is ending one that traps exits
-//!   and lives on. (`TeamsChildrenLive`)
+//! - **What the supervisors uphold stays.** What both theorems on children need of a crew, each call of a team
+//!   keeps. (`TeamUpholds`)
 #![tactic(auto)]
 
-mod laws;
 mod member;
 mod plan;
-mod resting_node;
 mod team;
 
-pub use laws::team_children_live;
 pub use member::{Member, News, Notes, Notice};
 pub use plan::{ChildSpec, Origin, Plan, Post, SupervisorSpec};
-pub use resting_node::node_children_live;
 pub use team::Team;

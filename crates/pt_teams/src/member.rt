@@ -12,8 +12,8 @@ ghost use Rattle.pt_teams.specs.Members.{boss_part, member_answers, news_of, not
 
 use crate::plan::{Origin, Plan, Post, mark};
 use pt_crew::{Behaviour, Births, Next, Role};
-use pt_node::{Desk, Item, Pid, Reason};
 use pt_supervisor::{Child, Supervised, Supervisor};
+use pt_workers::{Desk, Item, Pid, Reason};
 
 /// What is told of a process.
 #[derive(Clone, Copy, Debug, PartialEq, Eq)]

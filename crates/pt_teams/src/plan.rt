@@ -8,8 +8,8 @@ ghost use Rattle.pt_teams.specs.Planning.{begun_as, child_as, post_as, post_at, 
 
 use crate::member::Member;
 use pt_crew::Next;
-use pt_node::{Fault, Pid};
 use pt_supervisor::{Child, Limit, Restart, Shutdown, Start, Strategy, Supervisor};
+use pt_workers::{Fault, Pid};
 use std::alloc::{AllocError, Global};
 
 /// What a supervisor knows of a child: the tag that it is started with, whether it is started again, and how it is ended.

@@ -27,8 +27,8 @@ use crate::member::{Member, News, Notes, Notice, notice_of_exit};
 use crate::plan::{ChildSpec, Plan, SupervisorSpec, supervisor};
 use pt_crew::{Crew, Next};
 use pt_events::Stamped;
-use pt_node::{Desk, Event, Fault, Loss, Pid, Reason};
 use pt_supervisor::{Child, Supervisor};
+use pt_workers::{Desk, Event, Fault, Loss, Pid, Reason};
 use std::alloc::{AllocError, Global};
 
 /// The processes of one desk whose handlers are outside, and their supervisors, which are processes of the same desk.

@@ -1,5 +1,5 @@
 -- `Team::is_idle`: its clauses `quiet` and `told`.
-use Rattle.pt_supervisor.proofs.Still.{awake_idle}
+use Rattle.pt_supervisor.proofs.Resting.{awake_idle}
 use Rattle.pt_teams.proofs.Idle.{none_noted}
 use Rattle.pt_teams.proofs.team.Team.is_idle.Goals as goal
 

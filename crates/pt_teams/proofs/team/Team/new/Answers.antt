@@ -1,7 +1,7 @@
 -- `Team::new`: its clauses `attends` and `upholds`.
 use Rattle.std.proofs.Common.{refl}
 use Rattle.pt_supervisor.specs.Keeping.{Keeps}
-use Rattle.pt_supervisor.proofs.Still.{nobody_upholds}
+use Rattle.pt_supervisor.proofs.Resting.{nobody_upholds}
 use Rattle.pt_teams.specs.Members.{boss_part}
 use Rattle.pt_teams.proofs.Noting.{attends_new}
 use Rattle.pt_teams.proofs.team.Team.new.Goals as goal

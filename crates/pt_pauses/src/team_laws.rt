@@ -7,14 +7,14 @@ ghost use Rattle.pt_desk.specs.DeskState.{DeskState};
 ghost use Rattle.pt_desk.specs.Turns.{Turns};
 ghost use Rattle.pt_desk.specs.declared.turned.Turned.{Turned};
 ghost use Rattle.pt_crew.specs.Upholding.{IsLater};
-ghost use Rattle.pt_supervisor.specs.Keeping.{QuietChildrenLive};
-ghost use Rattle.pt_supervisor.specs.Stopping.{StoppedChildrenEnded};
+ghost use Rattle.pt_pauses.specs.Still.{QuietChildrenLive};
+ghost use Rattle.pt_pauses.specs.Stopping.{StoppedChildrenEnded};
 ghost use Rattle.pt_teams.specs.declared.team.Team.{Team};
 ghost use Rattle.pt_teams.specs.Members.{boss_part};
 ghost use Rattle.pt_teams.specs.Teaming.{AreLeftAlone, TeamUpholds};
 
-use crate::member::Member;
-use pt_supervisor::{quiet_children_live, stopped_children_ended};
+use crate::supervised::{quiet_children_live, stopped_children_ended};
+use pt_teams::Member;
 
 /// In a node that is still, each child that a supervisor of a team wants alive is alive, or unlinked itself from the
 /// supervisor, unless that is ending a child that traps exits and lives on (`live`). If a supervisor stopped by itself, no child that it ever started is alive, unless that child sent

@@ -1,6 +1,6 @@
 //! What holds of the teams of all desks of a node that is still, as the contract of a function that does nothing.
 
-ghost use Rattle.pt_teams.specs.Quieting.{TeamsChildrenLive};
+ghost use Rattle.pt_pauses.specs.Quieting.{TeamsChildrenLive};
 
 use pt_laws::{laws, links};
 
@@ -8,7 +8,7 @@ use pt_laws::{laws, links};
 /// alive is alive, on each desk, or unlinked itself; unless the supervisor is ending a child that traps exits and lives on.
 /// The function does nothing: its contract is the promise.
 ///
-/// It needs what each call of a team keeps (`AttendsTeam`, `TeamUpholds`), and that [`Team::is_idle`](crate::Team::is_idle)
+/// It needs what each call of a team keeps (`AttendsTeam`, `TeamUpholds`), and that [`Team::is_idle`](pt_teams::Team::is_idle)
 /// is true of each over its desk.
 pub fn node_children_live()
     ensures { TeamsChildrenLive }

@@ -2,8 +2,9 @@
 use Rattle.pt_crew.proofs.Upholding.{step_upholds, work_upholds, receipt_upholds, enter_upholds}
 use Rattle.pt_supervisor.specs.Keeping.{Keeps}
 use Rattle.pt_supervisor.proofs.Tending.{begins, upheld}
-use Rattle.pt_supervisor.proofs.Still.{nobody_upholds, awake_idle, children_live}
-use Rattle.pt_supervisor.proofs.supervised.quiet_children_live.Goals as goal
+use Rattle.pt_pauses.proofs.Still.{children_live}
+use Rattle.pt_supervisor.proofs.Resting.{nobody_upholds, awake_idle}
+use Rattle.pt_pauses.proofs.supervised.quiet_children_live.Goals as goal
 
 pub returns-clause-nobody : goal.returns-clause-nobody
 returns-clause-nobody g c = λ past. nobody_upholds (Keeps past g.B.Supervised.supervisor)

@@ -32,12 +32,12 @@ use Rattle.pt_crew.specs.Upholding.{StandsStill, child_by, children_by}
 use Rattle.pt_crew.proofs.Waking.{by_cases}
 use Rattle.pt_supervisor.specs.Hearing.{Standing}
 use Rattle.pt_supervisor.specs.Keeping.{tells_end, has_told, WereTold, all_children, all_events, IsPlaced, PartOf, HoldsAs, Keeps}
-use Rattle.pt_supervisor.specs.Stopping.{bids_end, has_bidden, IsAllBefore, StoppedChildrenEnded}
+use Rattle.pt_pauses.specs.Stopping.{bids_end, has_bidden, IsAllBefore, StoppedChildrenEnded}
 use Rattle.pt_supervisor.proofs.Tying.{or_left, or_right}
 use Rattle.pt_supervisor.proofs.Families.{none_at}
 use Rattle.pt_supervisor.proofs.Telling.{new_told}
-use Rattle.pt_supervisor.proofs.Before.{desk_told}
-use Rattle.pt_supervisor.proofs.Ended.{shows_end, ended_later, ended_told}
+use Rattle.pt_pauses.proofs.Before.{desk_told}
+use Rattle.pt_pauses.proofs.Ended.{shows_end, ended_later, ended_told}
 
 -- lists --------------------------------------------------------------------------------------------
 

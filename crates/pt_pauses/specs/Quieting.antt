@@ -5,8 +5,8 @@ use Rattle.pt_desk.specs.DeskState.{DeskState}
 use Rattle.pt_gathered.specs.Gathered.{GatheredState, IsGathered}
 use Rattle.pt_workers.specs.Desks.{all_shards}
 use Rattle.pt_crew.specs.Running.{is_idle}
-use Rattle.pt_supervisor.specs.Gathering.{AllChildrenLive}
-use Rattle.pt_supervisor.specs.Keeping.{IsStillNode}
+use Rattle.pt_pauses.specs.Gathering.{AllChildrenLive}
+use Rattle.pt_pauses.specs.Still.{IsStillNode}
 use Rattle.pt_teams.specs.declared.team.Team.{Team}
 use Rattle.pt_teams.specs.Members.{boss_part}
 use Rattle.pt_teams.specs.Teaming.{AttendsTeam, TeamUpholds, team_crew}

@@ -9,8 +9,9 @@ use Rattle.pt_crew.specs.Crews.{members, queue}
 use Rattle.pt_crew.specs.Running.{is_idle, UpholdsOn}
 use Rattle.pt_crew.proofs.Runs.{idle_awake}
 use Rattle.pt_supervisor.specs.Keeping.{Keeps, PartOf}
-use Rattle.pt_supervisor.specs.Gathering.{GatheredChildrenLive}
-use Rattle.pt_supervisor.proofs.Still.{StillLaws, awake_idle, children_live}
+use Rattle.pt_pauses.specs.Gathering.{GatheredChildrenLive}
+use Rattle.pt_pauses.proofs.Still.{StillLaws, children_live}
+use Rattle.pt_supervisor.proofs.Resting.{awake_idle}
 
 abbrev shard_of : DeskState → ShardState
 shard_of d = d.shard

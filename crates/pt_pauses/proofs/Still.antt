@@ -39,12 +39,10 @@ use Rattle.pt_workers.specs.Waking.{need_not_wait}
 use Rattle.pt_gathered.proofs.StartStates.{said_here}
 use Rattle.pt_crew.specs.declared.behaviour.Next.{Next}
 use Rattle.pt_crew.specs.declared.behaviour.Next.TheVariants.{Wait, WaitUntil, Proceed, Running, Stop}
-use Rattle.pt_crew.specs.declared.crew.Member.{Member}
 use Rattle.pt_crew.specs.declared.crew.Crew.{Crew}
-use Rattle.pt_crew.specs.Waking.{IsAwake, has_work, in_queue}
-use Rattle.pt_crew.specs.Crews.{members, queue, role, roles, waiting}
-use Rattle.pt_crew.specs.Upholding.{Relation, AllFirst, Upholds}
-use Rattle.pt_crew.proofs.Waking.{by_cases, some_none}
+use Rattle.pt_crew.specs.Waking.{has_work}
+use Rattle.pt_crew.specs.Crews.{roles}
+use Rattle.pt_crew.proofs.Waking.{by_cases}
 use Rattle.pt_supervisor.specs.declared.asked.Stage.{Stage}
 use Rattle.pt_supervisor.specs.declared.asked.Stage.TheVariants.{Waiting, Until, Killed}
 use Rattle.pt_supervisor.specs.declared.children.Child.{Child}
@@ -54,33 +52,13 @@ use Rattle.pt_supervisor.specs.Children.{last_alive, leaving, leaving_in, or_bef
 use Rattle.pt_supervisor.specs.Ending.{monitor_of, told_in, next_at_stage}
 use Rattle.pt_supervisor.specs.Hearing.{Standing}
 use Rattle.pt_supervisor.specs.Supervising.{EndsLast}
-use Rattle.pt_supervisor.specs.Keeping.{pid_of_child, is_end_of, has_cut, all_events, IsHeld, IsPlaced, IsWatched, IsAsked, bids_to, has_bid_to, HasTrapped, IsSpared, IsEnding, ChildLives, IsStillNode, Holds, PartOf, HoldsAs, IsIdle, QuietChildrenLive}
-use Rattle.pt_supervisor.proofs.Homes.{born_here}
-use Rattle.pt_supervisor.proofs.Opened.{keeper_lives, open_among, open_made, some_counted}
-use Rattle.pt_supervisor.proofs.Stopping.{any_both, any_events, any_filter, ended_stays, known_ended, not_alive}
-use Rattle.pt_supervisor.proofs.Trapping.{quiet_killed, quiet_trapped, told_born}
+use Rattle.pt_supervisor.specs.Keeping.{pid_of_child, is_end_of, has_cut, all_events, IsHeld, IsPlaced, IsWatched, IsAsked, bids_to, has_bid_to, Holds, PartOf, HoldsAs, IsIdle}
+use Rattle.pt_pauses.specs.Still.{HasTrapped, IsSpared, IsEnding, ChildLives, IsStillNode, QuietChildrenLive}
+use Rattle.pt_pauses.proofs.Homes.{born_here}
+use Rattle.pt_pauses.proofs.Opened.{keeper_lives, open_among, open_made, some_counted}
+use Rattle.pt_pauses.proofs.Stopping.{any_both, any_events, any_filter, ended_stays, known_ended, not_alive}
+use Rattle.pt_pauses.proofs.Trapping.{quiet_killed, quiet_trapped, told_born}
 use Rattle.pt_supervisor.proofs.Wanting.{lives_when_wanted}
-
--- a crew of nobody upholds what it likes
-pub nobody_upholds : {B : Type 0} (stands : Relation B) (c : Crew B) (d : ShardState) → ((p : Pid) → roles c p ≡ None) → waiting c ≡ [] → Upholds stands c d
-nobody_upholds stands c d none bare = record {
-  members = λ p r is. some_none (roles c p) r (none p) is;
-  waiting = subst (AllFirst stands) (sym bare) tt;
-}
-
--- a crew with an empty queue, in which whoever has something to do stands there, is idle
-member_of : {B : Type 0} (o : Option (Member B)) (r : B × Next) → option_map role o ≡ Some r → (m : Member B) × (o ≡ Some m) × (role m ≡ r)
-member_of None r is = absurd (cc)
-member_of (Some m) r is = (m, refl, cc)
-
-pub awake_idle : {B : Type 0} (c : Crew B) (d : ShardState) → IsAwake (members c) (queue c) d → queue c ≡ [] → IsIdle c d
-awake_idle c d awake bare p r is =
-    let m = member_of (members c p) r is in
-    by_cases (has_work r.1 (phase_of d p))
-    (λ works.
-    let stands : in_queue p (queue c) ≡ true = awake p m.0 m.1 (ap (λ (x : _ × Next). has_work x.1 (phase_of d p)) m.2 ∙ works) in
-    let bad : false ≡ true = sym (ap (in_queue p) bare) ∙ stands in absurd (cc))
-    (λ none. none)
 
 -- of one that has nothing to do no item waits
 none_waits : (test : Item → Bool) (items : List Item) → is_some (find (fits Pick.Any) items) ≡ false → list_any test items ≡ true → ⊥

@@ -5,11 +5,11 @@ ghost use Rattle.pt_workers.specs.Running.{begins_by};
 ghost use Rattle.pt_workers.specs.declared.work.Standing.TheVariants.{Going};
 ghost use Rattle.pt_crew.specs.Running.{RestUpholds, RoundsUphold, RunUpholds};
 ghost use Rattle.pt_supervisor.specs.Keeping.{Keeps};
-ghost use Rattle.pt_supervisor.specs.Gathering.{GatheredChildrenLive};
+ghost use Rattle.pt_pauses.specs.Gathering.{GatheredChildrenLive};
 
-use crate::supervised::Supervised;
 use pt_laws::{laws, links};
 use pt_node::Gate;
+use pt_supervisor::Supervised;
 
 /// On each desk of a gathered node, each child that its supervisor wants alive is alive, or unlinked itself from the
 /// supervisor; unless the supervisor is ending a child that traps exits and lives on. The function does nothing: its

@@ -10,7 +10,7 @@ use Rattle.pt_teams.specs.declared.member.Member.{Member}
 use Rattle.pt_teams.specs.declared.team.Team.{Team}
 use Rattle.pt_teams.specs.Members.{boss_part}
 use Rattle.pt_teams.specs.Teaming.{team_crew}
-use Rattle.pt_teams.specs.Quieting.{AllTeamsUphold, AreTeamsIdle}
+use Rattle.pt_pauses.specs.Quieting.{AllTeamsUphold, AreTeamsIdle}
 
 first_team : (ts : List Team) → 0 < length ts → Team
 first_team [] l = absurd (omega (arith, l))

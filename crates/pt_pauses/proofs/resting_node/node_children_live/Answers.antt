@@ -1,10 +1,10 @@
 -- `node_children_live`: its contract.
 use Rattle.std.proofs.Common.{map}
-use Rattle.pt_supervisor.proofs.AllLive.{all_children_live}
+use Rattle.pt_pauses.proofs.AllLive.{all_children_live}
 use Rattle.pt_teams.specs.Members.{boss_part}
 use Rattle.pt_teams.specs.Teaming.{team_crew}
-use Rattle.pt_teams.proofs.Quieting.{crews_idle, crews_uphold}
-use Rattle.pt_teams.proofs.resting_node.node_children_live.Goals as goal
+use Rattle.pt_pauses.proofs.Quieting.{crews_idle, crews_uphold}
+use Rattle.pt_pauses.proofs.resting_node.node_children_live.Goals as goal
 
 pub returns : goal.returns
 returns c = λ past teams desks g u idle.

@@ -4,8 +4,8 @@ use Rattle.pt_workers.specs.declared.work.Standing.TheVariants.{Going}
 use Rattle.pt_crew.proofs.Runs.{run_upholds, rounds_uphold, rest_upholds}
 use Rattle.pt_supervisor.specs.Keeping.{Keeps}
 use Rattle.pt_supervisor.proofs.Tending.{upheld}
-use Rattle.pt_supervisor.proofs.AllLive.{all_children_live}
-use Rattle.pt_supervisor.proofs.gathering.gathered_children_live.Goals as goal
+use Rattle.pt_pauses.proofs.AllLive.{all_children_live}
+use Rattle.pt_pauses.proofs.gathering.gathered_children_live.Goals as goal
 
 pub returns-clause-run : goal.returns-clause-run
 returns-clause-run g c =

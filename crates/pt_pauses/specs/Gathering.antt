@@ -7,7 +7,8 @@ use Rattle.pt_gathered.specs.Gathered.{GatheredState, IsGathered}
 use Rattle.pt_workers.specs.Desks.{all_shards}
 use Rattle.pt_crew.specs.declared.crew.Crew.{Crew}
 use Rattle.pt_crew.specs.Running.{AllUphold, AreIdle}
-use Rattle.pt_supervisor.specs.Keeping.{ChildrenLive, IsStillNode, Keeps, PartOf}
+use Rattle.pt_supervisor.specs.Keeping.{Keeps, PartOf}
+use Rattle.pt_pauses.specs.Still.{ChildrenLive, IsStillNode}
 
 -- on each desk of the node each child that its supervisor wants alive lives, or took its link away itself; unless the
 -- supervisor is ending one that traps exits and lives on

@@ -2,8 +2,8 @@
 use Rattle.pt_crew.proofs.Upholding.{step_left, work_left, receipt_left}
 use Rattle.pt_supervisor.specs.Keeping.{Keeps}
 use Rattle.pt_supervisor.proofs.Tending.{upheld}
-use Rattle.pt_supervisor.proofs.Stopping.{stopped_children}
-use Rattle.pt_supervisor.proofs.supervised.stopped_children_ended.Goals as goal
+use Rattle.pt_pauses.proofs.Stopping.{stopped_children}
+use Rattle.pt_pauses.proofs.supervised.stopped_children_ended.Goals as goal
 
 pub returns-clause-left : goal.returns-clause-left
 returns-clause-left g c = λ past. step_left g.B.Behaviour.answers (Keeps past g.B.Supervised.supervisor) (upheld past g.B.Supervised.supervisor g.B.Behaviour.answers g.met.B.Supervised.supervises)
