@@ -1,4 +1,4 @@
--- How a supervisor's children are on its desk.
+-- How a supervisor's children are on its desk, and in a node that is still.
 --
 -- Everywhere here `past` is what happened on a desk, or on its node, before the desk's journal: [] where nothing is known
 -- of it.
