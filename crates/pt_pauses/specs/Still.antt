@@ -25,6 +25,7 @@ use Rattle.pt_supervisor.specs.declared.children.Shutdown.{Shutdown}
 use Rattle.pt_supervisor.specs.Ending.{next_at_stage}
 use Rattle.pt_supervisor.specs.Hearing.{Standing}
 use Rattle.pt_supervisor.specs.Supervising.{EndsLast}
+use Rattle.pt_supervisor.specs.Keeping.{has_cut, all_events, PartOf, Keeps, IsIdle}
 
 -- as an exit signal `shutdown` of me came to q, q trapped exits
 abbrev pub HasTrapped : Start → Past → Pid → Pid → Type 0
