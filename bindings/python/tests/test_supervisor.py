@@ -199,11 +199,12 @@ class Restarts(Case):
 
     @supervised
     async def test_restarts_of_long_ago_do_not_count(self) -> None:
-        supervisor = await self.started(self.three(r.Supervisor.one_for_one().limit(1, 0.05)))
-        for _ in range(4):
+        # (a span that two crashes meet on a busy machine, too)
+        supervisor = await self.started(self.three(r.Supervisor.one_for_one().limit(1, 0.6)))
+        for _ in range(3):
             await self.crash(supervisor, "a")
             await self.noted(f"-a {CRASHED}", "+a")
-            await asyncio.sleep(0.08)
+            await asyncio.sleep(0.9)
         self.assertTrue(supervisor.is_alive())
         await self.crash(supervisor, "a")
         await self.noted(f"-a {CRASHED}", "+a")
