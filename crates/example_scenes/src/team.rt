@@ -22,7 +22,9 @@ use crate::stage::{BUDGET, Curtain, DESKS, first_of, rested};
 use anyhow::{Result, bail};
 use pt_crew::{Behaviour, Births, Crew, Next, are_idle};
 use pt_node::{Account, Config, Desk, Fault, FreeGate, Item, Node, Pick, Pid, Quiet, Reason, open};
-use pt_pauses::{gathered_children_live, paused_children_live, quiet_children_live, stopped_children_ended};
+use pt_pauses::{
+    gathered_children_live, paused_children_live, quiet_children_live, stopped_children_ended,
+};
 use pt_resting::{RestGate, RestingWork};
 use pt_supervisor::{Child, Limit, Restart, Start, Strategy, Supervised, Supervisor};
 use std::alloc::{AllocError, Global};
