@@ -30,8 +30,8 @@ tried too, and the refusal does not count if the twin fails at a goal of the sam
 
 A verdict is kept in verdicts.txt beside the checksum of all that it was made from. A run tries the edits whose verdict is
 out of date, and a tenth of the others with one, drawn by the commit. It counts those that never had a verdict, which `--new`
-tries. A kept verdict that a trial contradicts fails the run. So does an edit that names no clause. An edit with a line `open: REASON` is one that no clause refuses yet. It is counted and printed, and fails if a
-clause refuses it.
+tries. A kept verdict that a trial contradicts fails the run. So does an edit that names no clause. An edit with a line
+`open: REASON` is one that no clause refuses yet. It is counted and printed, and fails if a clause refuses it.
 
 An edit of something outside of all functions, as a constant, may reach any function, so it is tried alone. A line
 `fn: PATH` names the function whose goal is to refuse it.
