@@ -265,7 +265,7 @@ def codes_of(source: Source, sections: list[Section]) -> list[Codes]:
     """All enumerations, in the order of the table."""
     listed = [source.codes(entry) for section in sections for entry in section.entries if entry.kind == "codes"]
     used = {code.source for codes in listed for code in codes.codes}
-    for record in ("PtCodes", "PtTeamCodes"):
+    for record in ("PtCodes", "PtSupervisorCodes"):
         for it in source.struct(record).fields:
             if it.kind == "u32" and it.name not in used:
                 raise Fault(f"bindings/abi.txt has no name for the code {it.name} of {record}")
@@ -307,7 +307,7 @@ def rust_name(kind: str) -> str:
 
 def rust_struct(struct: Struct) -> str:
     fields = "".join(f"    pub {it.name}: {rust_name(it.kind)},\n" for it in struct.fields)
-    compared = ", PartialEq, Eq" if struct.name in ("PtCodes", "PtTeamCodes") else ""
+    compared = ", PartialEq, Eq" if struct.name in ("PtCodes", "PtSupervisorCodes") else ""
     return (f"#[repr(C)]\n#[derive(Clone, Copy, Debug, Default{compared})]\npub struct {rust_name(struct.name)} {{\n"
             f"{fields}}}\n")
 
@@ -372,7 +372,8 @@ def rust_of(source: Source, sections: list[Section], header: str) -> str:
         + consts + "\n" + "\n".join(rust_struct(it) for it in structs if it.name not in RUST_OWN) + "\n"
         + "".join(map(rust_default, defaults)) + "\n" + rust_said(source, sections, "PtCodes", "CODES") + "\n"
         + rust_said(source, sections, "PtSizes", "SIZES") + "\n"
-        + rust_said(source, sections, "PtTeamCodes", "TEAM_CODES") + "\n" + "".join(map(rust_assert, structs)) + "\n"
+        + rust_said(source, sections, "PtSupervisorCodes", "SUPERVISOR_CODES") + "\n"
+        + "".join(map(rust_assert, structs)) + "\n"
         + "unsafe extern \"C\" {\n    /// The first byte of a text that ends with a zero.\n"
         + f"    pub static pundewo_build: std::ffi::c_char;\n\n{calls}}}\n")
 
@@ -419,10 +420,10 @@ def python_of(source: Source, sections: list[Section], header: str) -> str:
     words = "".join(python_row(f"{it.name.removeprefix('pt_').upper()}S = (", [f'"{word}"' for word in it.words()], ")")
                     for it in others)
     said = "".join(python_row(f"{name} = {{", [f'"{field}": {number}' for field, number in source.said(record)], "}")
-                   for record, name in (("PtCodes", "CODES"), ("PtTeamCodes", "TEAM_CODES")))
+                   for record, name in (("PtCodes", "CODES"), ("PtSupervisorCodes", "SUPERVISOR_CODES")))
     return (
         '"""The structs, codes and calls of the library. Written by bindings/abi.py: change nothing here.\n\n'
-        "pundewo.h says what they mean. `CODES` and `TEAM_CODES` are what the library says of its codes.\n\"\"\"\n\n"
+        "pundewo.h says what they mean. `CODES` and `SUPERVISOR_CODES` are what the library says of its codes.\n\"\"\"\n\n"
         "from __future__ import annotations\n\n"
         "import ctypes as c\nfrom enum import IntEnum\nfrom typing import Any\n\n\n"
         'class Code(IntEnum):\n    """What calls return."""\n\n'

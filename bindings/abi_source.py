@@ -27,7 +27,7 @@ ARRAY = re.compile(r"\[(\w+); (\d+)\]")
 RECORDS = {
     "PtCodes": ("pt_calls/specs/About.antt", "all_codes"),
     "PtSizes": ("pt_calls/specs/About.antt", "all_sizes"),
-    "PtTeamCodes": ("pt_calls/specs/AboutTeams.antt", "all_team_codes"),
+    "PtSupervisorCodes": ("pt_calls/specs/AboutSupervisors.antt", "all_supervisor_codes"),
     "PtAskingAbout": ("pt_asking/specs/About.antt", "asking_about"),
 }
 # A code that no such record has: the function that makes it.
@@ -258,5 +258,5 @@ class Source:
             for name, number in self.numbers[record].items():
                 short = name.removesuffix("_size")
                 found = [it for it in self.structs.values() if snake(it.name) == {"reference": "ref"}.get(short, short)]
-                if found and (record in ("PtSizes", "PtTeamCodes") or name.endswith("_size")):
+                if found and (record in ("PtSizes", "PtSupervisorCodes") or name.endswith("_size")):
                     yield found[0].name, number, found[0].size

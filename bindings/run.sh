@@ -118,8 +118,8 @@ by_the_page() { # SED-SCRIPT
 mkdir -p "$work/page"
 ln -s "$here" "$work/page/bindings"
 by_the_page '' >"$work/printed"
-for example in about asking bad_codes crew crew_load layout losses no_memory refused refused_team refused_tools resumed ring \
-    supervisor team tools; do
+for example in about asking bad_codes crew crew_load crew_supervisors layout losses no_memory refused refused_supervisors \
+    refused_tools resumed ring supervisor tools; do
     by_the_page "/^\.\//d; s/ping_pong/$example/g" >"$work/printed"
     [ -x "$work/page/$example" ] || { echo "bindings: the lines of docs/EMBEDDING.md do not build $example"; exit 1; }
 done
@@ -133,6 +133,7 @@ build asking
 build bad_codes
 build crew
 build crew_load
+build crew_supervisors
 build layout
 build rows
 build supervisor
@@ -142,24 +143,23 @@ build resumed
 build no_memory
 build losses
 build refused
-build refused_team
+build refused_supervisors
 build refused_tools
-build team
 "$work/about"
 "$work/layout"
 "$work/bad_codes"
 "$work/crew_load"
 "$work/asking" | diff "$here/c/asking.out" -
 "$work/crew" | diff "$here/c/crew.out" -
+"$work/crew_supervisors" | diff "$here/c/crew_supervisors.out" -
 "$work/rows" "$work/table"
 "$work/no_memory"
 "$work/losses"
 "$work/refused"
-"$work/refused_team"
+"$work/refused_supervisors"
 "$work/refused_tools"
 "$work/supervisor" | diff "$here/c/supervisor.out" -
 "$work/resumed" | diff "$here/c/resumed.out" -
-"$work/team" | diff "$here/c/team.out" -
 "$work/tools" | diff "$here/c/tools.out" -
 "$work/ring" >"$work/printed"
 strict="-Wall -Wextra -Wpedantic -pedantic-errors -Werror -fsyntax-only"
@@ -173,7 +173,8 @@ done
 if command -v valgrind >/dev/null; then
     # (fair: four threads that spin would else wait for each other for minutes)
     memory="valgrind -q --fair-sched=try --error-exitcode=9 --leak-check=full --show-leak-kinds=all --errors-for-leak-kinds=all"
-    for program in about asking bad_codes losses "rows $work/table" supervisor resumed team tools "ring 20" crew "crew_load 3000"; do
+    for program in about asking bad_codes losses "rows $work/table" supervisor resumed tools "ring 20" crew crew_supervisors \
+        "crew_load 3000"; do
         $memory "$work/"$program >"$work/printed" 2>&1 \
             || { cat "$work/printed"; echo "valgrind: $program is not clean"; exit 1; }
     done
@@ -190,7 +191,7 @@ echo "c: examples passed"
     cargo test -q --offline
     RUSTDOCFLAGS="-D warnings" cargo doc -q --offline --no-deps
     cargo run -q --offline --example supervisor | diff "$here/c/supervisor.out" -
-    cargo run -q --offline --example team | diff "$here/c/team.out" -
+    cargo run -q --offline --example crew_supervisors | diff "$here/c/crew_supervisors.out" -
     cargo run -q --offline --example ring >"$work/printed"
     cargo run -q --offline --example ping_pong 200 >"$work/printed"
     if cargo clippy --version >/dev/null 2>&1; then
@@ -226,7 +227,7 @@ echo "rust: the telephone exchange passed"
     python3 -m unittest discover -q -s tests
     PYTHONPATH=. python3 examples/supervisor.py | diff "$here/c/supervisor.out" -
     PYTHONPATH=. python3 examples/crew.py | diff "$here/c/crew.out" -
-    PYTHONPATH=. python3 examples/team.py | diff "$here/c/team.out" -
+    PYTHONPATH=. python3 examples/crew_supervisors.py | diff "$here/c/crew_supervisors.out" -
     if command -v mypy >/dev/null; then
         for level in 3.9 "$(python3 -c 'import sys; print("%d.%d" % sys.version_info[:2])')"; do
             mypy --strict --cache-dir=/dev/null --python-version "$level" pundewo build_wheel.py examples tests ../bad_clients.py

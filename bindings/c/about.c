@@ -66,6 +66,7 @@ static void samples(void) {
     NEXT(c.slots); NEXT(c.top_version); NEXT(c.lane); NEXT(c.start);
     SAMPLE(pt_job, j, pt_about_job);
     NEXT(j.code); pid(j.pid); NEXT(j.tag); item(j.item); reason(j.reason); does(j.was);
+    TRUE(j.has_supervisor); TRUE(j.again); pid(j.supervisor);
     SAMPLE(pt_answer, b, pt_about_answer);
     pid(b.pid); does(b.next);
 }
@@ -91,26 +92,22 @@ static void asking(void) {
     is("pt_post", size, sizeof(pt_post));
 }
 
-/* The structs of teams. */
-static void teams(void) {
-    pt_team_codes told;
+/* The structs and the codes of supervisors. */
+static void supervisors(void) {
+    pt_supervisor_codes told;
     SAMPLE(pt_supervisor_spec, s, pt_about_supervisor_spec);
     NEXT(s.strategy); TRUE(s.timed); TRUE(s.has_parent); pid(s.parent); NEXT(s.most); NEXT(s.span);
     SAMPLE(pt_child_spec, c, pt_about_child_spec);
     NEXT(c.tag); NEXT(c.restart); NEXT(c.shutdown); NEXT(c.time);
     SAMPLE(pt_child, d, pt_about_child);
     TRUE(d.has_pid); TRUE(d.wanted); pid(d.pid); NEXT(d.restart); NEXT(d.shutdown); NEXT(d.time);
-    SAMPLE(pt_notice, n, pt_about_notice);
-    NEXT(n.job.code); pid(n.job.pid); NEXT(n.job.tag); item(n.job.item); reason(n.job.reason); does(n.job.was);
-    TRUE(n.has_supervisor); TRUE(n.again); pid(n.supervisor);
-    pt_about_teams(&told);
+    pt_about_supervisors(&told);
     const uint64_t written[] = {told.one_for_one, told.one_for_all, told.rest_for_one, told.permanent, told.transient,
-        told.temporary, told.infinity, told.after, told.brutal_kill, told.supervisor_spec, told.child_spec, told.child,
-        told.notice};
+        told.temporary, told.infinity, told.after, told.brutal_kill, told.supervisor_spec, told.child_spec, told.child};
     const uint64_t all[] = {PT_ONE_FOR_ONE, PT_ONE_FOR_ALL, PT_REST_FOR_ONE, PT_PERMANENT, PT_TRANSIENT, PT_TEMPORARY,
         PT_SHUTDOWN_INFINITY, PT_SHUTDOWN_AFTER, PT_BRUTAL_KILL, sizeof(pt_supervisor_spec), sizeof(pt_child_spec),
-        sizeof(pt_child), sizeof(pt_notice)};
-    for (size_t k = 0; k < sizeof all / sizeof *all; k++) is("a code or a size of teams", written[k], all[k]);
+        sizeof(pt_child)};
+    for (size_t k = 0; k < sizeof all / sizeof *all; k++) is("a code or a size of supervisors", written[k], all[k]);
 }
 
 static void sizes(void) {
@@ -180,7 +177,7 @@ int main(void) {
     asking();
     sizes();
     codes();
-    teams();
+    supervisors();
     printf("c: about, %d wrong\n", wrong);
     return wrong != 0;
 }

@@ -15,11 +15,11 @@
  *  - Every pointer is valid and aligned, what it points to is initialized, and no two pointers of one call overlap.
  *  - A bool is 0 or 1. A code in a struct that you pass in may have any value: PT_BAD_CODE is returned for one that
  *    means nothing.
- *  - A crew is used with one desk: that of its first call. After pt_crews_go_on or pt_crew_begin_again it is used
+ *  - A crew is used with one desk: that of its first call. After pt_crews_go_on or its like it is used
  *    with the desk of the same number in the node that was resumed. PT_WRONG_DESK is returned for a desk of another
- *    number. A desk of the same number in another node is not detected. The same holds for a team.
- *  - pt_gather, pt_crews_go_on and pt_teams_go_on get the desks of one pt_open or of one resumption. They detect
- *    whether these are all, and in order, but not whether they are of one node.
+ *    number. A desk of the same number in another node is not detected.
+ *  - pt_gather and pt_crews_go_on get the desks of one pt_open or of one resumption. They detect whether these are
+ *    all, and in order, but not whether they are of one node.
  *  - malloc, realloc and free belong to one allocator, with malloc's usual alignment. No call is made from a signal
  *    handler, or in the forked child of a process with threads.
  *
@@ -58,7 +58,6 @@ typedef struct pt_quiet { void *at; } pt_quiet;
 typedef struct pt_settled { void *at; } pt_settled;
 typedef struct pt_history { void *at; } pt_history;
 typedef struct pt_crew { void *at; } pt_crew;
-typedef struct pt_team { void *at; } pt_team;
 typedef struct pt_timers { void *at; } pt_timers;
 typedef struct pt_names { void *at; } pt_names;
 typedef struct pt_door { void *at; } pt_door;
@@ -71,7 +70,6 @@ typedef struct pt_way_in { void *at; } pt_way_in;
 #define PT_SETTLED_INIT {NULL}
 #define PT_HISTORY_INIT {NULL}
 #define PT_CREW_INIT {NULL}
-#define PT_TEAM_INIT {NULL}
 #define PT_TIMERS_INIT {NULL}
 #define PT_NAMES_INIT {NULL}
 #define PT_DOOR_INIT {NULL}
@@ -85,7 +83,6 @@ typedef struct pt_way_in { void *at; } pt_way_in;
 #define PT_NO_SETTLED pt_settled{nullptr}
 #define PT_NO_HISTORY pt_history{nullptr}
 #define PT_NO_CREW pt_crew{nullptr}
-#define PT_NO_TEAM pt_team{nullptr}
 #define PT_NO_TIMERS pt_timers{nullptr}
 #define PT_NO_NAMES pt_names{nullptr}
 #define PT_NO_DOOR pt_door{nullptr}
@@ -97,7 +94,6 @@ typedef struct pt_way_in { void *at; } pt_way_in;
 #define PT_NO_SETTLED ((pt_settled){0})
 #define PT_NO_HISTORY ((pt_history){0})
 #define PT_NO_CREW ((pt_crew){0})
-#define PT_NO_TEAM ((pt_team){0})
 #define PT_NO_TIMERS ((pt_timers){0})
 #define PT_NO_NAMES ((pt_names){0})
 #define PT_NO_DOOR ((pt_door){0})
@@ -126,7 +122,7 @@ enum pt_code {
     PT_BAD_START = 15,       /* a start of at most 2^62 */
     PT_BAD_CODE = 16,        /* a code in a struct that was passed in means nothing */
     PT_NOT_RUNNING = 17,     /* an answer for a process that is not running */
-    PT_WRONG_DESK = 18,      /* the crew or team belongs to a desk of another number */
+    PT_WRONG_DESK = 18,      /* the crew belongs to a desk of another number */
     PT_BAD_NAME = 19,        /* the bytes are not a name */
     PT_TAKEN = 20,           /* another process has the name */
     PT_HAS_NAME = 21,        /* the process has a name already */
@@ -310,14 +306,18 @@ enum pt_job_code {
 /* A job for the handler of a process. PT_JOB_EXIT comes once, and the process is not in the crew any more: it gets
  * no answer. `was` is PT_NEXT_RUNNING then if it had a job that nobody answered. `reason` is that of its own exit,
  * by PT_NEXT_STOP or pt_exit. If an exit signal ended the process, or it exited while its node was settled, `reason`
- * is the one that pt_crew_note_loss noted, or PT_NO_PROCESS if none was noted. */
+ * is the one that pt_crew_note_loss noted, or PT_NO_PROCESS if none was noted. The last three fields count for
+ * PT_JOB_START, and are zero in other jobs. */
 typedef struct pt_job {
     uint32_t code;
     pt_pid pid;
-    uint64_t tag;     /* what the process was spawned with */
+    uint64_t tag;        /* what the process was spawned or started with */
     pt_item item;
     pt_reason reason;
     pt_next was;
+    bool has_supervisor; /* whether a supervisor started the process */
+    bool again;          /* whether a child in the same place exited before */
+    pt_pid supervisor;   /* the supervisor that started it */
 } pt_job;
 
 /* What a running process does next. */
@@ -333,7 +333,7 @@ enum pt_strategy_code {
 /* A supervisor without its children. A call that gets any other strategy returns PT_BAD_CODE. */
 typedef struct pt_supervisor_spec {
     uint32_t strategy; /* a pt_strategy_code */
-    bool timed;        /* whether `span` is in time (pt_team_set_time), or in stamps of the desk */
+    bool timed;        /* whether `span` is in time (pt_crew_set_time), or in stamps of the desk */
     bool has_parent;   /* whether the supervisor exits with a process */
     pt_pid parent;     /* that process */
     size_t most;       /* how many restarts the supervisor makes within `span` */
@@ -359,7 +359,7 @@ typedef struct pt_child_spec {
     uint64_t tag;      /* what each process of this child is spawned with */
     uint32_t restart;  /* a pt_restart_code */
     uint32_t shutdown; /* a pt_shutdown_code */
-    uint64_t time;     /* for PT_SHUTDOWN_AFTER (pt_team_set_time) */
+    uint64_t time;     /* for PT_SHUTDOWN_AFTER (pt_crew_set_time) */
 } pt_child_spec;
 
 /* A child of a supervisor, at its place. */
@@ -371,14 +371,6 @@ typedef struct pt_child {
     uint32_t shutdown;
     uint64_t time;
 } pt_child;
-
-/* What the handler of a process of a team is told. The last three fields count for PT_JOB_START. */
-typedef struct pt_notice {
-    pt_job job;
-    bool has_supervisor; /* whether a supervisor started the process */
-    bool again;          /* whether an earlier process of the same child had exited */
-    pt_pid supervisor;   /* the supervisor that started it */
-} pt_notice;
 
 /* The name of a timer. No two timers of one pt_timers have the same. */
 typedef struct pt_timer {
@@ -470,7 +462,7 @@ uint32_t pt_gathered_give_up(pt_gathered *node);
 uint32_t pt_quiet_give_up(pt_quiet *node);
 uint32_t pt_settled_give_up(pt_settled *node);
 uint32_t pt_history_give_up(pt_history *history);
-uint32_t pt_crew_give_up(pt_crew *crew);
+uint32_t pt_crew_give_up(pt_crew *crew);         /* its processes stay on their desk */
 uint32_t pt_timers_give_up(pt_timers *timers);
 uint32_t pt_names_give_up(pt_names *names);
 uint32_t pt_door_give_up(pt_door *door);
@@ -588,13 +580,18 @@ uint32_t pt_loss_item(pt_desk *desk, size_t place, size_t item, pt_item *out);
 /* Drops the oldest loss, which you have read. PT_NOTHING: there was none. */
 uint32_t pt_next_loss(pt_desk *desk);
 
-/* ---- crews: the processes of one desk whose handlers are yours. Each call may return PT_EMPTY, which comes first.
- * Each that gets a desk returns PT_WRONG_DESK if the crew belongs to a desk of another number. Only PT_BAD_CODE comes
- * before that.
+/* ---- crews: the processes of one desk whose handlers are yours, and their supervisors. Each call may return
+ * PT_EMPTY, which comes first. Each that gets a desk returns PT_WRONG_DESK if the crew belongs to a desk of another
+ * number. Only PT_BAD_CODE comes before that.
  *
  * A loop is: pt_crew_step; for each job its handler, which makes calls of the desk as it likes; for each job but
  * PT_JOB_EXIT an answer, then or later; pt_crew_answer. A handler takes no item from a mailbox of the crew by itself.
  * The turn of the next step posts what the handlers sent.
+ *
+ * A process of a crew has a handler of yours, or it is a supervisor. A supervisor handles what it gets itself: it
+ * starts its children, and starts them again when they exit. A step runs it, and it is in no job but the PT_JOB_EXIT
+ * of its own exit. Make no call of the desk for it. The first job of a child is PT_JOB_START, unless it has exited
+ * before: make its state then, and answer for it. docs/RUNTIME.md says under 'Supervisors' what a supervisor does.
  *
  * No wake-up is lost: a process of the crew that has something to do is in the queue, or the next step finds it. If
  * the crew is idle (pt_crew_is_idle) and no letter waits (pt_pending), there is nothing to do before the time of
@@ -606,15 +603,29 @@ uint32_t pt_crew_open(pt_crew *crew);
 
 /* Spawns a process on the desk as pt_spawn and pt_spawn_child do. It is in the crew then, with this tag, and does
  * `first` next. If that is PT_NEXT_PROCEED, its first job is PT_JOB_START. PT_BAD_CODE, and then the codes of
- * pt_spawn and pt_spawn_child. */
+ * pt_spawn and pt_spawn_child. The parent is not a supervisor of the crew: that starts its children itself. */
 uint32_t pt_crew_spawn(pt_crew *crew, pt_desk *desk, uint64_t tag, pt_next first, pt_pid *out);
 uint32_t pt_crew_spawn_child(pt_crew *crew, pt_desk *desk, pt_pid parent, bool linked, uint64_t tag, pt_next first,
     pt_pid *out);
 
+/* Spawns a supervisor with this tag. It starts its children in the next step, in order. PT_BAD_CODE: a code of it or
+ * of a child means nothing. Then the codes of pt_spawn; PT_MEMORY also if there is none for `most` restarts. */
+uint32_t pt_crew_spawn_supervisor(pt_crew *crew, pt_desk *desk, uint64_t tag, pt_supervisor_spec spec,
+    const pt_child_spec *children, size_t count, pt_pid *out);
+
+/* Answers for a running process that it is a supervisor. So a child may have children: answer its PT_JOB_START by
+ * this, each time it is started, with its own supervisor as the `parent`, with which it exits. PT_BAD_CODE: a code of
+ * it or of a child means nothing. PT_NOT_RUNNING: p is not running, or is not in the crew. PT_MEMORY: it is running
+ * still. */
+uint32_t pt_crew_supervise(pt_crew *crew, pt_pid p, pt_supervisor_spec spec, const pt_child_spec *children,
+    size_t count);
+
 /* Runs one step:
  *  1. a turn of the desk with this budget; its result goes to `turned`;
  *  2. new events are read, and processes whose time has come are woken;
- *  3. the processes in the queue run in order, each at most once, until `jobs` has `most` jobs.
+ *  3. the processes in the queue run in order, each at most once, until `jobs` has `most` jobs;
+ *  4. the children that supervisors started join the crew, at the end of the queue. One that has exited before is in
+ *     no job.
  * `count` gets the number of jobs. What is after them in `jobs` stays as it was, and no process is in `jobs` twice.
  * After any job but PT_JOB_EXIT a process is running. If memory or stamps did not suffice for a process, it stays in
  * the queue, and pt_crew_refused says so. */
@@ -634,19 +645,14 @@ uint32_t pt_crew_note_loss(pt_crew *crew, pt_desk *desk, size_t place);
 /* Sets the time of the calls that follow, in a unit of your own. */
 uint32_t pt_crew_set_time(pt_crew *crew, uint64_t now);
 
-/* For a node that was resumed: the crew resumes over the desk of the same number. Each process is in the queue then,
- * and does next what it was to do. If a process exited while the node was settled, the next steps report it. Before
- * the node is gathered, each exit must have been reported, as it is if the crew is idle; pt_crews_go_on does not need
- * that. PT_MEMORY: it may be called again. */
-uint32_t pt_crew_begin_again(pt_crew *crew);
-
 /* Pauses a whole node and resumes it, at any time between two steps; crews[k] is the crew of desks[k]. It gathers the
  * desks, settles the node without the list of all pids, takes its history, resumes it, and lets each crew resume over
- * the desk of its number. After PT_OK `desks` has the desks, with empty journals. `history` has what happened since
- * the journals were empty last. `gathered` and `settled` are empty. Each process of the crews does next what it was
- * to do, and a running one may be answered as before. Each is in the queue, so the next steps find what it got. They
- * also report each exit that was not reported, with its reason: also an exit in settling, and one whose reason a loss
- * had (pt_crew_note_loss). The desks keep their losses.
+ * the desk of its number, as pt_crew_go_on does with that history. After PT_OK `desks` has the desks, with empty
+ * journals. `history` has what happened since the journals were empty last. `gathered` and `settled` are empty. Each
+ * process of the crews does next what it was to do, and a running one may be answered as before. Each is in the queue,
+ * supervisors too, so the next steps find what it got, such as the exit of a supervisor's child. They also report each
+ * exit that was not reported, with its reason: also an exit in settling, and one whose reason a loss had
+ * (pt_crew_note_loss). The desks keep their losses.
  *
  * The four handles of one node are those of the desks, `gathered`, `settled` and `history`. At first the desks are
  * full, and the other three are empty. If several codes fit, the first of these is returned:
@@ -664,6 +670,17 @@ uint32_t pt_crew_begin_again(pt_crew *crew);
 uint32_t pt_crews_go_on(pt_crew *crews, size_t crew_count, pt_desk *desks, size_t desk_count, pt_gathered *gathered,
     pt_settled *settled, pt_history *history);
 
+/* The same for one crew of a node that you gather, settle and resume by calls of your own: pt_gather,
+ * pt_settle_unlisted, pt_settled_history, pt_resume_settled, and this for each crew. The crew resumes over the desk of
+ * the same number, with the history of the node before. Exits need not have been reported before: their reasons are
+ * kept from the history. */
+uint32_t pt_crew_go_on(pt_crew *crew, pt_history *history);
+
+/* The same without the history. If a process exited while the node was settled, the next steps report it. Before the
+ * node is gathered, each exit must have been reported, as it is if the crew is idle. PT_MEMORY: it may be called
+ * again. */
+uint32_t pt_crew_begin_again(pt_crew *crew);
+
 /* The earliest time until which a process outside of the queue waits. PT_NOTHING: there is none. */
 uint32_t pt_crew_next_time(pt_crew *crew, uint64_t *out);
 
@@ -671,7 +688,7 @@ uint32_t pt_crew_next_time(pt_crew *crew, uint64_t *out);
 uint32_t pt_crew_tag(pt_crew *crew, pt_pid p, uint64_t *out);
 uint32_t pt_crew_next(pt_crew *crew, pt_pid p, pt_next *out);
 
-/* The number of processes of the crew, and of those in the queue, which may have something to do. */
+/* The number of processes of the crew, supervisors too, and of those in the queue, which may have something to do. */
 uint32_t pt_crew_len(pt_crew *crew, size_t *out);
 uint32_t pt_crew_queued(pt_crew *crew, size_t *out);
 
@@ -681,75 +698,10 @@ uint32_t pt_crew_is_idle(pt_crew *crew, pt_desk *desk, bool *out);
 /* Whether memory or stamps did not suffice for a process in the last step. */
 uint32_t pt_crew_refused(pt_crew *crew, bool *out);
 
-/* ---- teams: crews with supervisors. Each call may return PT_EMPTY, which comes first. Each that gets a desk returns
- * PT_WRONG_DESK if the team belongs to a desk of another number. Only PT_BAD_CODE comes before that.
- *
- * A process of a team has a tag and a handler of yours, or it is a supervisor, which handles what it gets itself: it
- * starts its children, and starts them again when they exit. The loop is that of a crew. The first job of each child
- * is PT_JOB_START: make its state then, and answer for it. A call with the name of a call of crews does what that
- * call does. */
-
-/* Begins a team, with no process and at the time 0. PT_FILLED, PT_MEMORY. */
-uint32_t pt_team_open(pt_team *team);
-
-/* Frees a team. The handle is empty afterwards, and its processes stay on their desk. */
-uint32_t pt_team_give_up(pt_team *team);
-
-/* Spawns a process as pt_crew_spawn and pt_crew_spawn_child do, with the same codes. The parent is not a supervisor
- * of the team: a supervisor starts its children itself. */
-uint32_t pt_team_spawn(pt_team *team, pt_desk *desk, uint64_t tag, pt_next first, pt_pid *out);
-uint32_t pt_team_spawn_child(pt_team *team, pt_desk *desk, pt_pid parent, bool linked, uint64_t tag, pt_next first,
-    pt_pid *out);
-
-/* Spawns a supervisor with this tag. It starts its children in the next step, in order. PT_BAD_CODE: a code of it or
- * of a child means nothing. Then the codes of pt_spawn; PT_MEMORY also if there is none for `most` restarts. */
-uint32_t pt_team_spawn_supervisor(pt_team *team, pt_desk *desk, uint64_t tag, pt_supervisor_spec spec,
-    const pt_child_spec *children, size_t count, pt_pid *out);
-
-/* Answers for a running process that it is a supervisor. So a child may have children: answer its PT_JOB_START by
- * this, each time it is started, with its own supervisor as the `parent`, with which it exits. PT_BAD_CODE.
- * PT_NOT_RUNNING. PT_MEMORY: it is running still. */
-uint32_t pt_team_supervise(pt_team *team, pt_pid p, pt_supervisor_spec spec, const pt_child_spec *children,
-    size_t count);
-
-/* Runs one step as pt_crew_step does. A supervisor in the queue handles what it gets, and is in no notice. A child
- * that a supervisor starts joins the team at the end of the step, and its PT_JOB_START comes in the next. */
-uint32_t pt_team_step(pt_team *team, pt_desk *desk, uint32_t budget, pt_notice *notices, size_t most, size_t *count,
-    pt_turned *turned);
-
-/* As pt_crew_answer, pt_crew_note_loss, pt_crew_set_time and pt_crew_begin_again. */
-uint32_t pt_team_answer(pt_team *team, const pt_answer *answers, size_t count, size_t *taken);
-uint32_t pt_team_note_loss(pt_team *team, pt_desk *desk, size_t place);
-uint32_t pt_team_set_time(pt_team *team, uint64_t now);
-uint32_t pt_team_begin_again(pt_team *team);
-
-/* For a node that was resumed: the team resumes over the desk of the same number, with the history of the node before.
- * Each process is in the queue then, supervisors too, and does next what it was to do. Exits need not have been
- * reported before: their reasons are kept from the history. It is for a node that you gather, settle and resume by
- * calls of your own: pt_gather, pt_settle_unlisted, pt_settled_history, pt_resume_settled, and this for each team. */
-uint32_t pt_team_go_on(pt_team *team, pt_history *history);
-
-/* Pauses a whole node and resumes it, at any time between two steps, as pt_crews_go_on does. teams[k] is the team of
- * desks[k], and resumes as by pt_team_go_on with the history of the node. So a supervisor whose child has exited
- * starts it again after the pause. The codes, their order, and where the node is after each, are those of
- * pt_crews_go_on, with teams for crews. */
-uint32_t pt_teams_go_on(pt_team *teams, size_t team_count, pt_desk *desks, size_t desk_count, pt_gathered *gathered,
-    pt_settled *settled, pt_history *history);
-
-/* As pt_crew_next_time, pt_crew_tag, pt_crew_next, pt_crew_len, pt_crew_queued, pt_crew_is_idle and pt_crew_refused.
- * Supervisors count. */
-uint32_t pt_team_next_time(pt_team *team, uint64_t *out);
-uint32_t pt_team_tag(pt_team *team, pt_pid p, uint64_t *out);
-uint32_t pt_team_next(pt_team *team, pt_pid p, pt_next *out);
-uint32_t pt_team_len(pt_team *team, size_t *out);
-uint32_t pt_team_queued(pt_team *team, size_t *out);
-uint32_t pt_team_is_idle(pt_team *team, pt_desk *desk, bool *out);
-uint32_t pt_team_refused(pt_team *team, bool *out);
-
-/* The number of children of a supervisor, and the child at a place. PT_NOTHING: p is not a supervisor of the team; no
+/* The number of children of a supervisor, and the child at a place. PT_NOTHING: p is not a supervisor of the crew; no
  * child is at the place. */
-uint32_t pt_team_children(pt_team *team, pt_pid p, size_t *out);
-uint32_t pt_team_child(pt_team *team, pt_pid p, size_t place, pt_child *out);
+uint32_t pt_crew_children(pt_crew *crew, pt_pid p, size_t *out);
+uint32_t pt_crew_child(pt_crew *crew, pt_pid p, size_t place, pt_child *out);
 
 /* ---- timers: numbers of your own, each due at a time, as Erlang's send_after and cancel_timer keep them. Each call
  * may return PT_EMPTY
@@ -909,8 +861,8 @@ typedef struct pt_asking_about {
     size_t heard_size;
 } pt_asking_about;
 
-/* The codes of supervisors, and the size of each struct of teams. */
-typedef struct pt_team_codes {
+/* The codes of supervisors, and the size of each of their structs. */
+typedef struct pt_supervisor_codes {
     uint32_t one_for_one;
     uint32_t one_for_all;
     uint32_t rest_for_one;
@@ -923,8 +875,7 @@ typedef struct pt_team_codes {
     size_t supervisor_spec;
     size_t child_spec;
     size_t child;
-    size_t notice;
-} pt_team_codes;
+} pt_supervisor_codes;
 /* [abi: end] */
 
 void pt_about_codes(pt_codes *out);
@@ -944,12 +895,11 @@ void pt_about_answer(pt_answer *out);
 void pt_about_asking(pt_asking_about *out);       /* samples, and their sizes */
 void pt_about_post(pt_post *out, size_t *size);   /* and its size */
 
-/* The codes of supervisors, the sizes of the structs of teams, and samples. */
-void pt_about_teams(pt_team_codes *out);
+/* The codes of supervisors, the sizes of their structs, and samples. */
+void pt_about_supervisors(pt_supervisor_codes *out);
 void pt_about_supervisor_spec(pt_supervisor_spec *out);
 void pt_about_child_spec(pt_child_spec *out);
 void pt_about_child(pt_child *out);
-void pt_about_notice(pt_notice *out);
 
 /* [abi: sizes] */
 /* Each struct has the size that it has in the library, or this header does not compile. */
@@ -977,12 +927,11 @@ PT_SIZE_IS(pt_account, 40);
 PT_SIZE_IS(pt_config, 24);
 PT_SIZE_IS(pt_loss, 32);
 PT_SIZE_IS(pt_next, 64);
-PT_SIZE_IS(pt_job, 176);
+PT_SIZE_IS(pt_job, 192);
 PT_SIZE_IS(pt_answer, 80);
 PT_SIZE_IS(pt_supervisor_spec, 40);
 PT_SIZE_IS(pt_child_spec, 24);
 PT_SIZE_IS(pt_child, 32);
-PT_SIZE_IS(pt_notice, 192);
 PT_SIZE_IS(pt_timer, 16);
 PT_SIZE_IS(pt_fired, 24);
 PT_SIZE_IS(pt_name, 32);
@@ -994,7 +943,7 @@ PT_SIZE_IS(pt_post, 48);
 PT_SIZE_IS(pt_codes, 264);
 PT_SIZE_IS(pt_sizes, 176);
 PT_SIZE_IS(pt_asking_about, 120);
-PT_SIZE_IS(pt_team_codes, 72);
+PT_SIZE_IS(pt_supervisor_codes, 64);
 #undef PT_SIZE_IS
 /* [abi: end] */
 

@@ -1,5 +1,5 @@
 /* A node goes on: a watcher and a worker; the node is brought to rest, its history printed and given up, and the same
- * processes go on with empty journals. So does a node of teams, in one call, and a supervisor starts its child again. */
+ * processes go on with empty journals. So does a node of crews, in one call, and a supervisor starts its child again. */
 #include <assert.h>
 #include <stdio.h>
 
@@ -44,36 +44,36 @@ static void last(pt_desk *desks, size_t count, size_t wanted) {
     assert(pt_settle_unlisted(&node, &settled) == PT_OK && pt_settled_give_up(&settled) == PT_OK);
 }
 
-/* Steps the team until it is idle, and prints what it is told. A process that starts is answered that it waits. */
-static void run(pt_team *team, pt_desk *desk) {
+/* Steps the crew until it is idle, and prints its jobs. A process that starts is answered that it waits. */
+static void run(pt_crew *crew, pt_desk *desk) {
     static const char *const told[] = {"starts", "proceeds", "gets an item", "has waited long enough", "has exited: "};
-    pt_notice notices[4];
+    pt_job jobs[4];
     pt_turned turned;
     size_t count, taken;
     bool is_idle;
     do {
-        assert(pt_team_step(team, desk, 64, notices, 4, &count, &turned) == PT_OK && turned.stopped == PT_OK);
+        assert(pt_crew_step(crew, desk, 64, jobs, 4, &count, &turned) == PT_OK && turned.stopped == PT_OK);
         for (size_t k = 0; k < count; k++) {
-            const pt_notice *n = &notices[k];
-            const pt_answer answer = {n->job.pid, {.code = PT_NEXT_WAIT, .pick = {.code = PT_PICK_ANY}}};
-            pt_print_pid(stdout, n->job.pid);
-            printf(" %s", told[n->job.code]);
-            if (n->job.code == PT_JOB_EXIT) pt_print_reason(stdout, n->job.reason);
-            else assert(pt_team_answer(team, &answer, 1, &taken) == PT_OK);
-            if (n->has_supervisor) {
-                fputs(n->again ? " again, under " : ", under ", stdout);
-                pt_print_pid(stdout, n->supervisor);
+            const pt_job *job = &jobs[k];
+            const pt_answer answer = {job->pid, {.code = PT_NEXT_WAIT, .pick = {.code = PT_PICK_ANY}}};
+            pt_print_pid(stdout, job->pid);
+            printf(" %s", told[job->code]);
+            if (job->code == PT_JOB_EXIT) pt_print_reason(stdout, job->reason);
+            else assert(pt_crew_answer(crew, &answer, 1, &taken) == PT_OK);
+            if (job->has_supervisor) {
+                fputs(job->again ? " again, under " : ", under ", stdout);
+                pt_print_pid(stdout, job->supervisor);
             }
             puts("");
         }
-        assert(pt_team_is_idle(team, desk, &is_idle) == PT_OK);
+        assert(pt_crew_is_idle(crew, desk, &is_idle) == PT_OK);
     } while (!is_idle);
 }
 
-/* A node of two desks with a team each goes on in one call. A child has crashed, and its team was not told. */
-static void teams(void) {
+/* A node of two desks with a crew each goes on in one call. A child has crashed, and its crew was not told. */
+static void crews(void) {
     pt_desk desks[2] = {PT_NO_DESK, PT_NO_DESK};
-    pt_team both[2] = {PT_NO_TEAM, PT_NO_TEAM};
+    pt_crew both[2] = {PT_NO_CREW, PT_NO_CREW};
     pt_gathered gathered = PT_NO_GATHERED;
     pt_settled settled = PT_NO_SETTLED;
     pt_history history = PT_NO_HISTORY;
@@ -84,20 +84,20 @@ static void teams(void) {
     size_t events;
     assert(pt_open(desks, 2, (pt_config){.slots = 4, .top_version = 100, .lane = 8, .start = 0}) == PT_OK);
     for (size_t k = 0; k < 2; k++) {
-        assert(pt_team_open(&both[k]) == PT_OK);
-        assert(pt_team_spawn_supervisor(&both[k], &desks[k], 0, spec, &kid, 1, &bosses[k]) == PT_OK);
+        assert(pt_crew_open(&both[k]) == PT_OK);
+        assert(pt_crew_spawn_supervisor(&both[k], &desks[k], 0, spec, &kid, 1, &bosses[k]) == PT_OK);
         run(&both[k], &desks[k]);
     }
-    assert(pt_team_child(&both[1], bosses[1], 0, &child) == PT_OK && child.has_pid);
+    assert(pt_crew_child(&both[1], bosses[1], 0, &child) == PT_OK && child.has_pid);
     assert(pt_exit(&desks[1], child.pid, (pt_reason){PT_OTHER, 7}) == PT_OK);
-    assert(pt_teams_go_on(both, 2, desks, 2, &gathered, &settled, &history) == PT_OK);
+    assert(pt_crews_go_on(both, 2, desks, 2, &gathered, &settled, &history) == PT_OK);
     assert(gathered.at == NULL && settled.at == NULL && pt_history_give_up(&history) == PT_OK);
     puts("--");
     for (size_t k = 0; k < 2; k++) {
         assert(pt_event_count(&desks[k], &events) == PT_OK && events == 0);
         run(&both[k], &desks[k]);
-        assert(pt_team_child(&both[k], bosses[k], 0, &child) == PT_OK && child.has_pid && child.wanted);
-        assert(pt_team_give_up(&both[k]) == PT_OK && pt_give_up(&desks[k]) == PT_OK);
+        assert(pt_crew_child(&both[k], bosses[k], 0, &child) == PT_OK && child.has_pid && child.wanted);
+        assert(pt_crew_give_up(&both[k]) == PT_OK && pt_give_up(&desks[k]) == PT_OK);
     }
 }
 
@@ -134,6 +134,6 @@ int main(void) {
     assert(pt_spawn(&desks[1], &worker) == PT_OK && worker.version == 2);
     epoch(desks, 2);
     last(desks, 2, 3);
-    teams();
+    crews();
     return 0;
 }

@@ -526,6 +526,8 @@ static void print_job(FILE *to, pt_job job) {
     pt_print_pid(to, job.pid);
     fprintf(to, " %" PRIu64, job.tag);
     if (job.code == PT_JOB_ITEM) fputc(' ', to), pt_print_item(to, job.item);
+    if (job.has_supervisor) fputs(" under ", to), pt_print_pid(to, job.supervisor);
+    if (job.again) fputs(" again", to);
     if (job.code == PT_JOB_EXIT) {
         fputc(' ', to), pt_print_reason(to, job.reason);
         fputc(' ', to), print_crew_next(to, job.was);
@@ -562,6 +564,74 @@ static void call_crew_spawn_child(FILE *to, node *n, char **w) {
     bool linked = !strcmp(w[2], "true");
     uint32_t code = pt_crew_spawn_child(crew_of(n, w), desk_of(n, w), pid_of(w[1]), linked, tag, next_of(w + 4), &pid);
     print_spawned(to, code, pid);
+}
+
+/* The code that a word stands for among these. */
+static uint32_t code_in(const char *word, const char *const *names) {
+    uint32_t code = 0;
+    if (is_code(word, &code)) return code;
+    while (code < 2 && strcmp(word, names[code])) code++;
+    return code;
+}
+
+static const char *const restarts[] = {"permanent", "transient", "temporary"};
+static const char *const shutdowns[] = {"infinity", "after", "brutal_kill"};
+
+/* A supervisor, of four words. */
+static pt_supervisor_spec spec_of(char **w) {
+    static const char *const strategies[] = {"one_for_one", "one_for_all", "rest_for_one"};
+    pt_supervisor_spec spec = {.strategy = code_in(w[0], strategies), .most = number_of(w[1])};
+    spec.span = strtoull(w[2], NULL, 10);
+    spec.has_parent = w[3][0] == '<';
+    if (spec.has_parent) spec.parent = pid_of(w[3]);
+    return spec;
+}
+
+/* Its children, of three words behind a comma each; returns how many there are. */
+static size_t children_of(char **w, pt_child_spec *children) {
+    size_t count = 0;
+    for (; w[0] != NULL; w += 4, count++) {
+        pt_child_spec child = {.tag = strtoull(w[1], NULL, 10), .restart = code_in(w[2], restarts)};
+        bool is_time = w[3][0] >= '0' && w[3][0] <= '9';
+        child.shutdown = is_time ? PT_SHUTDOWN_AFTER : code_in(w[3], shutdowns);
+        if (is_time) child.time = strtoull(w[3], NULL, 10);
+        children[count] = child;
+    }
+    return count;
+}
+
+static void call_crew_supervisor(FILE *to, node *n, char **w) {
+    pt_child_spec children[MOST_JOBS];
+    pt_pid pid;
+    size_t count = children_of(w + 7, children);
+    uint64_t tag = strtoull(w[2], NULL, 10);
+    uint32_t code = pt_crew_spawn_supervisor(crew_of(n, w), desk_of(n, w), tag, spec_of(w + 3), children, count, &pid);
+    print_spawned(to, code, pid);
+}
+
+static void call_crew_supervise(FILE *to, node *n, char **w) {
+    pt_child_spec children[MOST_JOBS];
+    size_t count = children_of(w + 7, children);
+    print_code(to, pt_crew_supervise(crew_of(n, w), pid_of(w[2]), spec_of(w + 3), children, count));
+}
+
+static void call_crew_children(FILE *to, node *n, char **w) {
+    pt_child child;
+    size_t count;
+    if (pt_crew_children(crew_of(n, w), pid_of(w[2]), &count) != PT_OK) {
+        fputs("none", to);
+        return;
+    }
+    for (size_t k = 0; pt_crew_child(crew_of(n, w), pid_of(w[2]), k, &child) == PT_OK; k++, count--) {
+        if (k > 0) fputs("; ", to);
+        if (child.has_pid) pt_print_pid(to, child.pid);
+        else fputc('-', to);
+        fprintf(to, " %s ", restarts[child.restart]);
+        if (child.shutdown == PT_SHUTDOWN_AFTER) fprintf(to, "%" PRIu64, child.time);
+        else fputs(shutdowns[child.shutdown], to);
+        if (!child.wanted) fputs(" unwanted", to);
+    }
+    if (count != 0) fputs(" wrong", to);
 }
 
 static void call_crew_step(FILE *to, node *n, char **w) {
@@ -690,6 +760,8 @@ static const struct { const char *name; call *make; } calls[] = {
     {"history", call_history}, {"settle", call_settle}, {"pids", call_pids}, {"account", call_account},
     {"ended", call_ended}, {"resume", call_resume}, {"keep_losses", call_keep_losses}, {"crews_open", call_crews_open},
     {"crew_spawn", call_crew_spawn}, {"crew_spawn_child", call_crew_spawn_child}, {"crew_step", call_crew_step},
+    {"crew_supervisor", call_crew_supervisor}, {"crew_supervise", call_crew_supervise},
+    {"crew_children", call_crew_children},
     {"crew_answer", call_crew_answer}, {"crew_losses", call_crew_losses}, {"crew_next", call_crew_next},
     {"crew_tag", call_crew_tag}, {"crew_next_time", call_crew_next_time}, {"crew_set_time", call_crew_set_time},
     {"crew_len", call_crew_len}, {"crew_queued", call_crew_queued}, {"crew_idle", call_crew_idle},

@@ -18,9 +18,9 @@ Only a goal of that clause counts, and it counts by one of four reasons:
     values    the prover names values at which the goal is false
     search    the prover's tactics prove the clause of the right body, and not this goal
     answer    the hand-written answer of the goal fails, not about a name, and the edit keeps the form of the body
-    words     the answer fails otherwise, or none is there for this goal, or the clause asks for a value, which the
-              tactics seldom find. That the wrong body has no proof is then what the words of its clause say. So a
-              neutral twin of the function must not fail there too: see `with_twin`
+    words     the answer fails otherwise, or none is there for this goal, or a definition fails that the answer uses, or
+              the clause asks for a value, which the tactics seldom find. That the wrong body has no proof is then what
+              the words of its clause say. So a neutral twin of the function must not fail there too: see `with_twin`
 """
 from __future__ import annotations
 
@@ -329,6 +329,27 @@ def answers_in(text: str) -> dict[str, str]:
     return found
 
 
+def uses_in(text: str) -> dict[str, set[str]]:
+    """The definitions of a proof file, each by its name, with the words of its text."""
+    found: dict[str, set[str]] = {}
+    name = ""
+    for line in text.split("\n"):
+        begins = re.match(r"(?:pub )?([^\s:]+) *:", line)
+        name = begins[1] if begins else name
+        if name and not line.startswith("use "):
+            found.setdefault(name, set()).update(re.findall(r"[\w'-]+", line))
+    return found
+
+
+def answers_with(text: str, helper: str) -> list[str]:
+    """The answers of a proof file that use this definition of it, by others or at once."""
+    uses = uses_in(text)
+    reached = {helper}
+    while more := {it for it, words in uses.items() if words & reached} - reached:
+        reached |= more
+    return [it for it in answers_in(text) if it in reached]
+
+
 def answered_by_hand(text: str, clause: Clause) -> bool:
     """Whether a proof file answers a goal of this clause by more than one tactic."""
     return any(is_of(name, clause) and not TACTIC.match(body) for name, body in answers_in(text).items())
@@ -336,7 +357,8 @@ def answered_by_hand(text: str, clause: Clause) -> bool:
 
 @dataclass(frozen=True)
 class Goal:
-    """A goal that was refused: the reason is `values`, `open` (the prover left it open), `answer` or `name`."""
+    """A goal that was refused: the reason is `values`, `open` (the prover left it open), `answer`, `name`, or `helper` (a
+    definition that its answer uses fails)."""
 
     name: str
     reason: str
@@ -468,10 +490,19 @@ class Finding:
     goals: list[str] = field(default_factory=list)
 
 
+def goals_through(goal: Goal, proof: str) -> list[Goal]:
+    """The goals that fail with this one: itself, or if it is a definition of the proof file, those whose answers use it."""
+    if goal.reason == "name" or goal.name in answers_in(proof):
+        return [goal]
+    return [Goal(it, "helper", f"`{it}`: {goal.text}") for it in answers_with(proof, goal.name)] or [goal]
+
+
 def reason_of(edit: Edit, clause: Clause, goal: Goal, proof: str, asks: bool) -> str:
     """Why a goal of the clause counts. `asks` says whether the clause asks for a value."""
     if goal.reason in ("values", "name"):
         return goal.reason
+    if goal.reason == "helper":
+        return "words"
     # (a body of the same form has the same goals, so a goal without an answer is one that the tactics prove of the right body)
     if not answered_by_hand(proof, clause) or goal.reason == "open" and edit.keeps_form():
         return "words" if asks else "search"
@@ -485,7 +516,7 @@ def found_in(edit: Edit, said: Said, proofs: dict[str, str], is_alone: bool, ask
         return Finding("bad", "", f"the prover says nothing of {', '.join(edit.functions)}")
     if not own:
         raise Broken(f"{edit.label}: the prover says nothing of {', '.join(edit.functions)}: name it by a line 'fn: PATH'")
-    goals = [(name, it) for name in own for it in said.own(name)]
+    goals = [(name, it) for name in own for each in said.own(name) for it in goals_through(each, proofs.get(name, ""))]
     if edit.neutral or edit.clause is None:
         clauses = [(Clause(*place_of(it.name), ""), name, it) for name, it in goals]
     else:

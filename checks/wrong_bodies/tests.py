@@ -129,6 +129,17 @@ class Reasons(unittest.TestCase):
         self.assertFalse(deciding.asks_for_value("(p : Pid) → result ≡ two", definitions))
         self.assertEqual(deciding.found_in(edit("exploring::count", "counts: words"), said("goals_of_two_clauses"), {}, True, True).reason, "words")
 
+    def test_a_definition_that_answers_use_is_of_their_goals(self) -> None:
+        proof = "one : Whole\none c = walk c\n\ntwo : Whole\ntwo c = one c\n\n" + "".join(
+            f"pub {it} : goal.{it}\n{it} c = ({by} c).0\n\n" for it, by in (("returns-clause-does", "two"), ("returns-clause-fit", "other"))
+        )
+        self.assertEqual(deciding.answers_with(proof, "one"), ["returns-clause-does"])
+        text = "proofs/playing/play/Answers.antt:2:9: error: `one`: it has another type\nfn pt_schedules::playing::play: refused\nonly=1"
+        report = deciding.understood(text, "pt_schedules", 1.0)
+        for name, verdict in (("does", "refused"), ("fit", "other")):
+            tried = edit("playing::play", f"{name}: words")
+            self.assertEqual(deciding.found_in(tried, report, {"playing::play": proof}, True).verdict, verdict)
+
     def test_the_clauses_of_a_function(self) -> None:
         text = "fn two(a: u8) -> u8\n    requires { a < 9 }\n    ensures sum { result ≡\n        a + 1 }\n    ensures { a ≡ a }\n{\n    a + 1\n}\n"
         function = deciding.functions_of(text, "")[0]

@@ -21,12 +21,14 @@ from threading import Lock
 from typing import Any, Callable, Iterator, Optional, Sequence, TypeVar, Union
 
 from ._abi import (
-    CAccount, CAnswer, CBody, CConfig, CEvent, CHandle, CIds, CItem, CJob, CLeftOver, CLoss, CNext, CPid, CRef, CTurned,
+    CAccount, CAnswer, CBody, CChild, CConfig, CEvent, CHandle, CIds, CItem, CJob, CLeftOver, CLoss, CNext, CPid, CRef,
+    CTurned,
 )
 from ._library import (
     BUILD, c_body, c_next, c_pick, c_pid, c_reason, c_ref, event_of, ids_of, item_of, job_of, left_over_of, lib, next_of,
     other, own, pid_of, reason_of, ref_of, texts_of,
 )
+from .supervisors import Child, ChildSpec, SupervisorSpec, c_children, c_spec, child_of
 from .values import (
     ANY, EVENTS, ITEMS, JOBS, KILL, KILLED, NEXTS, NOPROC, NORMAL, PICKS, PROCEED, REASONS, RUNNING, SHUTDOWN, SIGNALS, U8,
     U16, U32, U64, Account, Body, Code, Config, Event, Ids, Item, Job, LeftOver, LinkId, Loss, Next, Pick, Pid, Reason, Ref,
@@ -49,7 +51,6 @@ __all__ = [
 T = TypeVar("T")
 V = TypeVar("V")
 H = TypeVar("H", bound="_Held")
-D = TypeVar("D", bound="_OfDesk")
 
 
 class Fault(Exception):
@@ -80,9 +81,8 @@ _CALLS = {
     "monitor_count": "monitors", "monitor_at": "monitors", "watcher_count": "watchers", "watcher_at": "watchers",
     "peek": "waiting", "loss_at": "next_loss", "loss_item": "next_loss", "quiet_pid_at": "Quiet.pids",
     "history_at": "History.events", "history_left_at": "History.left_over", "history_count": "History.__len__",
-    "crew_len": "Crew.__len__", "crew_open": "Crew", "crew_note_loss": "Crew.next_loss",
+    "crew_len": "Crew.__len__", "crew_open": "Crew", "crew_note_loss": "Crew.next_loss", "crews_go_on": "go_on",
     "ask_until": "ask", "door_open": "way_in", "way_in_take": "WayIn.take", "way_in_len": "WayIn.__len__",
-    "team_len": "Team.__len__", "team_open": "Team", "team_note_loss": "Team.next_loss", "team_child": "Team.children",
     "timers_open": "Timers", "timers_len": "Timers.__len__", "names_open": "Names", "names_len": "Names.__len__",
 }
 
@@ -91,7 +91,7 @@ def _called(call: Callable[..., int]) -> str:
     """The name of the call of this module that makes this one of the library."""
     name = getattr(call, "__name__", "").removeprefix("pt_")
     where, _, rest = name.partition("_")
-    is_of = where in ("crew", "team", "gathered", "settled", "quiet", "history", "timers", "names", "door")
+    is_of = where in ("crew", "gathered", "settled", "quiet", "history", "timers", "names", "door")
     return _CALLS.get(name) or (f"{where.capitalize()}.{rest}" if is_of else name)
 
 
@@ -436,20 +436,50 @@ class Desk(_Held):
         return pids, at.value
 
 
-class _OfDesk(_Held):
-    """A handle of the library that is used with one desk."""
+def _answers_of(answers: Sequence[tuple[Pid, Next]]) -> c.Array[CAnswer]:
+    """The answers as they cross."""
+    try:
+        given = [(pid, does) for pid, does in answers]
+    except (TypeError, ValueError):
+        raise TypeError(f"answers is {shown(answers)}, and must be a sequence of pairs of Pid and Next") from None
+    crossing = [CAnswer(c_pid(f"answers[{place}].pid", pid), c_next(f"answers[{place}].next", does))
+                for place, (pid, does) in enumerate(given)]
+    return (CAnswer * len(crossing))(*crossing)
 
-    def _begin(self, desk: Desk, call: Callable[..., int]) -> None:
+
+class Crew(_Held):
+    """The processes of one desk whose handlers are Python's, and their supervisors. Use it, and its desk, on one thread at a
+    time.
+
+    A loop is: `step`; for each job its handler, which makes calls of the desk as it likes; and for each job but "exit" an
+    answer, then or later. A handler takes no item from the mailbox of a process of the crew by itself. What the handlers
+    sent is on its way by the next step, whose turn posts it first.
+
+    A supervisor handles what it gets itself (`pundewo.supervisors`): it is run by the step, and its only job is its "exit".
+    A child that it starts may be answered that it is a supervisor, too (`supervise`).
+
+    No wake-up is lost: a process of the crew that has something to do is in the queue, or the next step finds it. If the
+    crew `is_idle` and no letter is `pending` on its desk, nothing is to be done before `next_time`, unless another desk
+    sends something.
+
+    Each call with a desk raises ValueError if that is not the crew's own.
+    """
+
+    _give_up = "pt_crew_give_up"
+
+    def __init__(self, desk: Desk):
+        """The crew of this desk, with no process and at the time 0. Fault: MEMORY."""
+        super().__init__()
         self._node, self._number = of_type("desk", desk, Desk)._node, desk.number
-        self._from(desk)._must(call)
+        self._from(desk)._must(lib.pt_crew_open)
 
     def _called(self) -> str:
-        return f"{type(self).__name__} of desk {self._number}"
+        return f"Crew of desk {self._number}"
 
     def _own(self, desk: Desk) -> Desk:
         """The desk, which is its own."""
         if of_type("desk", desk, Desk)._node is not self._node or desk.number != self._number:
-            raise ValueError(f"desk is {shown(desk)} of a node, and must be that of the {type(self).__name__.lower()}")
+            raise ValueError(f"desk is {shown(desk)} of a node, and must be that of the crew")
         return desk
 
     @contextmanager
@@ -470,51 +500,8 @@ class _OfDesk(_Held):
     def _again(self, desk: Desk) -> object:
         """The node of the desk, which is that of its number in a node that was resumed."""
         if of_type("desk", desk, Desk)._opened is not self._opened or desk.number != self._number:
-            raise ValueError(f"desk is {shown(desk)} of a node, and must be that of the {type(self).__name__.lower()} in a "
-                             "node that was resumed")
+            raise ValueError(f"desk is {shown(desk)} of a node, and must be that of the crew in a node that was resumed")
         return desk._node
-
-    def _note_loss(self, desk: Desk, call: Callable[..., int]) -> Optional[Loss]:
-        """The oldest loss of the desk that was not told, once this call has noted it."""
-        code = self._call_over(desk, call, 0)
-        if code == Code.NOTHING:
-            return None
-        if code:
-            raise _fault(call, (), code)
-        return desk.next_loss()
-
-
-def answers_of(answers: Sequence[tuple[Pid, Next]]) -> c.Array[CAnswer]:
-    """The answers as they cross."""
-    try:
-        given = [(pid, does) for pid, does in answers]
-    except (TypeError, ValueError):
-        raise TypeError(f"answers is {shown(answers)}, and must be a sequence of pairs of Pid and Next") from None
-    crossing = [CAnswer(c_pid(f"answers[{place}].pid", pid), c_next(f"answers[{place}].next", does))
-                for place, (pid, does) in enumerate(given)]
-    return (CAnswer * len(crossing))(*crossing)
-
-
-class Crew(_OfDesk):
-    """The processes of one desk whose handlers are Python's. Use it, and its desk, on one thread at a time.
-
-    A loop is: `step`; for each job its handler, which makes calls of the desk as it likes; and for each job but "exit" an
-    answer, then or later. A handler takes no item from the mailbox of a process of the crew by itself. What the handlers
-    sent is on its way by the next step, whose turn posts it first.
-
-    No wake-up is lost: a process of the crew that has something to do is in the queue, or the next step finds it. If the
-    crew `is_idle` and no letter is `pending` on its desk, nothing is to be done before `next_time`, unless another desk
-    sends something.
-
-    Each call with a desk raises ValueError if that is not the crew's own.
-    """
-
-    _give_up = "pt_crew_give_up"
-
-    def __init__(self, desk: Desk):
-        """The crew of this desk, with no process and at the time 0. Fault: MEMORY."""
-        super().__init__()
-        self._begin(desk, lib.pt_crew_open)
 
     def spawn(self, desk: Desk, tag: int, first: Next = PROCEED) -> Pid:
         """Spawns a process, as `Desk.spawn` does. It is of the crew, with this tag, and does `first` next: if that is
@@ -527,7 +514,8 @@ class Crew(_OfDesk):
             return pid_of(self._give(lib.pt_crew_spawn, CPid(), at, *words))
 
     def spawn_child(self, desk: Desk, parent: Pid, linked: bool, tag: int, first: Next = PROCEED) -> Pid:
-        """The same of a child of a process, as `Desk.spawn_child`.
+        """The same of a child of a process, as `Desk.spawn_child`. The parent is no supervisor of the crew: a supervisor
+        starts its children itself.
 
         Fault: GONE if the parent is not alive here, WORN, FULL if no slot is free, MEMORY.
         """
@@ -535,13 +523,34 @@ class Crew(_OfDesk):
         with self._over(desk) as at:
             return pid_of(self._give(lib.pt_crew_spawn_child, CPid(), at, *words))
 
+    def spawn_supervisor(self, desk: Desk, tag: int, spec: SupervisorSpec, children: Sequence[ChildSpec]) -> Pid:
+        """Spawns a supervisor with this tag, which starts its children in the next step, in order.
+
+        Fault: WORN, FULL if no slot is free, MEMORY.
+        """
+        kids = c_children(children)
+        words = number("tag", tag, 0, U64), c_spec("spec", spec), kids, len(kids)
+        with self._over(desk) as at:
+            return pid_of(self._give(lib.pt_crew_spawn_supervisor, CPid(), at, *words))
+
+    def supervise(self, p: Pid, spec: SupervisorSpec, children: Sequence[ChildSpec]) -> bool:
+        """Answers for a running process, as for a child that was told "start", that it is a supervisor. Its own supervisor
+        should be its `parent`, with which it exits then. Answer so each time it is started. Returns False, and nothing has
+        changed, if p is not running. Fault: MEMORY, and then it is running still."""
+        kids = c_children(children)
+        words = c_pid("p", p), c_spec("spec", spec), kids, len(kids)
+        code = self._call(lib.pt_crew_supervise, *words)
+        if code not in (Code.OK, Code.NOT_RUNNING):
+            raise _fault(lib.pt_crew_supervise, words, code)
+        return code == Code.OK
+
     def step(self, desk: Desk, budget: int = 64, most: int = 64) -> tuple[list[Job], Turned]:
         """A turn of the desk with this budget; then it reads what is new, wakes whose time has come, and runs the
         processes in the queue, in order, until there are `most` jobs or each was come to once. Returns the jobs, and what
         the turn did.
 
-        No process has two jobs. A process that was told anything but "exit" is running. If there was no memory or no
-        stamp for a process it stays in the queue, and `refused` is true.
+        No process has two jobs, and a supervisor has one only of its exit. A process that was told anything but "exit" is
+        running. If there was no memory or no stamp for a process it stays in the queue, and `refused` is true.
         """
         budget, most = number("budget", budget, 0, U32), number("most", most, 0, U16)
         jobs = (CJob * most)()
@@ -562,7 +571,7 @@ class Crew(_OfDesk):
 
     def answer_all(self, answers: Sequence[tuple[Pid, Next]]) -> int:
         """Takes the answers in order, up to the first of a process that is not running. Returns how many were taken."""
-        return self._answer(answers_of(answers))
+        return self._answer(_answers_of(answers))
 
     def _answer(self, answers: c.Array[CAnswer]) -> int:
         taken = c.c_size_t()
@@ -576,18 +585,32 @@ class Crew(_OfDesk):
         exit that it tells. So a crew knows each reason if each loss is taken here before the step that tells of the exit:
         a `Desk.turn`, then this for each loss, and then a `step` with the budget 0.
         """
-        return self._note_loss(desk, lib.pt_crew_note_loss)
+        code = self._call_over(desk, lib.pt_crew_note_loss, 0)
+        if code == Code.NOTHING:
+            return None
+        if code:
+            raise _fault(lib.pt_crew_note_loss, (), code)
+        return desk.next_loss()
 
     def set_time(self, now: int) -> None:
         """Says what time it is in the calls that follow, in a unit of your own."""
         self._must(lib.pt_crew_set_time, number("now", now, 0, U64))
 
     def begin_again(self, desk: Desk) -> None:
-        """Goes on over the desk of the same number in the node that was resumed. Each process is in the queue, and does next
-        what it was to do. Each exit has to be told before the node is gathered, as it is where the crew is idle: `go_on`
-        does not ask for that. Fault: MEMORY, and then it may be called again."""
+        """Goes on over the desk of the same number in the node that was resumed. Each process is in the queue, supervisors
+        too, and does next what it was to do. Each exit has to be told before the node is gathered, as it is where the crew
+        is idle: `go_on` does not ask for that. Fault: MEMORY, and then it may be called again."""
         node = self._again(desk)
         self._must(lib.pt_crew_begin_again)
+        self._node = node
+
+    def go_on(self, desk: Desk, history: History) -> None:
+        """Goes on over the desk of the same number in the node that was resumed, with the history of the node before:
+        `gather`, `Gathered.settle_unlisted`, `Settled.history`, `Settled.resume`, and this for the crew of each desk. The
+        reason of each exit in the history is told once the exit is. The function `go_on` does all of that in one call."""
+        node = self._again(desk)
+        with of_type("history", history, History)._held_alone():
+            self._must(lib.pt_crew_go_on, history._at)
         self._node = node
 
     def next_time(self) -> Optional[int]:
@@ -604,6 +627,19 @@ class Crew(_OfDesk):
         """What p does next, or None if it is none of the crew."""
         out = self._find(lib.pt_crew_next, CNext(), c_pid("p", p))
         return None if out is None else next_of(out)
+
+    def children(self, p: Pid) -> Optional[list[Child]]:
+        """The children of a supervisor in their places, or None if p is no supervisor of the crew."""
+        who = c_pid("p", p)
+        count = self._find(lib.pt_crew_children, c.c_size_t(), who)
+        if count is None:
+            return None
+        return [child_of(self._give(lib.pt_crew_child, CChild(), who, place)) for place in range(count.value)]
+
+    def child(self, p: Pid, place: int) -> Optional[Child]:
+        """The child in a place of a supervisor, or None if p is no supervisor of the crew, or has fewer children."""
+        out = self._find(lib.pt_crew_child, CChild(), c_pid("p", p), number("place", place, 0, U64))
+        return None if out is None else child_of(out)
 
     def __len__(self) -> int:
         return self._give(lib.pt_crew_len, c.c_size_t()).value
@@ -851,71 +887,66 @@ def gather(desks: Sequence[Desk]) -> Gathered:
 
 
 class NotGoneOn(Fault):
-    """A node that has not gone on. Nothing is lost: `go_on` with its `node` and the same crews, or teams, does the rest."""
+    """A node that has not gone on. Nothing is lost: `go_on` with its `node` and the same crews does the rest."""
 
     # the desks, or the gathered or the settled node, with what was done
     node: Union[list[Desk], Gathered, Settled]
 
 
-def _each_of(name: str, each: Sequence[D], kind: type[D], node: Union[list[Desk], Gathered, Settled]) -> list[D]:
-    """The crews or teams, if they are those of the desks of the node, in order."""
-    each = _all_of(name, each, kind)
+def _crews_of(crews: Sequence[Crew], node: Union[list[Desk], Gathered, Settled]) -> list[Crew]:
+    """The crews, if they are those of the desks of the node, in order."""
+    crews = _all_of("crews", crews, Crew)
     count = len(node) if isinstance(node, list) else node.desks()
     opened = node[0]._opened if isinstance(node, list) else node._opened
-    fit = len(each) == count and all(
-        it._number == number and it._opened is opened and (not isinstance(node, list) or it._node is node[0]._node)
-        for number, it in enumerate(each))
+    fit = len(crews) == count and all(
+        crew._number == number and crew._opened is opened and (not isinstance(node, list) or crew._node is node[0]._node)
+        for number, crew in enumerate(crews))
     if not fit:
-        raise ValueError(f"{name} are not those of all desks of the node in order")
-    return each
+        raise ValueError("crews are not those of all desks of the node in order")
+    return crews
 
 
 def go_on(node: Union[Sequence[Desk], Gathered, Settled], crews: Sequence[Crew]) -> tuple[list[Desk], History]:
     """Goes on with a whole node, at any time between two steps: gathers its desks, settles it, takes its history, and
-    resumes it. Each crew goes on over the desk of its number. Returns the desks, with empty journals, and what happened
-    since they had empty journals last. What was passed as `node` is empty then.
+    resumes it. Each crew goes on over the desk of its number, as by `Crew.go_on`. Returns the desks, with empty journals, and
+    what happened since they had empty journals last. What was passed as `node` is empty then.
 
     Each process of the crews does next what it was to do, and running ones may be answered as before. Each is in the queue,
-    so that the next steps find what it got, and tell of each exit that was not told, with its reason: also if it exited in
-    settling, and a loss told the reason (`Crew.next_loss`). What the desks lost and keep, they keep.
+    supervisors too, so that the next steps find what it got, such as the exit of a supervisor's child. They tell of each
+    exit that was not told, with its reason: also if it exited in settling, and a loss told the reason (`Crew.next_loss`).
+    What the desks lost and keep, they keep.
 
     Raises ValueError if these are not all desks of one node and their crews, in order, and Busy if another thread is using
     one: nothing has changed then. NotGoneOn: MEMORY, or WORN if a clock is at its limit. It has the node, with what was
     done, and the crews are as they were.
     """
-    return goes_on(lib.pt_crews_go_on, "crews", Crew, node, crews)
-
-
-def goes_on(call: Callable[..., int], name: str, kind: type[D], node: Union[Sequence[Desk], Gathered, Settled],
-            each: Sequence[D]) -> tuple[list[Desk], History]:
-    """Goes on with a whole node by this call, and with its crews or teams."""
     if not isinstance(node, (Gathered, Settled)):
         node = _whole("node", node)
-    each = _each_of(name, each, kind, node)
+    crews = _crews_of(crews, node)
     held: list[_Held] = [*node] if isinstance(node, list) else [node]
     gathered, settled, history = Gathered()._from(held[0]), Settled()._from(held[0]), History()
-    alone: list[_Held] = [*held, *each]
+    alone: list[_Held] = [*held, *crews]
     with ExitStack() as locks:
         for it in alone:
             locks.enter_context(it._held_alone())
-        desks = (CHandle * len(each))(*(it._handle for it in held if isinstance(it, Desk)))
-        given = (CHandle * len(each))(*(it._handle for it in each))
+        desks = (CHandle * len(crews))(*(it._handle for it in held if isinstance(it, Desk)))
+        given = (CHandle * len(crews))(*(crew._handle for crew in crews))
         if not isinstance(node, list):
             (gathered if isinstance(node, Gathered) else settled)._handle.at = node._handle.at
-        code = call(given, len(each), desks, len(each), gathered._at, settled._at, history._at)
+        code = lib.pt_crews_go_on(given, len(crews), desks, len(crews), gathered._at, settled._at, history._at)
         for it in held:
             it._handle.at = None
-        for one, handle in zip(each, given):
-            one._handle.at = handle.at
+        for crew, handle in zip(crews, given):
+            crew._handle.at = handle.at
         if code and isinstance(node, list):
             for desk, handle in zip(node, desks):
                 desk._handle.at = handle.at
     if code:
-        fault = _fault(call, (), code, NotGoneOn)
+        fault = _fault(lib.pt_crews_go_on, (), code, NotGoneOn)
         assert isinstance(fault, NotGoneOn)
         fault.node = gathered if gathered._handle.at else settled if settled._handle.at else node
         raise fault
     resumed = _desks_of(desks, held[0]._opened)
-    for one, desk in zip(each, resumed):
-        one._node = desk._node
+    for crew, desk in zip(crews, resumed):
+        crew._node = desk._node
     return resumed, history

@@ -1,6 +1,6 @@
 """The structs, codes and calls of the library. Written by bindings/abi.py: change nothing here.
 
-pundewo.h says what they mean. `CODES` and `TEAM_CODES` are what the library says of its codes.
+pundewo.h says what they mean. `CODES` and `SUPERVISOR_CODES` are what the library says of its codes.
 """
 
 from __future__ import annotations
@@ -66,7 +66,7 @@ CODES = {
     "event_refused": 6, "next_wait": 0, "next_wait_until": 1, "next_proceed": 2, "next_stop": 3, "next_running": 4,
     "job_start": 0, "job_proceed": 1, "job_item": 2, "job_timeout": 3, "job_exit": 4,
 }
-TEAM_CODES = {
+SUPERVISOR_CODES = {
     "one_for_one": 0, "one_for_all": 1, "rest_for_one": 2, "permanent": 0, "transient": 1, "temporary": 2,
     "infinity": 0, "after": 1, "brutal_kill": 2,
 }
@@ -145,7 +145,7 @@ class CNext(c.Structure):
 
 class CJob(c.Structure):
     _fields_ = [("code", c.c_uint32), ("pid", CPid), ("tag", c.c_uint64), ("item", CItem), ("reason", CReason),
-                ("was", CNext)]
+                ("was", CNext), ("has_supervisor", c.c_bool), ("again", c.c_bool), ("supervisor", CPid)]
 
 
 class CAnswer(c.Structure):
@@ -164,10 +164,6 @@ class CChildSpec(c.Structure):
 class CChild(c.Structure):
     _fields_ = [("has_pid", c.c_bool), ("wanted", c.c_bool), ("pid", CPid), ("restart", c.c_uint32),
                 ("shutdown", c.c_uint32), ("time", c.c_uint64)]
-
-
-class CNotice(c.Structure):
-    _fields_ = [("job", CJob), ("has_supervisor", c.c_bool), ("again", c.c_bool), ("supervisor", CPid)]
 
 
 class CTimer(c.Structure):
@@ -241,12 +237,11 @@ class CAskingAbout(c.Structure):
                 ("request_size", c.c_size_t), ("heard_size", c.c_size_t)]
 
 
-class CTeamCodes(c.Structure):
+class CSupervisorCodes(c.Structure):
     _fields_ = [("one_for_one", c.c_uint32), ("one_for_all", c.c_uint32), ("rest_for_one", c.c_uint32),
                 ("permanent", c.c_uint32), ("transient", c.c_uint32), ("temporary", c.c_uint32),
                 ("infinity", c.c_uint32), ("after", c.c_uint32), ("brutal_kill", c.c_uint32),
-                ("supervisor_spec", c.c_size_t), ("child_spec", c.c_size_t), ("child", c.c_size_t),
-                ("notice", c.c_size_t)]
+                ("supervisor_spec", c.c_size_t), ("child_spec", c.c_size_t), ("child", c.c_size_t)]
 
 
 _P = c.POINTER
@@ -303,12 +298,16 @@ CALLS: dict[str, list[Any]] = {
     "pt_crew_open": [_P(CHandle)],
     "pt_crew_spawn": [_P(CHandle), _P(CHandle), c.c_uint64, CNext, _P(CPid)],
     "pt_crew_spawn_child": [_P(CHandle), _P(CHandle), CPid, c.c_bool, c.c_uint64, CNext, _P(CPid)],
+    "pt_crew_spawn_supervisor": [_P(CHandle), _P(CHandle), c.c_uint64, CSupervisorSpec, _P(CChildSpec), c.c_size_t,
+        _P(CPid)],
+    "pt_crew_supervise": [_P(CHandle), CPid, CSupervisorSpec, _P(CChildSpec), c.c_size_t],
     "pt_crew_step": [_P(CHandle), _P(CHandle), c.c_uint32, _P(CJob), c.c_size_t, _P(c.c_size_t), _P(CTurned)],
     "pt_crew_answer": [_P(CHandle), _P(CAnswer), c.c_size_t, _P(c.c_size_t)],
     "pt_crew_note_loss": [_P(CHandle), _P(CHandle), c.c_size_t],
     "pt_crew_set_time": [_P(CHandle), c.c_uint64],
-    "pt_crew_begin_again": [_P(CHandle)],
     "pt_crews_go_on": [_P(CHandle), c.c_size_t, _P(CHandle), c.c_size_t, _P(CHandle), _P(CHandle), _P(CHandle)],
+    "pt_crew_go_on": [_P(CHandle), _P(CHandle)],
+    "pt_crew_begin_again": [_P(CHandle)],
     "pt_crew_next_time": [_P(CHandle), _P(c.c_uint64)],
     "pt_crew_tag": [_P(CHandle), CPid, _P(c.c_uint64)],
     "pt_crew_next": [_P(CHandle), CPid, _P(CNext)],
@@ -316,29 +315,8 @@ CALLS: dict[str, list[Any]] = {
     "pt_crew_queued": [_P(CHandle), _P(c.c_size_t)],
     "pt_crew_is_idle": [_P(CHandle), _P(CHandle), _P(c.c_bool)],
     "pt_crew_refused": [_P(CHandle), _P(c.c_bool)],
-    "pt_team_open": [_P(CHandle)],
-    "pt_team_give_up": [_P(CHandle)],
-    "pt_team_spawn": [_P(CHandle), _P(CHandle), c.c_uint64, CNext, _P(CPid)],
-    "pt_team_spawn_child": [_P(CHandle), _P(CHandle), CPid, c.c_bool, c.c_uint64, CNext, _P(CPid)],
-    "pt_team_spawn_supervisor": [_P(CHandle), _P(CHandle), c.c_uint64, CSupervisorSpec, _P(CChildSpec), c.c_size_t,
-        _P(CPid)],
-    "pt_team_supervise": [_P(CHandle), CPid, CSupervisorSpec, _P(CChildSpec), c.c_size_t],
-    "pt_team_step": [_P(CHandle), _P(CHandle), c.c_uint32, _P(CNotice), c.c_size_t, _P(c.c_size_t), _P(CTurned)],
-    "pt_team_answer": [_P(CHandle), _P(CAnswer), c.c_size_t, _P(c.c_size_t)],
-    "pt_team_note_loss": [_P(CHandle), _P(CHandle), c.c_size_t],
-    "pt_team_set_time": [_P(CHandle), c.c_uint64],
-    "pt_team_begin_again": [_P(CHandle)],
-    "pt_team_go_on": [_P(CHandle), _P(CHandle)],
-    "pt_teams_go_on": [_P(CHandle), c.c_size_t, _P(CHandle), c.c_size_t, _P(CHandle), _P(CHandle), _P(CHandle)],
-    "pt_team_next_time": [_P(CHandle), _P(c.c_uint64)],
-    "pt_team_tag": [_P(CHandle), CPid, _P(c.c_uint64)],
-    "pt_team_next": [_P(CHandle), CPid, _P(CNext)],
-    "pt_team_len": [_P(CHandle), _P(c.c_size_t)],
-    "pt_team_queued": [_P(CHandle), _P(c.c_size_t)],
-    "pt_team_is_idle": [_P(CHandle), _P(CHandle), _P(c.c_bool)],
-    "pt_team_refused": [_P(CHandle), _P(c.c_bool)],
-    "pt_team_children": [_P(CHandle), CPid, _P(c.c_size_t)],
-    "pt_team_child": [_P(CHandle), CPid, c.c_size_t, _P(CChild)],
+    "pt_crew_children": [_P(CHandle), CPid, _P(c.c_size_t)],
+    "pt_crew_child": [_P(CHandle), CPid, c.c_size_t, _P(CChild)],
     "pt_timers_open": [_P(CHandle)],
     "pt_timers_start": [_P(CHandle), c.c_uint64, c.c_uint64, _P(CTimer)],
     "pt_timers_cancel": [_P(CHandle), CTimer],
@@ -411,9 +389,8 @@ ABOUT: dict[str, list[Any]] = {
     "pt_about_answer": [_P(CAnswer)],
     "pt_about_asking": [_P(CAskingAbout)],
     "pt_about_post": [_P(CPost), _P(c.c_size_t)],
-    "pt_about_teams": [_P(CTeamCodes)],
+    "pt_about_supervisors": [_P(CSupervisorCodes)],
     "pt_about_supervisor_spec": [_P(CSupervisorSpec)],
     "pt_about_child_spec": [_P(CChildSpec)],
     "pt_about_child": [_P(CChild)],
-    "pt_about_notice": [_P(CNotice)],
 }

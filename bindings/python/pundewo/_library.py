@@ -186,7 +186,8 @@ def job_of(j: CJob) -> Job:
     name = JOBS[j.code]
     return unchecked(Job, (
         name, pid_of(j.pid), j.tag, item_of(j.item) if name == "item" else None,
-        reason_of(j.reason) if name == "exit" else None, next_of(j.was) if name == "exit" else None))
+        reason_of(j.reason) if name == "exit" else None, next_of(j.was) if name == "exit" else None,
+        pid_of(j.supervisor) if j.has_supervisor else None, j.again))
 
 
 def left_over_of(l: CLeftOver) -> LeftOver:

@@ -350,6 +350,8 @@ class _Job(NamedTuple):
     item: Optional[Item]
     reason: Optional[Reason]
     was: Optional[Next]
+    supervisor: Optional[Pid]
+    again: bool
 
 
 class Job(_Checked, _Job):
@@ -357,22 +359,29 @@ class Job(_Checked, _Job):
 
     "item" has an item. "exit" has the reason, and in `was` what the process was to do. The reason is that of the process's
     own exit. If an exit signal ended the process, or it exited while its node was settled, it is the one that the desk's
-    loss told (`Crew.next_loss`), or NOPROC if none did.
+    loss told (`Crew.next_loss`), or NOPROC if none did. "start" has the supervisor that started the process, if one did, and
+    in `again` whether a child in the same place had exited before.
     """
 
     __slots__ = ()
 
     def __new__(cls, name: str, pid: Pid, tag: int, item: Optional[Item] = None, reason: Optional[Reason] = None,
-                was: Optional[Next] = None) -> Job:
+                was: Optional[Next] = None, supervisor: Optional[Pid] = None, again: bool = False) -> Job:
         name = one_of("Job.name", name, JOBS)
+        if name == "start":
+            supervisor = maybe("Job.supervisor", supervisor, Pid)
+        if flag("Job.again", again) and supervisor is None:
+            raise ValueError("Job.again is True, and Job.supervisor must be the process that started this one")
         return unchecked(cls, (
             name, of_type("Job.pid", pid, Pid), number("Job.tag", tag, 0, U64),
             part("Job.item", item, Item, name == "item"), part("Job.reason", reason, Reason, name == "exit"),
-            part("Job.was", was, Next, name == "exit")))
+            part("Job.was", was, Next, name == "exit"),
+            supervisor if name == "start" else part("Job.supervisor", supervisor, Pid, False), again))
 
     def __str__(self) -> str:
         words = (self.name, self.pid, self.tag, self.item, self.reason, self.was)
-        return " ".join(str(word) for word in words if word is not None)
+        under = "" if self.supervisor is None else f" under {self.supervisor}"
+        return " ".join(str(word) for word in words if word is not None) + under + " again" * self.again
 
 
 SIGNALS = SIGNAL_CODES

@@ -7,6 +7,7 @@ from itertools import groupby
 from typing import Any
 
 import pundewo as p
+from pundewo.supervisors import Child, ChildSpec, Shutdown, SupervisorSpec
 
 Words = list[str]
 # What reads a pick, and what reads a reason.
@@ -43,6 +44,21 @@ def answer(crew: p.Crew, words: Words, pid: Callable[[str], p.Pid], read: Reader
     return f"taken {taken}" if taken == len(answers) else f"taken {taken}, then not running"
 
 
+def children_of(words: Words) -> list[ChildSpec]:
+    """What a supervisor knows of its children, of three words behind a comma each."""
+    children = []
+    for place in range(1, len(words), 4):
+        tag, restart, end = words[place:place + 3]
+        shutdown: Shutdown = int(end) if end.isdigit() else end
+        children.append(ChildSpec(int(tag), restart, shutdown))
+    return children
+
+
+def child_text(child: Child) -> str:
+    unwanted = "" if child.wanted else " unwanted"
+    return f"{child.pid or '-'} {child.restart} {child.shutdown}{unwanted}"
+
+
 class OnCrew:
     """Makes the calls of a crew; it is given the readers of words, and what prints a turn."""
 
@@ -63,6 +79,25 @@ class OnCrew:
 
     def crew_spawn_child(self, crew: p.Crew, desk: p.Desk, w: Words) -> p.Pid:
         return crew.spawn_child(desk, self.pid(w[0]), w[1] == "true", int(w[2]), next_of(w[3:], self.read))
+
+    def spec(self, words: Words) -> SupervisorSpec:
+        """A supervisor, of four words."""
+        strategy, most, span, parent = words
+        return SupervisorSpec(strategy, int(most), int(span), False, None if parent == "-" else self.pid(parent))
+
+    def crew_supervisor(self, crew: p.Crew, desk: p.Desk, w: Words) -> p.Pid:
+        return crew.spawn_supervisor(desk, int(w[1]), self.spec(w[2:6]), children_of(w[6:]))
+
+    def crew_supervise(self, crew: p.Crew, desk: p.Desk, w: Words) -> str:
+        return "ok" if crew.supervise(self.pid(w[1]), self.spec(w[2:6]), children_of(w[6:])) else "not running"
+
+    def crew_children(self, crew: p.Crew, desk: p.Desk, w: Words) -> str:
+        pid = self.pid(w[1])
+        children = crew.children(pid)
+        if children is None:
+            return "none"
+        assert [crew.child(pid, place) for place in range(len(children) + 1)] == [*children, None]
+        return "; ".join(map(child_text, children))
 
     def crew_step(self, crew: p.Crew, desk: p.Desk, w: Words) -> str:
         jobs, turned = crew.step(desk, int(w[1]), int(w[2]))

@@ -78,6 +78,19 @@ class Flag(Domain):
         yield from (0, 1, 2**70, -1, 1.0, None, "yes", "", b"", (), [True], object(), bool, Small.ONE, v.Pid(0, 0, 1))
 
 
+class Fixed(Flag):
+    """One of True and False."""
+
+    def __init__(self, value: bool):
+        self.value = value
+
+    def good(self, draw: random.Random) -> bool:
+        return self.value
+
+    def bounds(self) -> list[bool]:
+        return [self.value]
+
+
 class Only(Domain):
     """One of these values. A name of another shape is not among the bad ones: with it, another field is refused."""
 
@@ -193,7 +206,8 @@ def _next(*names: str, **has: Domain) -> dict[str, Domain]:
 
 
 def _job(*names: str, **has: Domain) -> dict[str, Domain]:
-    return {"name": Only(*names), "pid": PID, "tag": LONG, "item": NOTHING, "reason": NOTHING, "was": NOTHING, **has}
+    rest = {**dict.fromkeys(("item", "reason", "was", "supervisor"), NOTHING), "again": Only(False)}
+    return {"name": Only(*names), "pid": PID, "tag": LONG, **rest, **has}
 
 
 SHAPES: dict[type, list[dict[str, Domain]]] = {
@@ -220,7 +234,8 @@ SHAPES: dict[type, list[dict[str, Domain]]] = {
     v.Loss: [{"pid": PID, "reason": A(v.Reason, True), "items": Items()}],
     v.Next: [_next("wait", pick=PICK), _next("wait-until", pick=PICK, until=LONG), _next("proceed", "running"),
              _next("stop", reason=REASON)],
-    v.Job: [_job("start", "proceed", "timeout"), _job("item", item=ITEM), _job("exit", reason=REASON, was=NEXT)],
+    v.Job: [_job("proceed", "timeout"), _job("start", supervisor=A(v.Pid, True), again=Fixed(False)),
+            _job("start", supervisor=PID, again=Fixed(True)), _job("item", item=ITEM), _job("exit", reason=REASON, was=NEXT)],
     v.Config: [{"slots": WORD, "top_version": WORD, "lane": WORD, "start": LONG}],
 }
 

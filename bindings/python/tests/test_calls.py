@@ -14,6 +14,7 @@ from unittest import mock
 import pundewo as p
 from pundewo import _abi as abi
 from pundewo import _library as library
+from pundewo import supervisors as s
 from domains import BODY, BYTE, CONFIG, LONG, NEXT, PICK, PID, REASON, REF, SHAPES, SHORT, WORD, Domain, Flag, Ints
 
 ROUNDS = 20
@@ -58,7 +59,61 @@ class Answers(Domain):
         yield from ([(pid, p.ANY)], [((0, 0, 1), p.PROCEED)], [(pid, ("proceed", None, None, None))], object(), "ab")
 
 
+class Specs(Domain):
+    """Supervisors without their children."""
+
+    def good(self, draw: random.Random) -> s.SupervisorSpec:
+        parent = draw.choice([None, PID.good(draw)])
+        return s.SupervisorSpec(draw.choice(s.STRATEGIES), LONG.good(draw), LONG.good(draw), FLAG.good(draw), parent)
+
+    def bounds(self) -> list[Any]:
+        return [s.SupervisorSpec(strategy) for strategy in s.STRATEGIES]
+
+    def bad(self, draw: random.Random) -> Iterator[Any]:
+        spec = s.SupervisorSpec()
+        yield from (None, 0, 2**70, "one_for_one", tuple(spec), [], s.ChildSpec(1), object(), s.SupervisorSpec)
+        for strategy in ("all", "", None, 0, "One_for_one"):
+            yield spec._replace(strategy=strategy)  # type: ignore[arg-type]
+        for bad in LONG.bad(draw):
+            yield from (spec._replace(most=bad), spec._replace(span=bad))
+        for bad in FLAG.bad(draw):
+            yield spec._replace(timed=bad)
+        for bad in PID.bad(draw):
+            if bad is not None:
+                yield spec._replace(parent=bad)
+
+
+class Kids(Domain):
+    """What a supervisor knows of its children, in order."""
+
+    def good(self, draw: random.Random) -> list[s.ChildSpec]:
+        ends: list[s.Shutdown] = ["infinity", "brutal_kill", LONG.good(draw)]
+        return [s.ChildSpec(LONG.good(draw), draw.choice(s.RESTARTS), end) for end in ends]
+
+    def bounds(self) -> list[Any]:
+        return [[], [s.ChildSpec(0), s.ChildSpec(2**64 - 1)]]
+
+    def bad(self, draw: random.Random) -> Iterator[Any]:
+        child = s.ChildSpec(1)
+        yield from (None, 0, 2**70, "ab", child, [7], [child, None], [(1, "permanent", "infinity")], [s.ChildSpec], object())
+        for restart in ("never", "", None, 0, "Permanent"):
+            yield [child, child._replace(restart=restart)]  # type: ignore[arg-type]
+        for bad in LONG.bad(draw):
+            yield [child._replace(tag=bad)]
+            if not isinstance(bad, str):
+                yield [child._replace(shutdown=bad)]
+        yield from ([child._replace(shutdown=bad)] for bad in ("soon", "", "Infinity"))
+
+
+class Histories(Domain):
+    """A history."""
+
+    def bad(self, draw: random.Random) -> Iterator[Any]:
+        yield from (None, 0, 2**70, "ab", [], p.Gathered(), p.open_node()[0], object(), p.History)
+
+
 DESK, ANSWERS, CREWS = OneDesk(), Answers(), Crews()
+SPEC, KIDS, HISTORY = Specs(), Kids(), Histories()
 
 # Each public call of each class, and of the module, with its parameters.
 CALLS: dict[str, dict[str, dict[str, Domain]]] = {
@@ -85,8 +140,11 @@ CALLS: dict[str, dict[str, dict[str, Domain]]] = {
     "Crew": {
         "spawn": {"desk": DESK, "tag": LONG, "first": NEXT},
         "spawn_child": {"desk": DESK, "parent": PID, "linked": FLAG, "tag": LONG, "first": NEXT},
+        "spawn_supervisor": {"desk": DESK, "tag": LONG, "spec": SPEC, "children": KIDS},
+        "supervise": {"p": PID, "spec": SPEC, "children": KIDS}, "children": {"p": PID}, "child": {"p": PID, "place": LONG},
         "step": {"desk": DESK, "budget": WORD, "most": SHORT}, "answer": {"p": PID, "does": NEXT},
         "answer_all": {"answers": ANSWERS}, "set_time": {"now": LONG}, "begin_again": {"desk": DESK},
+        "go_on": {"desk": DESK, "history": HISTORY},
         "next_loss": {"desk": DESK},
         "next_time": {},
         "tag": {"p": PID}, "next": {"p": PID}, "queued": {}, "is_idle": {"desk": DESK}, "refused": {}, "close": {},
@@ -96,7 +154,8 @@ CALLS: dict[str, dict[str, dict[str, Domain]]] = {
 }
 ERRORS = {"Fault", "NotGoneOn", "Unsettled", "Busy", "Code"}
 TYPES = {int: Ints, bool: Flag, typing.Sequence[p.Desk]: Desks, p.Desk: OneDesk,
-         typing.Sequence[tuple[p.Pid, p.Next]]: Answers, typing.Sequence[p.Crew]: Crews,
+         typing.Sequence[tuple[p.Pid, p.Next]]: Answers, typing.Sequence[p.Crew]: Crews, s.SupervisorSpec: Specs,
+         typing.Sequence[s.ChildSpec]: Kids, p.History: Histories,
          typing.Union[typing.Sequence[p.Desk], p.Gathered, p.Settled]: Nodes}
 
 
@@ -134,6 +193,9 @@ def back(word: Any) -> Any:
     kinds: dict[type, Callable[[Any], Any]] = {
         abi.CPid: library.pid_of, abi.CRef: library.ref_of, abi.CBody: library.body_of,
         abi.CReason: library.reason_of, abi.CPick: library.pick_of, abi.CNext: library.next_of,
+        abi.CSupervisorSpec: lambda spec: s.SupervisorSpec(
+            s.STRATEGIES[spec.strategy], spec.most, spec.span, spec.timed,
+            library.pid_of(spec.parent) if spec.has_parent else None),
         abi.CConfig: lambda config: p.Config(*(getattr(config, field) for field, _ in config._fields_))}
     return kinds[type(word)](word) if type(word) in kinds else word
 
@@ -179,7 +241,8 @@ class Node:
         """Words with which the call would change the node, or read it."""
         values = {PID: self.b, REF: self.monitor, BODY: p.Body(1, 1), REASON: p.Reason("other", 3), PICK: p.ANY,
                   FLAG: True, WORD: 8, LONG: 0, BYTE: 1, CONFIG: p.Config(slots=8), SHORT: 4, NEXT: p.PROCEED,
-                  DESK: self.desks[0], ANSWERS: [], CREWS: self.crews}
+                  DESK: self.desks[0], ANSWERS: [], CREWS: self.crews, SPEC: s.SupervisorSpec(), KIDS: [s.ChildSpec(1)],
+                  HISTORY: self.history}
         return {word: values.get(domain, self.desks) for word, domain in CALLS[where][name].items()}
 
     def told(self) -> list[Any]:
@@ -227,9 +290,9 @@ class Calls(unittest.TestCase):
             with self.assertRaises(p.Fault):
                 node.call(where, name)(**words)
         ((_, (_, *got)),) = recorder.calls
-        # (a desk crosses as its handle, and the row of a crew's jobs is behind the budget)
+        # (a desk crosses as its handle, and a row of jobs or of children as an array behind the other words)
         got = [word for word in got if word is not None and not isinstance(word, ctypes.Array)]
-        wanted = [word for word in words.values() if not isinstance(word, p.Desk)]
+        wanted = [word for word in words.values() if not isinstance(word, (p.Desk, list))]
         self.assertEqual(got[:len(wanted)], wanted, f"{where}.{name}")
 
     def test_what_is_out_of_range_calls_nothing(self) -> None:

@@ -164,7 +164,7 @@ class Crews(unittest.TestCase):
         for _ in range(2):
             with self.assertRaises(p.NotGoneOn) as caught:
                 p.go_on(node, [crew])
-            self.assertEqual((caught.exception.code, caught.exception.call), (p.Code.WORN, "crews_go_on"))
+            self.assertEqual((caught.exception.code, caught.exception.call), (p.Code.WORN, "go_on"))
             node = caught.exception.node
             self.assertIsInstance(node, p.Gathered)
         self.assertEqual((len(node.history()), len(list(node.history().left_over())), crew.tag(a)), (2, 1, 1))

@@ -1,8 +1,9 @@
-//! The processes of one desk whose handlers are the program's own.
+//! The processes of one desk whose handlers are the program's own, and their supervisors.
 
-use crate::raw::{self, Handle, RawAnswer, RawJob, RawNext, RawTurned};
+use crate::raw::{self, Handle, RawAnswer, RawChild, RawChildSpec, RawJob, RawNext, RawTurned};
+use crate::supervisors::{Child, ChildSpec, Origin, SupervisorSpec};
 use crate::{
-    Desk, Fault, Gathered, Held, History, Item, Loss, NONE, OK, Origin, Pick, Pid, Reason, Settled, Turned, desks_of,
+    Desk, Fault, Gathered, Held, History, Item, Lineage, Loss, NONE, OK, Pick, Pid, Reason, Settled, Turned, desks_of,
     fault_of, found, is_whole, told,
 };
 use std::fmt;
@@ -26,8 +27,8 @@ pub enum Next {
 /// What the handler of a process is told.
 #[derive(Clone, Copy, Debug, PartialEq, Eq, PartialOrd, Ord, Hash)]
 pub enum What {
-    /// It begins: it was to proceed, and has been told nothing before.
-    Start,
+    /// It begins: it was to proceed, and has been told nothing before. The origin is `None` if the program spawned it.
+    Start(Option<Origin>),
     /// It proceeds, as it was answered.
     Proceed,
     /// It gets this item, which it waited for and which is out of its mailbox.
@@ -35,7 +36,7 @@ pub enum What {
     /// The time until which it waited has come, and no item fits.
     Timeout,
     /// It has exited with this reason, and this is what it was to do: [`Next::Running`], if it was told something that
-    /// nobody answered. It is told once, and the process is none of the crew then: it gets no answer.
+    /// nobody answered. It is told once, of supervisors too, and the process is none of the crew then: it gets no answer.
     ///
     /// The reason is that of its own exit, by [`Next::Stop`] or [`Desk::exit`]. If an exit signal ended the process, or it
     /// exited while its node was settled, it is the one that a loss told ([`Crew::next_loss`]), or [`Reason::Noproc`].
@@ -47,7 +48,7 @@ pub enum What {
 pub struct Job {
     /// The process.
     pub pid: Pid,
-    /// What it was spawned with.
+    /// What it was spawned or started with.
     pub tag: u64,
     /// What it is told.
     pub what: What,
@@ -70,11 +71,13 @@ impl fmt::Display for NotTaken {
 
 impl std::error::Error for NotTaken {}
 
-/// The processes of one desk whose handlers are the program's own: it says which is to run, and with what.
+/// The processes of one desk whose handlers are the program's own: it says which is to run, and with what. Others are
+/// supervisors, which handle what they get themselves ([`supervisors`](crate::supervisors)).
 ///
 /// A loop is: [`step`](Crew::step); for each job its handler, which makes calls of the desk as it likes; and for each job
 /// but [`What::Exit`] an answer, then or later, by [`answer`](Crew::answer). A handler takes no item from the mailbox of
-/// a process of the crew by itself. What the handlers sent is on its way by the next step, whose turn posts it first.
+/// a process of the crew by itself. What the handlers sent is on its way by the next step, whose turn posts it first. A
+/// supervisor is run by the step, and is told of in no job but that of its exit.
 ///
 /// No wake-up is lost: a process of the crew that has something to do is in the queue, or the next step finds it. If the
 /// crew is idle ([`is_idle`](Crew::is_idle)) and no letter waits ([`Desk::pending`]), nothing is to be done before the
@@ -88,7 +91,7 @@ impl std::error::Error for NotTaken {}
 /// let pid = crew.spawn(&mut desks[0], 7, Next::Proceed)?;
 /// let mut jobs = Vec::new();
 /// crew.step(&mut desks[0], 64, 64, &mut jobs)?;
-/// assert_eq!(jobs, [Job { pid, tag: 7, what: What::Start }]);
+/// assert_eq!(jobs, [Job { pid, tag: 7, what: What::Start(None) }]);
 /// crew.answer(&[(pid, Next::Stop(Reason::Normal))]).unwrap();
 /// crew.step(&mut desks[0], 64, 64, &mut jobs)?;
 /// assert_eq!(jobs[0].what, What::Exit(Reason::Normal, Next::Stop(Reason::Normal)));
@@ -151,7 +154,8 @@ impl Crew {
         Ok(out)
     }
 
-    /// Spawns a child of the parent as [`Desk::spawn_child`] does, else as [`spawn`](Crew::spawn).
+    /// Spawns a child of the parent as [`Desk::spawn_child`] does, else as [`spawn`](Crew::spawn). The parent is no
+    /// supervisor of the crew: a supervisor starts its children itself.
     ///
     /// # Errors
     ///
@@ -172,10 +176,43 @@ impl Crew {
         Ok(out)
     }
 
+    /// Spawns a supervisor with this tag, which starts its children in the next step, in order.
+    ///
+    /// # Errors
+    ///
+    /// [`Fault::WrongDesk`], else as [`Desk::spawn`].
+    pub fn spawn_supervisor(
+        &mut self,
+        desk: &mut Desk,
+        tag: u64,
+        spec: SupervisorSpec,
+        children: &[ChildSpec],
+    ) -> Result<Pid, Fault> {
+        self.is_of(desk)?;
+        let (mut out, children) = (Pid::default(), raw_children(children));
+        let (crew, desk, first, count) = (self.handle.own(), desk.handle.own(), children.as_ptr(), children.len());
+        told(unsafe { raw::pt_crew_spawn_supervisor(crew, desk, tag, spec.into(), first, count, &mut out) })?;
+        Ok(out)
+    }
+
+    /// Answers for a running process, as for a child that was told [`What::Start`], that it is a supervisor. Its own
+    /// supervisor should be its [`parent`](SupervisorSpec::parent), with which it exits then. Answer so each time it is
+    /// started.
+    ///
+    /// # Errors
+    ///
+    /// [`Fault::NotRunning`], if the process is not running or none of the crew. [`Fault::Memory`], and then it is running
+    /// still.
+    pub fn supervise(&mut self, p: Pid, spec: SupervisorSpec, children: &[ChildSpec]) -> Result<(), Fault> {
+        let children = raw_children(children);
+        let (first, count) = (children.as_ptr(), children.len());
+        told(unsafe { raw::pt_crew_supervise(self.handle.own(), p, spec.into(), first, count) })
+    }
+
     /// Does a step: a turn of the desk with this budget; then it reads what is new, wakes whose time has come, and runs
     /// the processes that are in the queue, in order, until there are `most` jobs or each was come to once. `jobs` holds
-    /// these jobs then, and no others. No process is in it twice. A process that was told anything but [`What::Exit`] is
-    /// running.
+    /// these jobs then, and no others. No process is in it twice, and a supervisor only with its exit. A process that was
+    /// told anything but [`What::Exit`] is running.
     ///
     /// If there was no memory or no stamp for a process, it stays in the queue, and [`refused`](Crew::refused) is true.
     ///
@@ -231,20 +268,37 @@ impl Crew {
         unsafe { raw::pt_crew_set_time(self.handle.own(), now) };
     }
 
-    /// Goes on over a desk of the resumed node, the one of the same number. Each process is in the queue then, does next
-    /// what it was to do, and is told by the next steps that it has exited, if it did in settling.
+    fn may_go_on(&self, desk: &Desk) -> Result<(), Fault> {
+        if (self.opened, self.number) == (desk.origin.opened, desk.number) { Ok(()) } else { Err(Fault::WrongDesk) }
+    }
+
+    /// Goes on over a desk of the resumed node, the one of the same number. Each process is in the queue then, supervisors
+    /// too, does next what it was to do, and is told by the next steps that it has exited, if it did in settling.
     ///
-    /// Each exit has to be told before the node is gathered, as it is where the crew is idle. [`go_on`] does not ask for
-    /// that.
+    /// Each exit has to be told before the node is gathered, as it is where the crew is idle. [`go_on`] and
+    /// [`Crew::go_on`] do not ask for that.
     ///
     /// # Errors
     ///
     /// [`Fault::WrongDesk`], else [`Fault::Memory`], and then it may be called again.
     pub fn begin_again(&mut self, desk: &Desk) -> Result<(), Fault> {
-        if (self.opened, self.number) != (desk.origin.opened, desk.number) {
-            return Err(Fault::WrongDesk);
-        }
+        self.may_go_on(desk)?;
         told(unsafe { raw::pt_crew_begin_again(self.handle.own()) })?;
+        self.node = desk.node;
+        Ok(())
+    }
+
+    /// Goes on over a desk of the resumed node, with the history of the node before: [`gather`](crate::gather),
+    /// [`settle_unlisted`](crate::Gathered::settle_unlisted), its [`history`](crate::Settled::history),
+    /// [`resume`](crate::Settled::resume), and this for the crew of each desk. The reason of each exit in the history is
+    /// told once the exit is. The function [`go_on`] does all of that in one call.
+    ///
+    /// # Errors
+    ///
+    /// [`Fault::WrongDesk`].
+    pub fn go_on(&mut self, desk: &Desk, history: &History) -> Result<(), Fault> {
+        self.may_go_on(desk)?;
+        told(unsafe { raw::pt_crew_go_on(self.handle.own(), &mut history.handle.lent()) })?;
         self.node = desk.node;
         Ok(())
     }
@@ -273,7 +327,19 @@ impl Crew {
         found(code, out.into())
     }
 
-    /// How many processes it has.
+    /// The children of a supervisor in their places, or `None` if the process is no supervisor of the crew.
+    pub fn children(&self, p: Pid) -> Option<Vec<Child>> {
+        let (mut handle, mut count) = (self.handle.lent(), 0);
+        let code = unsafe { raw::pt_crew_children(&mut handle, p, &mut count) };
+        (0..found(code, count)?).map(|place| child_at(&mut handle, p, place)).collect()
+    }
+
+    /// The child in a place of a supervisor, or `None` if the process is no supervisor of the crew, or has fewer children.
+    pub fn child(&self, p: Pid, place: usize) -> Option<Child> {
+        child_at(&mut self.handle.lent(), p, place)
+    }
+
+    /// How many processes it has, supervisors too.
     #[inline]
     pub fn len(&self) -> usize {
         let mut out = 0;
@@ -317,7 +383,19 @@ impl Crew {
     }
 }
 
-/// A node that goes on: its desks, or the node that a refused [`go_on`] has left, or [`team::go_on`](crate::team::go_on).
+/// The child in this place. The handle is that of a crew, and is lent to this call alone.
+fn child_at(crew: &mut Handle, p: Pid, place: usize) -> Option<Child> {
+    let mut out = RawChild::default();
+    // SAFETY: the handle is the only one of its crew, and the reference is to a separate value.
+    let code = unsafe { raw::pt_crew_child(crew, p, place, &mut out) };
+    found(code, out.into())
+}
+
+fn raw_children(children: &[ChildSpec]) -> Vec<RawChildSpec> {
+    children.iter().map(|&child| child.into()).collect()
+}
+
+/// A node that goes on: its desks, or the node that a refused [`go_on`] has left.
 #[derive(Debug)]
 pub enum Node {
     /// All desks of a node, each once and in order.
@@ -334,8 +412,7 @@ impl From<Vec<Desk>> for Node {
     }
 }
 
-/// A node that has not gone on, and why. Nothing is lost: the same call with this node and the same crews, or teams, does
-/// the rest.
+/// A node that has not gone on, and why. Nothing is lost: the same call with this node and the same crews does the rest.
 #[derive(Debug)]
 pub struct NodeBack {
     /// Why it has not gone on.
@@ -360,12 +437,13 @@ impl From<NodeBack> for Fault {
 }
 
 /// Goes on with a whole node, at any time between two steps: gathers its desks, settles it, takes its history, and resumes
-/// it. Each crew goes on over the desk of its number. Returns the desks, with empty journals, and what happened since they
-/// had empty journals last.
+/// it. Each crew goes on over the desk of its number, as by [`Crew::go_on`]. Returns the desks, with empty journals, and
+/// what happened since they had empty journals last.
 ///
 /// Each process of the crews does next what it was to do, and running ones may be answered as before. Each is in the queue,
-/// so that the next steps find what it got, and tell of each exit that was not told, with its reason: also if it exited in
-/// settling, and a loss told the reason ([`Crew::next_loss`]). What the desks lost and keep, they keep.
+/// supervisors too, so that the next steps find what it got, such as the exit of a supervisor's child. They tell of each
+/// exit that was not told, with its reason: also if it exited in settling, and a loss told the reason
+/// ([`Crew::next_loss`]). What the desks lost and keep, they keep.
 ///
 /// ```
 /// use pundewo::{Config, Crew, Next, Reason, What, go_on, open};
@@ -392,69 +470,31 @@ pub fn go_on(node: impl Into<Node>, crews: &mut [Crew]) -> Result<(Vec<Desk>, Hi
     node.into().go_on(crews)
 }
 
-/// The call that goes on with a node, and with what each of its desks has.
-pub(crate) type GoOn =
-    unsafe extern "C" fn(*mut Handle, usize, *mut Handle, usize, &mut Handle, &mut Handle, &mut Handle) -> u32;
-
-/// What goes on with a node: a crew, or a team.
-pub(crate) trait GoesOn {
-    /// The call for all of them.
-    const CALL: GoOn;
-
-    /// The handle, which nobody else has.
-    fn own(&mut self) -> &mut Handle;
-
-    /// The `open`, the node and the number of its desk.
-    fn place(&self) -> (u64, u64, u8);
-
-    /// From now on its desk is the one of its number in this node.
-    fn moves_to(&mut self, node: u64);
-}
-
-impl GoesOn for Crew {
-    const CALL: GoOn = raw::pt_crews_go_on;
-
-    fn own(&mut self) -> &mut Handle {
-        self.handle.own()
-    }
-
-    fn place(&self) -> (u64, u64, u8) {
-        (self.opened, self.node, self.number)
-    }
-
-    fn moves_to(&mut self, node: u64) {
-        self.node = node;
-    }
-}
-
 impl Node {
-    /// Goes on with as many crews, or teams, each of the desk of its place.
-    pub(crate) fn go_on<T: GoesOn>(self, each: &mut [T]) -> Result<(Vec<Desk>, History), NodeBack> {
-        match self.origin_for(each) {
-            Ok(origin) => self.passed(origin, each),
+    /// Goes on with as many crews, each of the desk of its place.
+    fn go_on(self, crews: &mut [Crew]) -> Result<(Vec<Desk>, History), NodeBack> {
+        match self.origin_for(crews) {
+            Ok(origin) => self.passed(origin, crews),
             Err(fault) => Err(NodeBack { fault, node: self }),
         }
     }
 
     /// What the desks of the node have in common, if it may go on with these.
-    fn origin_for<T: GoesOn>(&self, each: &[T]) -> Result<Origin, Fault> {
+    fn origin_for(&self, crews: &[Crew]) -> Result<Lineage, Fault> {
         let (origin, count) = match self {
             Node::Desks(desks) if !is_whole(desks) => return Err(Fault::NotOneNode),
             Node::Desks(desks) => (desks[0].origin, desks.len()),
             Node::Gathered(gathered) => (gathered.origin, gathered.desks().into()),
             Node::Settled(settled) => (settled.origin, settled.desks().into()),
         };
-        if each.len() != count {
+        if crews.len() != count {
             return Err(Fault::BadDesks);
         }
-        let fits = |(it, number): (&T, u8)| {
-            let (opened, node, own) = it.place();
-            match self {
-                Node::Desks(desks) => (node, own) == (desks[0].node, number),
-                Node::Gathered(_) | Node::Settled(_) => (opened, own) == (origin.opened, number),
-            }
+        let fits = |(crew, number): (&Crew, u8)| match self {
+            Node::Desks(desks) => (crew.node, crew.number) == (desks[0].node, number),
+            Node::Gathered(_) | Node::Settled(_) => (crew.opened, crew.number) == (origin.opened, number),
         };
-        if each.iter().zip(0..).all(fits) { Ok(origin) } else { Err(Fault::WrongDesk) }
+        if crews.iter().zip(0..).all(fits) { Ok(origin) } else { Err(Fault::WrongDesk) }
     }
 
     /// The handles of the desks, which are empty where they are gathered; of the gathered node; and of the settled one.
@@ -470,17 +510,17 @@ impl Node {
         taken
     }
 
-    fn passed<T: GoesOn>(self, origin: Origin, each: &mut [T]) -> Result<(Vec<Desk>, History), NodeBack> {
+    fn passed(self, origin: Lineage, crews: &mut [Crew]) -> Result<(Vec<Desk>, History), NodeBack> {
         let node = if let Node::Desks(desks) = &self { Some(desks[0].node) } else { None };
-        let (mut desks, mut gathered, mut settled) = self.take(each.len());
+        let (mut desks, mut gathered, mut settled) = self.take(crews.len());
         let mut history = NONE;
-        let mut taken: Vec<Handle> = each.iter_mut().map(|it| mem::replace(it.own(), NONE)).collect();
+        let mut taken: Vec<Handle> = crews.iter_mut().map(|crew| mem::replace(crew.handle.own(), NONE)).collect();
         let (count, first, row) = (desks.len(), taken.as_mut_ptr(), desks.as_mut_ptr());
-        // SAFETY: the handles are those of all desks of one node in order, or of that node, and of as many crews or teams,
-        // each of its desk; each is the only one, and that of the history is empty.
-        let code = unsafe { T::CALL(first, count, row, count, &mut gathered, &mut settled, &mut history) };
-        for (it, handle) in each.iter_mut().zip(taken) {
-            *it.own() = handle;
+        // SAFETY: the handles are those of all desks of one node in order, or of that node, and of as many crews, each of
+        // its desk; each is the only one, and that of the history is empty.
+        let code = unsafe { raw::pt_crews_go_on(first, count, row, count, &mut gathered, &mut settled, &mut history) };
+        for (crew, handle) in crews.iter_mut().zip(taken) {
+            *crew.handle.own() = handle;
         }
         if code != OK {
             let node = if !gathered.at.is_null() {
@@ -493,15 +533,15 @@ impl Node {
             return Err(NodeBack { fault: fault_of(code), node });
         }
         let desks = desks_of(desks, origin);
-        for (it, desk) in each.iter_mut().zip(&desks) {
-            it.moves_to(desk.node);
+        for (crew, desk) in crews.iter_mut().zip(&desks) {
+            crew.node = desk.node;
         }
         Ok((desks, History { handle: Held::new(history) }))
     }
 }
 
 /// The desks that they were before, of this node.
-fn desks_again(handles: Vec<Handle>, origin: Origin, node: Option<u64>) -> Vec<Desk> {
+fn desks_again(handles: Vec<Handle>, origin: Lineage, node: Option<u64>) -> Vec<Desk> {
     let mut desks = desks_of(handles, origin);
     if let Some(node) = node {
         desks.iter_mut().for_each(|desk| desk.node = node);
@@ -542,7 +582,10 @@ impl From<RawJob> for Job {
     #[inline]
     fn from(raw: RawJob) -> Job {
         let what = match raw.code {
-            raw::PT_JOB_START => What::Start,
+            raw::PT_JOB_START => {
+                let origin = Origin { supervisor: raw.supervisor, again: raw.again };
+                What::Start(raw.has_supervisor.then_some(origin))
+            }
             raw::PT_JOB_PROCEED => What::Proceed,
             raw::PT_JOB_ITEM => What::Item(raw.item.into()),
             raw::PT_JOB_TIMEOUT => What::Timeout,

@@ -26,8 +26,7 @@
 //! ```
 //!
 //! A program whose processes run code takes [`runtime`]: typed messages, and a thread for each desk. A program with threads
-//! of its own takes a [`Crew`] for each desk, which says which process is told what, or a [`Team`](team::Team), which has
-//! supervisors too.
+//! of its own takes a [`Crew`] for each desk, which says which process is told what, and has [`supervisors`].
 //!
 //! # Errors
 //!
@@ -72,7 +71,7 @@ pub mod raw;
 mod reading;
 #[forbid(unsafe_code)]
 pub mod runtime;
-pub mod team;
+pub mod supervisors;
 mod tools;
 mod values;
 
@@ -181,7 +180,7 @@ fn found<T>(code: u32, value: T) -> Option<T> {
 
 /// What a node keeps through all that is made of it: which `open` it comes from, and how many slots a desk has.
 #[derive(Clone, Copy)]
-struct Origin {
+struct Lineage {
     opened: u64,
     slots: u32,
 }
@@ -199,7 +198,7 @@ pub struct Desk {
     node: u64,
     number: u8,
     count: usize,
-    origin: Origin,
+    origin: Lineage,
 }
 
 impl Drop for Desk {
@@ -216,7 +215,7 @@ impl fmt::Debug for Desk {
 }
 
 /// The desks of a new node, each with one of these handles.
-fn desks_of(handles: Vec<Handle>, origin: Origin) -> Vec<Desk> {
+fn desks_of(handles: Vec<Handle>, origin: Lineage) -> Vec<Desk> {
     let (node, count) = (fresh(), handles.len());
     let desk_of = |(handle, number)| Desk { handle: Held::new(handle), node, number, count, origin };
     handles.into_iter().zip(0..).map(desk_of).collect()
@@ -236,7 +235,7 @@ pub fn open(count: usize, config: Config) -> Result<Vec<Desk>, Fault> {
     let mut handles: Vec<Handle> = (0..count).map(|_| NONE).collect();
     // SAFETY: the handles are empty, and as many as are told.
     told(unsafe { raw::pt_open(handles.as_mut_ptr(), count, config) })?;
-    Ok(desks_of(handles, Origin { opened: fresh(), slots: config.slots }))
+    Ok(desks_of(handles, Lineage { opened: fresh(), slots: config.slots }))
 }
 
 /// The desks that were not gathered, as they were, and why.
@@ -642,7 +641,7 @@ impl Desk {
 /// The desks of a node at rest, and the letters left over. Dropped, it is given up.
 pub struct Gathered {
     handle: Held,
-    origin: Origin,
+    origin: Lineage,
 }
 
 impl fmt::Debug for Gathered {
@@ -733,7 +732,7 @@ impl Gathered {
 /// A settled node without the list of its pids. Dropped, it is given up.
 pub struct Settled {
     handle: Held,
-    origin: Origin,
+    origin: Lineage,
 }
 
 impl fmt::Debug for Settled {
@@ -846,7 +845,7 @@ impl Settled {
 /// A node in which no letter is left over. Dropped, it is given up.
 pub struct Quiet {
     handle: Held,
-    origin: Origin,
+    origin: Lineage,
 }
 
 impl fmt::Debug for Quiet {

@@ -241,6 +241,9 @@ pub struct RawJob {
     pub item: RawItem,
     pub reason: RawReason,
     pub was: RawNext,
+    pub has_supervisor: bool,
+    pub again: bool,
+    pub supervisor: Pid,
 }
 
 #[repr(C)]
@@ -279,15 +282,6 @@ pub struct RawChild {
     pub restart: u32,
     pub shutdown: u32,
     pub time: u64,
-}
-
-#[repr(C)]
-#[derive(Clone, Copy, Debug, Default)]
-pub struct RawNotice {
-    pub job: RawJob,
-    pub has_supervisor: bool,
-    pub again: bool,
-    pub supervisor: Pid,
 }
 
 #[repr(C)]
@@ -463,7 +457,7 @@ pub struct RawAskingAbout {
 
 #[repr(C)]
 #[derive(Clone, Copy, Debug, Default, PartialEq, Eq)]
-pub struct RawTeamCodes {
+pub struct RawSupervisorCodes {
     pub one_for_one: u32,
     pub one_for_all: u32,
     pub rest_for_one: u32,
@@ -476,7 +470,6 @@ pub struct RawTeamCodes {
     pub supervisor_spec: usize,
     pub child_spec: usize,
     pub child: usize,
-    pub notice: usize,
 }
 
 pub const PT_CONFIG_DEFAULT: Config = Config { slots: 1_024, top_version: u32::MAX, lane: 64, start: 0 };
@@ -578,7 +571,7 @@ pub const SIZES: RawSizes = RawSizes {
 };
 
 /// What the library says, if it is that of these sources.
-pub const TEAM_CODES: RawTeamCodes = RawTeamCodes {
+pub const SUPERVISOR_CODES: RawSupervisorCodes = RawSupervisorCodes {
     one_for_one: PT_ONE_FOR_ONE,
     one_for_all: PT_ONE_FOR_ALL,
     rest_for_one: PT_REST_FOR_ONE,
@@ -591,7 +584,6 @@ pub const TEAM_CODES: RawTeamCodes = RawTeamCodes {
     supervisor_spec: size_of::<RawSupervisorSpec>(),
     child_spec: size_of::<RawChildSpec>(),
     child: size_of::<RawChild>(),
-    notice: size_of::<RawNotice>(),
 };
 
 const _: () = assert!(size_of::<Pid>() == 12);
@@ -616,12 +608,11 @@ const _: () = assert!(offset_of!(Config, lane) == 8);
 const _: () = assert!(offset_of!(Config, start) == 16);
 const _: () = assert!(size_of::<RawLoss>() == 32);
 const _: () = assert!(size_of::<RawNext>() == 64);
-const _: () = assert!(size_of::<RawJob>() == 176);
+const _: () = assert!(size_of::<RawJob>() == 192);
 const _: () = assert!(size_of::<RawAnswer>() == 80);
 const _: () = assert!(size_of::<RawSupervisorSpec>() == 40);
 const _: () = assert!(size_of::<RawChildSpec>() == 24);
 const _: () = assert!(size_of::<RawChild>() == 32);
-const _: () = assert!(size_of::<RawNotice>() == 192);
 const _: () = assert!(size_of::<RawTimer>() == 16);
 const _: () = assert!(size_of::<RawFired>() == 24);
 const _: () = assert!(size_of::<RawName>() == 32);
@@ -633,7 +624,7 @@ const _: () = assert!(size_of::<RawPost>() == 48);
 const _: () = assert!(size_of::<RawCodes>() == 264);
 const _: () = assert!(size_of::<RawSizes>() == 176);
 const _: () = assert!(size_of::<RawAskingAbout>() == 120);
-const _: () = assert!(size_of::<RawTeamCodes>() == 72);
+const _: () = assert!(size_of::<RawSupervisorCodes>() == 64);
 
 unsafe extern "C" {
     /// The first byte of a text that ends with a zero.
@@ -697,6 +688,22 @@ unsafe extern "C" {
         first: RawNext,
         out: &mut Pid,
     ) -> u32;
+    pub fn pt_crew_spawn_supervisor(
+        crew: &mut Handle,
+        desk: &mut Handle,
+        tag: u64,
+        spec: RawSupervisorSpec,
+        children: *const RawChildSpec,
+        count: usize,
+        out: &mut Pid,
+    ) -> u32;
+    pub fn pt_crew_supervise(
+        crew: &mut Handle,
+        p: Pid,
+        spec: RawSupervisorSpec,
+        children: *const RawChildSpec,
+        count: usize,
+    ) -> u32;
     pub fn pt_crew_step(
         crew: &mut Handle,
         desk: &mut Handle,
@@ -709,7 +716,6 @@ unsafe extern "C" {
     pub fn pt_crew_answer(crew: &mut Handle, answers: *const RawAnswer, count: usize, taken: &mut usize) -> u32;
     pub fn pt_crew_note_loss(crew: &mut Handle, desk: &mut Handle, place: usize) -> u32;
     pub fn pt_crew_set_time(crew: &mut Handle, now: u64) -> u32;
-    pub fn pt_crew_begin_again(crew: &mut Handle) -> u32;
     pub fn pt_crews_go_on(
         crews: *mut Handle,
         crew_count: usize,
@@ -719,6 +725,8 @@ unsafe extern "C" {
         settled: &mut Handle,
         history: &mut Handle,
     ) -> u32;
+    pub fn pt_crew_go_on(crew: &mut Handle, history: &mut Handle) -> u32;
+    pub fn pt_crew_begin_again(crew: &mut Handle) -> u32;
     pub fn pt_crew_next_time(crew: &mut Handle, out: &mut u64) -> u32;
     pub fn pt_crew_tag(crew: &mut Handle, p: Pid, out: &mut u64) -> u32;
     pub fn pt_crew_next(crew: &mut Handle, p: Pid, out: &mut RawNext) -> u32;
@@ -726,66 +734,8 @@ unsafe extern "C" {
     pub fn pt_crew_queued(crew: &mut Handle, out: &mut usize) -> u32;
     pub fn pt_crew_is_idle(crew: &mut Handle, desk: &mut Handle, out: &mut bool) -> u32;
     pub fn pt_crew_refused(crew: &mut Handle, out: &mut bool) -> u32;
-    pub fn pt_team_open(team: &mut Handle) -> u32;
-    pub fn pt_team_give_up(team: &mut Handle) -> u32;
-    pub fn pt_team_spawn(team: &mut Handle, desk: &mut Handle, tag: u64, first: RawNext, out: &mut Pid) -> u32;
-    pub fn pt_team_spawn_child(
-        team: &mut Handle,
-        desk: &mut Handle,
-        parent: Pid,
-        linked: bool,
-        tag: u64,
-        first: RawNext,
-        out: &mut Pid,
-    ) -> u32;
-    pub fn pt_team_spawn_supervisor(
-        team: &mut Handle,
-        desk: &mut Handle,
-        tag: u64,
-        spec: RawSupervisorSpec,
-        children: *const RawChildSpec,
-        count: usize,
-        out: &mut Pid,
-    ) -> u32;
-    pub fn pt_team_supervise(
-        team: &mut Handle,
-        p: Pid,
-        spec: RawSupervisorSpec,
-        children: *const RawChildSpec,
-        count: usize,
-    ) -> u32;
-    pub fn pt_team_step(
-        team: &mut Handle,
-        desk: &mut Handle,
-        budget: u32,
-        notices: *mut RawNotice,
-        most: usize,
-        count: &mut usize,
-        turned: &mut RawTurned,
-    ) -> u32;
-    pub fn pt_team_answer(team: &mut Handle, answers: *const RawAnswer, count: usize, taken: &mut usize) -> u32;
-    pub fn pt_team_note_loss(team: &mut Handle, desk: &mut Handle, place: usize) -> u32;
-    pub fn pt_team_set_time(team: &mut Handle, now: u64) -> u32;
-    pub fn pt_team_begin_again(team: &mut Handle) -> u32;
-    pub fn pt_team_go_on(team: &mut Handle, history: &mut Handle) -> u32;
-    pub fn pt_teams_go_on(
-        teams: *mut Handle,
-        team_count: usize,
-        desks: *mut Handle,
-        desk_count: usize,
-        gathered: &mut Handle,
-        settled: &mut Handle,
-        history: &mut Handle,
-    ) -> u32;
-    pub fn pt_team_next_time(team: &mut Handle, out: &mut u64) -> u32;
-    pub fn pt_team_tag(team: &mut Handle, p: Pid, out: &mut u64) -> u32;
-    pub fn pt_team_next(team: &mut Handle, p: Pid, out: &mut RawNext) -> u32;
-    pub fn pt_team_len(team: &mut Handle, out: &mut usize) -> u32;
-    pub fn pt_team_queued(team: &mut Handle, out: &mut usize) -> u32;
-    pub fn pt_team_is_idle(team: &mut Handle, desk: &mut Handle, out: &mut bool) -> u32;
-    pub fn pt_team_refused(team: &mut Handle, out: &mut bool) -> u32;
-    pub fn pt_team_children(team: &mut Handle, p: Pid, out: &mut usize) -> u32;
-    pub fn pt_team_child(team: &mut Handle, p: Pid, place: usize, out: &mut RawChild) -> u32;
+    pub fn pt_crew_children(crew: &mut Handle, p: Pid, out: &mut usize) -> u32;
+    pub fn pt_crew_child(crew: &mut Handle, p: Pid, place: usize, out: &mut RawChild) -> u32;
     pub fn pt_timers_open(timers: &mut Handle) -> u32;
     pub fn pt_timers_start(timers: &mut Handle, at: u64, body: u64, out: &mut RawTimer) -> u32;
     pub fn pt_timers_cancel(timers: &mut Handle, timer: RawTimer) -> u32;
@@ -854,9 +804,8 @@ unsafe extern "C" {
     pub fn pt_about_answer(out: &mut RawAnswer);
     pub fn pt_about_asking(out: &mut RawAskingAbout);
     pub fn pt_about_post(out: &mut RawPost, size: &mut usize);
-    pub fn pt_about_teams(out: &mut RawTeamCodes);
+    pub fn pt_about_supervisors(out: &mut RawSupervisorCodes);
     pub fn pt_about_supervisor_spec(out: &mut RawSupervisorSpec);
     pub fn pt_about_child_spec(out: &mut RawChildSpec);
     pub fn pt_about_child(out: &mut RawChild);
-    pub fn pt_about_notice(out: &mut RawNotice);
 }

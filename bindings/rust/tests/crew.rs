@@ -22,7 +22,7 @@ fn processes_are_told_and_answered() -> Result<(), Fault> {
     let one = crew.spawn(desk, 1, Next::Proceed)?;
     let two = crew.spawn_child(desk, one, true, 2, Next::WaitUntil(Pick::Kind(7), 50))?;
     assert_eq!((crew.len(), crew.queued(), crew.tag(two), crew.next(one)), (2, 2, Some(2), Some(Next::Proceed)));
-    let start = Job { pid: one, tag: 1, what: What::Start };
+    let start = Job { pid: one, tag: 1, what: What::Start(None) };
     assert_eq!(jobs(&mut crew, desk), [start]);
     assert_eq!((crew.next(one), crew.next_time()), (Some(Next::Running), Some(50)));
     // what it sends, and what it does next
@@ -94,7 +94,7 @@ fn a_crew_takes_its_own_desk_alone() -> Result<(), Fault> {
     let mut others = open(2, Config::default())?;
     let mut crew = Crew::new(&desks[1])?;
     let pid = crew.spawn(&mut desks[1], 5, ANY)?;
-    let mut jobs = vec![Job { pid, tag: 9, what: What::Start }];
+    let mut jobs = vec![Job { pid, tag: 9, what: What::Start(None) }];
     for desk in [&mut desks[0], &mut others[1]] {
         assert_eq!(crew.spawn(desk, 1, ANY), Err(Fault::WrongDesk));
         assert_eq!(crew.spawn_child(desk, pid, true, 1, ANY), Err(Fault::WrongDesk));

@@ -2,7 +2,6 @@
 //! and the curtain at which all of them end.
 
 ghost use Rattle.std.specs.Prelude.{◌≡◌, IfOk};
-ghost use Rattle.pt_desk.specs.DeskState.{GoesOn};
 
 use anyhow::{Result, bail};
 use pt_crew::{Behaviour, Crew, Next};

@@ -3,6 +3,7 @@ pub mod Hearings
 pub mod Lanes
 pub mod Laws
 pub mod Objecting
+pub mod Passing
 pub mod Reading
 pub mod Selecting
 pub mod Seen

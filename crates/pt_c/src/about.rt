@@ -6,11 +6,10 @@ ghost use Rattle.pt_calls.specs.About.{sample_config};
 ghost use Rattle.pt_calls.specs.About.{sample_job, sample_answer};
 ghost use Rattle.pt_calls.specs.About.{sample_fired, sample_holder};
 
+use pt_c_crews::types::PtJob;
 use pt_calls::about::{self, PtCodes, PtSizes};
 use pt_calls::naming::PtHolder;
-use pt_structs::types::{
-    PtAccount, PtAnswer, PtConfig, PtEvent, PtJob, PtLeftOver, PtLoss, PtTurned,
-};
+use pt_structs::types::{PtAccount, PtAnswer, PtConfig, PtEvent, PtLeftOver, PtLoss, PtTurned};
 use pt_tools::types::PtFired;
 
 /// Writes each code, from the same functions as the calls.

@@ -1,25 +1,28 @@
-//! The calls of a crew: the processes of one desk whose handlers are outside.
+//! The calls of a crew: the processes of one desk whose handlers are outside, with their supervisors.
 //!
-//! Each makes the call of `Hands` that has its name on the crew of the handle, and returns its code. It returns 9 if a
+//! Each makes the call of `Scheduler` that has its name on the crew of the handle, and returns its code. It returns 9 if a
 //! handle has none, and nothing has changed then. Of those that get a desk each returns 18 if the crew is that of a desk
 //! with another number, and nothing has changed then either.
 
 ghost use Rattle.std.specs.Prelude.{◌≡◌, length};
 ghost use Rattle.pt_crew.specs.Crews.{crew_size, queue, was_refused};
-ghost use Rattle.pt_hands.specs.Pulling.{crew_of, hand_views};
 ghost use Rattle.pt_table.specs.Answers.{CallsThrough, ReadsThrough, ShowsCode};
-ghost use Rattle.pt_table.specs.Crewing.{CrewBeginsAgain, CrewSteps, CrewTells, NotesIfOwn, SpawnsChildInCrew, SpawnsInCrew, TellsTime};
 ghost use Rattle.pt_structs.specs.Crossing.{pid_crossed};
-ghost use Rattle.pt_structs.specs.Jobs.{next_out};
-ghost use Rattle.pt_structs.specs.Codes.{IfOwn};
-ghost use Rattle.pt_table.specs.Owning.{is_own};
-ghost use Rattle.pt_calls.specs.Crews.{AnswersInOrder, OpensCrew, SetsCrewTime};
+ghost use Rattle.pt_structs.specs.Nexts.{next_out};
+ghost use Rattle.pt_scheduler.specs.Scheduling.{member_views, crew_of};
+ghost use Rattle.pt_c_crews.specs.Crewing.{CrewBeginsAgain, CrewSupervises, CrewTells, NotesIfOwn, SpawnsBossInCrew};
+ghost use Rattle.pt_c_crews.specs.Crewing.{SpawnsChildInCrew, SpawnsInCrew, TellsChild, TellsChildCount, TellsTime};
+ghost use Rattle.pt_c_crews.specs.Through.{AnswersInOrder, GoesOnIn, OpensCrew, SetsCrewTime, StepsIfOwn};
 ghost use Rattle.pt_places.specs.Filling.{GivesUp};
 
+use pt_c_crews::calls;
+use pt_c_crews::crew_handle::CrewHandle;
+use pt_c_crews::types::{PtChild, PtChildSpec, PtJob, PtSupervisorSpec};
 use pt_calls::crews;
-use pt_structs::types::{PtAnswer, PtJob, PtNext, PtPid, PtTurned};
-use pt_table::crew_handle::CrewHandle;
+use pt_structs::crossing::pid_in;
+use pt_structs::types::{PtAnswer, PtNext, PtPid, PtTurned};
 use pt_table::desk_handle::DeskHandle;
+use pt_table::history_handle::HistoryHandle;
 use std::alloc::Global;
 
 /// Begins a crew, with no process and at the time 0. It is that of the desk on which it spawns its first process or makes
@@ -30,7 +33,7 @@ use std::alloc::Global;
 pub extern "C" fn pt_crew_open(alloc: Global, c: &mut CrewHandle) -> u32
     ensures { OpensCrew result c.old.state c.new.state }
 {
-    crews::open(alloc, c)
+    calls::open(alloc, c)
 }
 
 /// Gives up a crew. Its processes stay on their desk, and are of no crew.
@@ -38,10 +41,10 @@ pub extern "C" fn pt_crew_open(alloc: Global, c: &mut CrewHandle) -> u32
 pub extern "C" fn pt_crew_give_up(alloc: Global, c: &mut CrewHandle) -> u32
     ensures { GivesUp result c.old.state c.new.state }
 {
-    crews::give_up(alloc, c)
+    calls::give_up(alloc, c)
 }
 
-/// Spawns a process on the desk with this tag, which does `first` next, as `Hands::spawn` does. It writes the pid to
+/// Spawns a process on the desk with this tag, which does `first` next, as `Scheduler::spawn` does. It writes the pid to
 /// `out` if it returns 0. It returns 16 if a code in `first` is none of its enumeration.
 #[unsafe(no_mangle)]
 pub extern "C" fn pt_crew_spawn(
@@ -52,14 +55,14 @@ pub extern "C" fn pt_crew_spawn(
     first: PtNext,
     out: &mut PtPid,
 ) -> u32
-    ensures { CallsThrough c.old.state c.new.state result ((h.new.state ≡ h.old.state) × (out.new ≡ out.old))
-        (λ old new. CallsThrough h.old.state h.new.state result ((new ≡ old) × (out.new ≡ out.old))
-        (λ d e. SpawnsInCrew tag first result out.old out.new old d new e)) }
+    ensures { CallsThrough h.old.state h.new.state result ((c.new.state ≡ c.old.state) × (out.new ≡ out.old))
+        (λ d e. CallsThrough c.old.state c.new.state result ((e ≡ d) × (out.new ≡ out.old))
+        (λ old new. SpawnsInCrew tag first result out.old out.new old d new e)) }
 {
     crews::spawn(alloc, c, h, tag, first, out)
 }
 
-/// Spawns a child of the parent with this tag, linked with it if `linked` is true, as `Hands::spawn_child` does. It writes
+/// Spawns a child of the parent with this tag, linked with it if `linked` is true, as `Scheduler::spawn_child` does. It writes
 /// the pid to `out` if it returns 0. It returns 16 if a code in `first` is none of its enumeration.
 #[unsafe(no_mangle)]
 pub extern "C" fn pt_crew_spawn_child(
@@ -72,15 +75,51 @@ pub extern "C" fn pt_crew_spawn_child(
     first: PtNext,
     out: &mut PtPid,
 ) -> u32
-    ensures { CallsThrough c.old.state c.new.state result ((h.new.state ≡ h.old.state) × (out.new ≡ out.old))
-        (λ old new. CallsThrough h.old.state h.new.state result ((new ≡ old) × (out.new ≡ out.old))
-        (λ d e. SpawnsChildInCrew (pid_crossed parent) linked tag first result out.old out.new old d new e)) }
+    ensures { CallsThrough h.old.state h.new.state result ((c.new.state ≡ c.old.state) × (out.new ≡ out.old))
+        (λ d e. CallsThrough c.old.state c.new.state result ((e ≡ d) × (out.new ≡ out.old))
+        (λ old new. SpawnsChildInCrew (pid_crossed parent) linked tag first result out.old out.new old d new e)) }
 {
     crews::spawn_child(alloc, c, h, parent, linked, tag, first, out)
 }
 
-/// Does a turn of the desk, and then a step of the crew, which hands out at most as many jobs as `jobs` has places. The
-/// jobs are in front of `jobs` then, `count` is their number, and `turned` is what the turn did.
+/// Spawns a supervisor on the desk with this tag, which starts its children when it runs, as `Scheduler::spawn_supervisor`
+/// does. It writes the pid to `out` if it returns 0. It returns 16 if a code of it or of a child is none of its enumeration.
+#[unsafe(no_mangle)]
+pub extern "C" fn pt_crew_spawn_supervisor(
+    alloc: Global,
+    c: &mut CrewHandle,
+    h: &mut DeskHandle,
+    tag: u64,
+    spec: PtSupervisorSpec,
+    children: &[PtChildSpec],
+    out: &mut PtPid,
+) -> u32
+    ensures { CallsThrough h.old.state h.new.state result ((c.new.state ≡ c.old.state) × (out.new ≡ out.old))
+        (λ d e. CallsThrough c.old.state c.new.state result ((e ≡ d) × (out.new ≡ out.old))
+        (λ old new. SpawnsBossInCrew tag spec children.now result out.old out.new old d new e)) }
+{
+    crews::spawn_supervisor(alloc, c, h, tag, spec, children, out)
+}
+
+/// Says that a running process is a supervisor from now on, which starts its children when it runs, as `Scheduler::supervise`
+/// does. It returns 16 if a code of it or of a child is none of its enumeration, and 17 if the process is not running or is
+/// none of the crew.
+#[unsafe(no_mangle)]
+pub extern "C" fn pt_crew_supervise(
+    alloc: Global,
+    c: &mut CrewHandle,
+    p: PtPid,
+    spec: PtSupervisorSpec,
+    children: &[PtChildSpec],
+) -> u32
+    ensures { CallsThrough c.old.state c.new.state result (Unit {0})
+        (λ old new. CrewSupervises (pid_crossed p) spec children.now result old new) }
+{
+    calls::supervise(alloc, c, pid_in(p), spec, children)
+}
+
+/// Does a turn of the desk, and then a step of the crew, which hands out at most as many jobs as `jobs` has places.
+/// The jobs are in front of `jobs` then, `count` is their number, and `turned` is what the turn did.
 #[unsafe(no_mangle)]
 pub extern "C" fn pt_crew_step(
     alloc: Global,
@@ -91,13 +130,11 @@ pub extern "C" fn pt_crew_step(
     count: &mut usize,
     turned: &mut PtTurned,
 ) -> u32
-    ensures { CallsThrough c.old.state c.new.state result ((h.new.state ≡ h.old.state) × (jobs.new ≡ jobs.old)
+    ensures { CallsThrough h.old.state h.new.state result ((c.new.state ≡ c.old.state) × (jobs.new ≡ jobs.old)
         × (count.new ≡ count.old) × (turned.new ≡ turned.old))
-        (λ old new. CallsThrough h.old.state h.new.state result ((new ≡ old) × (jobs.new ≡ jobs.old)
+        (λ d e. CallsThrough c.old.state c.new.state result ((e ≡ d) × (jobs.new ≡ jobs.old)
         × (count.new ≡ count.old) × (turned.new ≡ turned.old))
-        (λ d e. IfOwn (is_own old d) result ((new ≡ old) × (e ≡ d) × (jobs.new ≡ jobs.old) × (count.new ≡ count.old)
-        × (turned.new ≡ turned.old))
-        ((result ≡ 0) × CrewSteps budget jobs.old old d turned.new count.new jobs.new new e))) }
+        (λ old new. StepsIfOwn budget result jobs.old jobs.new count.old count.new turned.old turned.new old d new e)) }
 {
     crews::step(alloc, c, h, budget, jobs, count, turned)
 }
@@ -116,7 +153,7 @@ pub extern "C" fn pt_crew_answer(
     ensures { CallsThrough c.old.state c.new.state result (taken.new ≡ taken.old)
         (λ old new. AnswersInOrder answers.now result taken.new old new) }
 {
-    crews::answer(alloc, c, answers, taken)
+    calls::answer(alloc, c, answers, taken)
 }
 
 /// Says what time it is in the calls that follow.
@@ -124,10 +161,10 @@ pub extern "C" fn pt_crew_answer(
 pub extern "C" fn pt_crew_set_time(alloc: Global, c: &mut CrewHandle, now: u64) -> u32
     ensures { CallsThrough c.old.state c.new.state result (Unit {0}) (λ old new. SetsCrewTime now result old new) }
 {
-    crews::set_time(alloc, c, now)
+    calls::set_time(alloc, c, now)
 }
 
-/// Notes what the loss with this number of the desk tells, as `Hands::note_loss` does: the reason of an exit. It returns 8
+/// Notes what the loss with this number of the desk tells, as `Scheduler::note_loss` does: the reason of an exit. It returns 8
 /// if there is no such loss.
 #[unsafe(no_mangle)]
 pub extern "C" fn pt_crew_note_loss(
@@ -136,20 +173,33 @@ pub extern "C" fn pt_crew_note_loss(
     h: &mut DeskHandle,
     place: usize,
 ) -> u32
-    ensures { CallsThrough c.old.state c.new.state result (h.new.state ≡ h.old.state)
-        (λ old new. ReadsThrough h.old.state h.new.state result (new ≡ old)
-        (λ d. NotesIfOwn place result old d new)) }
+    ensures { ReadsThrough h.old.state h.new.state result (c.new.state ≡ c.old.state)
+        (λ d. CallsThrough c.old.state c.new.state result (Unit {0}) (λ old new. NotesIfOwn place result old d new)) }
 {
     crews::note_loss(alloc, c, h, place)
 }
 
-/// Continues over the desk of the same number in a node that was resumed, as `Hands::begin_again` does. It may be called
+/// Continues over the desk of the same number in a node that was resumed, as `Scheduler::begin_again` does. It may be called
 /// again if it returns 2.
 #[unsafe(no_mangle)]
 pub extern "C" fn pt_crew_begin_again(alloc: Global, c: &mut CrewHandle) -> u32
     ensures { CallsThrough c.old.state c.new.state result (Unit {0}) (λ old new. CrewBeginsAgain result old new) }
 {
-    crews::begin_again(alloc, c)
+    calls::begin_again(alloc, c)
+}
+
+/// Continues over the desk of the same number in a node that was resumed, with the history of the node before, as
+/// `Scheduler::go_on` does.
+#[unsafe(no_mangle)]
+pub extern "C" fn pt_crew_go_on(
+    alloc: Global,
+    c: &mut CrewHandle,
+    history: &mut HistoryHandle,
+) -> u32
+    ensures { ReadsThrough history.old.state history.new.state result (c.new.state ≡ c.old.state)
+        (λ told. CallsThrough c.old.state c.new.state result (Unit {0}) (λ old new. GoesOnIn told.events result old new)) }
+{
+    crews::go_on(alloc, c, history)
 }
 
 /// The earliest time until which a process waits that is not in the queue; 8 if there is no such process.
@@ -158,34 +208,34 @@ pub extern "C" fn pt_crew_next_time(alloc: Global, c: &mut CrewHandle, out: &mut
     ensures { ReadsThrough c.old.state c.new.state result (out.new ≡ out.old)
         (λ crew. TellsTime crew result out.old out.new) }
 {
-    crews::next_time(alloc, c, out)
+    calls::next_time(alloc, c, out)
 }
 
 /// The tag of a process; 8 if it is none of the crew.
 #[unsafe(no_mangle)]
 pub extern "C" fn pt_crew_tag(alloc: Global, c: &mut CrewHandle, p: PtPid, out: &mut u64) -> u32
     ensures { ReadsThrough c.old.state c.new.state result (out.new ≡ out.old)
-        (λ crew. ShowsCode result out.old out.new (λ v. v.tag) (hand_views crew (pid_crossed p))) }
+        (λ crew. ShowsCode result out.old out.new (λ v. v.tag) (member_views crew (pid_crossed p))) }
 {
-    crews::tag(alloc, c, p, out)
+    calls::tag(alloc, c, pid_in(p), out)
 }
 
 /// What a process does next; 8 if it is none of the crew.
 #[unsafe(no_mangle)]
 pub extern "C" fn pt_crew_next(alloc: Global, c: &mut CrewHandle, p: PtPid, out: &mut PtNext) -> u32
     ensures { ReadsThrough c.old.state c.new.state result (out.new ≡ out.old)
-        (λ crew. ShowsCode result out.old out.new (λ v. next_out v.next) (hand_views crew (pid_crossed p))) }
+        (λ crew. ShowsCode result out.old out.new (λ v. next_out v.next) (member_views crew (pid_crossed p))) }
 {
-    crews::next(alloc, c, p, out)
+    calls::next(alloc, c, pid_in(p), out)
 }
 
-/// The number of processes of the crew.
+/// The number of processes of the crew, supervisors too.
 #[unsafe(no_mangle)]
 pub extern "C" fn pt_crew_len(alloc: Global, c: &mut CrewHandle, out: &mut usize) -> u32
     ensures { ReadsThrough c.old.state c.new.state result (out.new ≡ out.old)
         (λ crew. (result ≡ 0) × (out.new ≡ crew_size (crew_of crew))) }
 {
-    crews::len(alloc, c, out)
+    calls::len(alloc, c, out)
 }
 
 /// The number of processes of the crew that may have something to do.
@@ -194,7 +244,16 @@ pub extern "C" fn pt_crew_queued(alloc: Global, c: &mut CrewHandle, out: &mut us
     ensures { ReadsThrough c.old.state c.new.state result (out.new ≡ out.old)
         (λ crew. (result ≡ 0) × (out.new ≡ length (queue (crew_of crew)))) }
 {
-    crews::queued(alloc, c, out)
+    calls::queued(alloc, c, out)
+}
+
+/// Whether a process was refused memory or a stamp in the last step.
+#[unsafe(no_mangle)]
+pub extern "C" fn pt_crew_refused(alloc: Global, c: &mut CrewHandle, out: &mut bool) -> u32
+    ensures { ReadsThrough c.old.state c.new.state result (out.new ≡ out.old)
+        (λ crew. (result ≡ 0) × (out.new ≡ was_refused (crew_of crew))) }
+{
+    calls::refused(alloc, c, out)
 }
 
 /// Whether no process is in the queue, and all that happened on the desk was read.
@@ -205,18 +264,38 @@ pub extern "C" fn pt_crew_is_idle(
     h: &mut DeskHandle,
     out: &mut bool,
 ) -> u32
-    ensures { ReadsThrough c.old.state c.new.state result ((h.new.state ≡ h.old.state) × (out.new ≡ out.old))
-        (λ crew. ReadsThrough h.old.state h.new.state result (out.new ≡ out.old)
-        (λ d. CrewTells result crew d out.old out.new)) }
+    ensures { ReadsThrough h.old.state h.new.state result ((c.new.state ≡ c.old.state) × (out.new ≡ out.old))
+        (λ d. ReadsThrough c.old.state c.new.state result (out.new ≡ out.old)
+        (λ crew. CrewTells result crew d out.old out.new)) }
 {
     crews::is_idle(alloc, c, h, out)
 }
 
-/// Whether a process was refused memory or a stamp in the last step.
+/// The number of the children of a supervisor; 8 if the process is no supervisor of the crew.
 #[unsafe(no_mangle)]
-pub extern "C" fn pt_crew_refused(alloc: Global, c: &mut CrewHandle, out: &mut bool) -> u32
+pub extern "C" fn pt_crew_children(
+    alloc: Global,
+    c: &mut CrewHandle,
+    p: PtPid,
+    out: &mut usize,
+) -> u32
     ensures { ReadsThrough c.old.state c.new.state result (out.new ≡ out.old)
-        (λ crew. (result ≡ 0) × (out.new ≡ was_refused (crew_of crew))) }
+        (λ crew. TellsChildCount crew (pid_crossed p) result out.old out.new) }
 {
-    crews::refused(alloc, c, out)
+    calls::child_count(alloc, c, pid_in(p), out)
+}
+
+/// The child at a place of a supervisor; 8 if the process is no supervisor of the crew, or has fewer children.
+#[unsafe(no_mangle)]
+pub extern "C" fn pt_crew_child(
+    alloc: Global,
+    c: &mut CrewHandle,
+    p: PtPid,
+    place: usize,
+    out: &mut PtChild,
+) -> u32
+    ensures { ReadsThrough c.old.state c.new.state result (out.new ≡ out.old)
+        (λ crew. TellsChild crew (pid_crossed p) place result out.old out.new) }
+{
+    calls::child_at(alloc, c, pid_in(p), place, out)
 }

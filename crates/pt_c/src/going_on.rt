@@ -6,16 +6,16 @@ ghost use Rattle.pt_table.specs.Answers.{values};
 ghost use Rattle.pt_nodes.specs.Nodes.{IsWholeNode};
 ghost use Rattle.pt_nodes.specs.GoingOn.{NodeGoesOn};
 
+use pt_c_crews::crew_handle::CrewHandle;
 use pt_nodes::gathered_handle::GatheredHandle;
 use pt_nodes::going_on;
 use pt_nodes::settled_handle::SettledHandle;
-use pt_table::crew_handle::CrewHandle;
 use pt_table::desk_handle::DeskHandle;
 use pt_table::history_handle::HistoryHandle;
 use std::alloc::Global;
 
 /// Continues with a node and its crews. It gathers the desks and settles the node, takes its history, and resumes it. Then
-/// each crew continues over the desk at its place, as `Hands::go_on` does with that history. The desks are in their
+/// each crew continues over the desk at its place, as `Scheduler::go_on` does with that history. The desks are in their
 /// handles again, and `history` has the history. The node keeps its directory of exited processes.
 ///
 /// These come first, and then nothing has changed. It returns 9 if a handle of `crews` has no crew, else 11 if there are

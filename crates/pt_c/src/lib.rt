@@ -1,14 +1,15 @@
 //! The process table for C: a static library, whose header is `bindings/c/pundewo.h`.
 //!
 //! C keeps opaque handles of one pointer: for a desk, a gathered node, a settled one with and without the list of its
-//! pids, a history, a crew, a team, timers, names, and the two ends of a way in. An export is one call of a library below,
-//! which takes the value out of the handle, makes the call of Rattle that has its name, and puts the value back. By its
+//! pids, a history, a crew, timers, names, and the two ends of a way in. An export is one call of a library below, which
+//! takes the value out of the handle, makes the call of Rattle that has its name, and puts the value back. By its
 //! contract, its code and what it writes are that call's answer, and if it fails, all is as it was. An empty handle is a
 //! code, too.
 //!
 //! Values with an enum or an option in Rattle cross as plain structs with a code (`pt_structs::types`). `about` reports
-//! codes, sizes and fields, to be compared with a header. `pt_calls` has the calls on a desk, a crew, a team and
-//! names, `pt_nodes` those on a node, `pt_tools` those of timers, and `pt_doors` those of a way in.
+//! codes, sizes and fields, to be compared with a header. `pt_calls` has the calls on a desk and names, and on a crew with
+//! its desk, `pt_c_crews` those on a crew alone, `pt_nodes` those on a node, `pt_tools` those of timers, and `pt_doors`
+//! those of a way in.
 //!
 //! Tests: `bindings/run.sh`.
 //!
@@ -19,12 +20,10 @@
 //! - **Failures.** If a function fails, each handle and each struct passed in is as it was, also if there is no memory.
 //! - **Handles.** An empty handle, a full one that must be empty, and a wrong number or order of desks are codes.
 //! - **Bad codes.** So is a pick, a reason, or what a process does next, whose own code means nothing.
-//! - **Other desks.** So is a crew or a team over a desk of another number, also in a row of crews or teams that go on.
-//!   (`IfOwn`, `NodeGoesOn`, `TeamsNodeGoesOn`)
-//! - **Crews.** A step hands out what `Hands` hands out, in order, no process twice, and no wake-up is lost. Of a row of
-//!   answers each is taken, up to the first that is refused. (`CrewSteps`, `AnswersInOrder`)
-//! - **Teams.** Each call is that of `Team`. A start is told with its supervisor, and whether it is one again. (`TeamSteps`,
-//!   `SpawnsBossInTeam`)
+//! - **Other desks.** So is a crew over a desk of another number, also in a row of crews that go on. (`IfOwn`, `NodeGoesOn`)
+//! - **Crews.** Each call is that of `Scheduler`. A step hands out jobs in order, no process twice, and no wake-up is lost.
+//!   A start tells its supervisor, and whether it is one again. Of a row of answers each is taken, up to the first that is
+//!   refused. (`CrewSteps`, `SpawnsBossInCrew`, `AnswersInOrder`)
 //! - **Timers and names.** Each call is that of `Timers` and of `Names`, with bytes for a name. (`StartsTimer`,
 //!   `RegistersName`)
 //! - **Calls.** Asking, hearing and replying are those of `pt_pending`, and a call ends once. The messages of calls are told
@@ -33,18 +32,17 @@
 //!   handed in, in order, each message once. (`PostsWhereLettersWait`, `TakesCode`, `meet` of `pt_doors`)
 //! - **Nodes.** Opening, gathering, settling and resuming leave in the handles what `open`, `gather`, `settle` and
 //!   `resume` promise, or `settle_unlisted` and `resume_settled`.
-//! - **Going on.** A node and its crews, or its teams, go through the stages of a pause in one call. Whichever is refused,
-//!   its code says so, and the node is in the handle where that stage leaves it. (`NodeGoesOn`, `TeamsNodeGoesOn`)
+//! - **Going on.** A node and its crews go through the stages of a pause in one call. Whichever is refused, its code says
+//!   so, and the node is in the handle where that stage leaves it. (`NodeGoesOn`)
 //! - **Threads.** Each handle may go to another thread.
 #![tactic(auto)]
 
 mod about;
-mod about_teams;
+mod about_supervisors;
 mod asking;
 mod calls;
 mod crews;
 mod going_on;
-mod going_on_teams;
 mod letters;
 mod losses;
 mod names;
@@ -52,6 +50,5 @@ mod node;
 mod reads;
 mod resuming;
 mod settled;
-mod teams;
 mod timers;
 mod ways_in;

@@ -16,7 +16,7 @@ use Rattle.pt_structs.specs.declared.types.PtAccount.{PtAccount}
 use Rattle.pt_structs.specs.declared.types.PtLoss.{PtLoss}
 use Rattle.pt_structs.specs.declared.types.PtConfig.{PtConfig}
 use Rattle.pt_structs.specs.declared.types.PtNext.{PtNext}
-use Rattle.pt_structs.specs.declared.types.PtJob.{PtJob}
+use Rattle.pt_c_crews.specs.declared.types.PtJob.{PtJob}
 use Rattle.pt_structs.specs.declared.types.PtAnswer.{PtAnswer}
 use Rattle.pt_tools.specs.declared.types.PtFired.{PtFired}
 use Rattle.pt_calls.specs.declared.naming.PtHolder.{PtHolder}
@@ -210,7 +210,7 @@ all_sizes = record {
   account = 40;
   config = 24;
   next = 64;
-  job = 176;
+  job = 192;
   answer = 80;
   loss = 32;
   timer = 16;
@@ -297,6 +297,9 @@ sample_job = record {
   item = sample_item 6;
   reason = sample_reason 21;
   was = sample_next 23;
+  has_supervisor = true;
+  again = true;
+  supervisor = sample_pid 36;
 }
 
 abbrev pub sample_answer : PtAnswer

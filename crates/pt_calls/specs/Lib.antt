@@ -1,4 +1,3 @@
-pub mod Crews
 pub mod Naming
 pub mod About
-pub mod AboutTeams
+pub mod AboutSupervisors

@@ -8,21 +8,23 @@ ghost use Rattle.pt_calls.specs.About.{sample_fired, sample_holder};
 ghost use Rattle.pt_calls.specs.About.{with_answers, with_values, with_signals, with_events, with_nexts, with_jobs, nobody};
 
 use crate::naming::{BAD_NAME, HAS_NAME, PtHolder, PtName, TAKEN};
+use pt_c_crews::crossing::job_out;
+use pt_c_crews::types::PtJob;
 use pt_crew::Next;
 use pt_doors::through::BAD_PLACES;
-use pt_hands::{Job, What};
 use pt_node::{
     Body, Event, Fault, Ids, Item, LinkId, OpenError, Pick, Pid, Reason, Ref, Setting, Signal,
     Stamped,
 };
+use pt_scheduler::{Job, What};
 use pt_structs::codes::{
     BAD_CODE, DONE, EMPTY, FILLED, NOT_RUNNING, NOTHING, UNKNOWN, WRONG_DESK, code_of, open_code,
 };
 use pt_structs::crossing::{event_out, item_out, pick_out, reason_out, signal_out};
-use pt_structs::crossing_jobs::{job_out, next_out};
+use pt_structs::crossing_nexts::next_out;
 use pt_structs::types::{
-    PtAccount, PtAnswer, PtBody, PtConfig, PtEvent, PtIds, PtItem, PtJob, PtLeftOver, PtLoss,
-    PtNext, PtPick, PtPid, PtReason, PtRef, PtSignal, PtTurned,
+    PtAccount, PtAnswer, PtBody, PtConfig, PtEvent, PtIds, PtItem, PtLeftOver, PtLoss, PtNext,
+    PtPick, PtPid, PtReason, PtRef, PtSignal, PtTurned,
 };
 use pt_tools::types::{PtFired, PtTimer};
 use std::mem::size_of;
@@ -265,7 +267,7 @@ fn with_jobs(codes: PtCodes) -> PtCodes
 {
     let item = Item::User(NOBODY, BLANK);
     PtCodes {
-        job_start: job_out(job_for(What::Start)).code,
+        job_start: job_out(job_for(What::Start(None))).code,
         job_proceed: job_out(job_for(What::Proceed)).code,
         job_item: job_out(job_for(What::Item(item))).code,
         job_timeout: job_out(job_for(What::Timeout)).code,
@@ -534,6 +536,9 @@ pub fn job(out: &mut PtJob)
         item: sample_item(6),
         reason: sample_reason(21),
         was: sample_next(23),
+        has_supervisor: true,
+        again: true,
+        supervisor: sample_pid(36),
     };
 }
 

@@ -1,5 +1,5 @@
 -- A node that goes on epoch behind epoch, with its crews, and what its sink gets.
-use Rattle.std.specs.Prelude.{◌≡◌, ℕ, ◌<◌, List, [], ◌++◌, length, map, reverse, slice_index_or, Some, true}
+use Rattle.std.specs.Prelude.{◌≡◌, ℕ, ◌<◌, List, length, map, reverse, slice_index_or, Some, true}
 use Rattle.std.specs.Prelude.{Result, Ok, Err}
 use Rattle.pt_signal.specs.declared.pid.Pid.{Pid}
 use Rattle.pt_events.specs.declared.event.Stamped.{Stamped}

@@ -4,3 +4,6 @@ pub mod Peers
 pub mod MonitorsSince
 pub mod Examples
 pub mod EarlyLinks
+pub mod Audited
+pub mod Calling
+pub mod Watched

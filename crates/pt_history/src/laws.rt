@@ -1,8 +1,11 @@
 //! The laws of histories: each is the contract of a function that does nothing.
 
 ghost use Rattle.pt_history.specs.Words.{TrapIsLastFlag, PeersSince, OpenSince, IsOpenSince};
+ghost use Rattle.pt_history.specs.Audited.{NodeCallsPass, NodesPass};
+ghost use Rattle.pt_history.specs.Calling.{DesksKeep};
 ghost use Rattle.pt_history.specs.Examples.{TenLines, Cascade, EarlyLink};
 
+pub use pt_auditor::journals_pass;
 pub use pt_laws::laws::{
     acts_may_come, alive_until_its_end, answers_are_true, headline_holds, journals_have_one_merge,
     journals_tell_their_pids, links_are_held_since, lives_once, load_by_desk_falls, merge_is_legal,
@@ -37,4 +40,23 @@ pub fn worked_histories()
     ensures ten_lines { TenLines }
     ensures cascade { Cascade }
     ensures early_link { EarlyLink }
+{}
+
+/// The history of a node passes the audit, whether letters are left over or not. Nobody was on the node before.
+///
+/// - The audit objects to no line. It names none that no node prints, but for an event with one of five reasons
+///   ([`journals_pass`]).
+/// - It names none at all if all that each desk wrote is as the audit has it of the calls (`IsCalledDesk`).
+pub fn node_histories_pass()
+    ensures journals { NodesPass }
+    ensures calls { NodeCallsPass }
+{
+    journals_pass();
+}
+
+/// Each call of a desk, and each receipt, keeps what the audit has of the calls: what the desk wrote is under the stamps
+/// that it gives, to slots and versions of a node, and to no process of which it has seen that it has exited. So a desk on
+/// which nobody was before has it from its opening on.
+pub fn desk_calls_pass()
+    ensures { DesksKeep }
 {}

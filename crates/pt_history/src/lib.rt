@@ -43,7 +43,8 @@
 //! - a monitor has at most one `DOWN`;
 //! - the merge of journals whose lanes agree is legal;
 //! - settling is bounded;
-//! - in a quiet history links are at both ends or at neither.
+//! - in a quiet history links are at both ends or at neither;
+//! - the history of a node passes the audit.
 //!
 //! # Cost
 //!
@@ -62,6 +63,10 @@
 //!   exited. (`monitors_are_open_since`)
 //! - **Early links.** Two histories show why the law on links requires that a child is spawned before its parent links
 //!   to it. (`early_link_unknown`, `early_link_abroad`)
+//! - **Audits.** The history of a gathered node on which nobody was before passes the audit. No line is objected to, and none
+//!   is named but for one of five reasons. (`node_histories_pass`)
+//! - **Calls and audits.** For these five none is named, either, if each desk keeps what each of its calls keeps.
+//!   (`desk_calls_pass`)
 //! - **Worked histories.** Some histories are shown legal and quiet by computing them. (`worked_histories`)
 #![tactic(auto)]
 

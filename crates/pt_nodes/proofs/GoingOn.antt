@@ -8,9 +8,11 @@ use Rattle.pt_gathered.specs.Gathered.{GatheredState}
 use Rattle.pt_gathered.specs.Quiet.{QuietState}
 use Rattle.pt_structs.specs.Codes.{empty, filled, open_code, wrong_desk}
 use Rattle.pt_table.specs.Answers.{HandlePlace, HistoryState, value_behind, values}
+use Rattle.pt_scheduler.specs.declared.scheduler.Scheduler.{Scheduler}
+use Rattle.pt_c_crews.specs.Owning.{are_own}
 use Rattle.pt_nodes.specs.Nodes.{GathersAs, HandleTells, IsQuietHistoryOf, ResumesAs, SettlesAs}
 use Rattle.pt_places.specs.Filling.{IfEmpty, IfNone}
-use Rattle.pt_nodes.specs.GoingOn.{RowGoesOn, AreAllThere, GathersFirst, GoOnWith, GoesOnBy, IfPassed, Places, ResumesWith, SettlesFirst, Stages, has}
+use Rattle.pt_nodes.specs.GoingOn.{AreAllThere, GathersFirst, GoOnWith, IfPassed, NodeGoesOn, Places, ResumesWith, SettlesFirst, Stages, has}
 
 refused : (n code : ℕ) (kept P : Type 0) → n ≢ 0 → code ≡ n → kept → IfPassed n code kept P
 refused zero code kept P some is k = absurd (some refl)
@@ -76,30 +78,30 @@ module _ (old new : HandlePlace GatheredState) (before after : HandlePlace Quiet
 
 -- the last stage ---------------------------------------------------------------------------------
 
-module _ {S : Type 0} (Go : RowGoesOn S) (told : ℕ) (start h : HandlePlace HistoryState) (settled mid : HandlePlace QuietState) (none : start ≡ None)
+module _ (told : ℕ) (start h : HandlePlace HistoryState) (settled mid : HandlePlace QuietState) (none : start ≡ None)
     (tells : HandleTells told (value_behind settled) IsQuietHistoryOf start h) (same : mid ≡ settled)
-    (crews : List (HandlePlace S)) (desks : List (HandlePlace DeskState)) (before : HandlePlace HistoryState) where
+    (crews : List (HandlePlace Scheduler)) (desks : List (HandlePlace DeskState)) (before : HandlePlace HistoryState) where
   tells_it : HandleTells told (value_behind settled) IsQuietHistoryOf None h
   tells_it = subst (λ (p : HandlePlace HistoryState). HandleTells told (value_behind settled) IsQuietHistoryOf p h) none tells
 
-  pub not_told : told ≢ 0 → ResumesWith Go told crews crews desks desks settled mid before before
+  pub not_told : told ≢ 0 → ResumesWith told crews crews desks desks settled mid before before
   not_told some = (told, h, tells_it, refused told told _ _ some refl (refl, refl, same, refl))
 
   module _ (resumed : ℕ) (left : HandlePlace QuietState) (back : List (HandlePlace DeskState)) (done : told ≡ 0) (resumes : ResumesAs resumed mid left desks back) where
     resumes_it : ResumesAs resumed settled left desks back
     resumes_it = subst (λ (p : HandlePlace QuietState). ResumesAs resumed p left desks back) same resumes
 
-    pub not_resumed : resumed ≢ 0 → ResumesWith Go resumed crews crews desks back settled left before before
+    pub not_resumed : resumed ≢ 0 → ResumesWith resumed crews crews desks back settled left before before
     not_resumed some = (told, h, tells_it, passed told resumed _ _ done (resumed, resumes_it, refused resumed resumed _ _ some refl (refl, refl)))
 
-    pub has_resumed : resumed ≡ 0 → (later : List (HandlePlace S)) (after : HandlePlace HistoryState) → GoOnWith Go h crews later → after ≡ h → ResumesWith Go 0 crews later desks back settled left before after
+    pub has_resumed : resumed ≡ 0 → (later : List (HandlePlace Scheduler)) (after : HandlePlace HistoryState) → GoOnWith h crews later → after ≡ h → ResumesWith 0 crews later desks back settled left before after
     has_resumed fine later after on is = (told, h, tells_it, passed told 0 _ _ done (resumed, resumes_it, passed resumed 0 _ _ fine (refl, on, is)))
 
 -- all of them ------------------------------------------------------------------------------------
 
 -- what is refused before the stages
-module _ {S : Type 0} (own : ℕ → List (HandlePlace S) → Bool) (Go : RowGoesOn S) (code : ℕ) (old new : Places S) where
-  pub crew_missing : code ≡ empty → new ≡ old → ¬ AreAllThere old.crews → GoesOnBy own Go code old new
+module _ (code : ℕ) (old new : Places) where
+  pub crew_missing : code ≡ empty → new ≡ old → ¬ AreAllThere old.crews → NodeGoesOn code old new
   crew_missing is same not = record {
     none_there = λ n. (is, same);
     not_as_many = λ all. absurd (not all);
@@ -108,7 +110,7 @@ module _ {S : Type 0} (own : ℕ → List (HandlePlace S) → Bool) (Go : RowGoe
     stages = λ all. absurd (not all);
   }
 
-  pub other_count : code ≡ open_code (Bounds Desks) → new ≡ old → AreAllThere old.crews → length old.crews ≢ length old.desks → GoesOnBy own Go code old new
+  pub other_count : code ≡ open_code (Bounds Desks) → new ≡ old → AreAllThere old.crews → length old.crews ≢ length old.desks → NodeGoesOn code old new
   other_count is same all other = record {
     none_there = λ n. absurd (n all);
     not_as_many = λ a n. (is, same);
@@ -117,7 +119,7 @@ module _ {S : Type 0} (own : ℕ → List (HandlePlace S) → Bool) (Go : RowGoe
     stages = λ a e. absurd (other e);
   }
 
-  pub history_there : code ≡ filled → new ≡ old → AreAllThere old.crews → length old.crews ≡ length old.desks → has old.history ≡ true → GoesOnBy own Go code old new
+  pub history_there : code ≡ filled → new ≡ old → AreAllThere old.crews → length old.crews ≡ length old.desks → has old.history ≡ true → NodeGoesOn code old new
   history_there is same all count there = record {
     none_there = λ n. absurd (n all);
     not_as_many = λ a n. absurd (n count);
@@ -126,7 +128,7 @@ module _ {S : Type 0} (own : ℕ → List (HandlePlace S) → Bool) (Go : RowGoe
     stages = λ a e none. absurd (cc (there, none));
   }
 
-  pub foreign_crew : code ≡ wrong_desk → new ≡ old → AreAllThere old.crews → length old.crews ≡ length old.desks → has old.history ≡ false → own 0 old.crews ≡ false → GoesOnBy own Go code old new
+  pub foreign_crew : code ≡ wrong_desk → new ≡ old → AreAllThere old.crews → length old.crews ≡ length old.desks → has old.history ≡ false → are_own 0 old.crews ≡ false → NodeGoesOn code old new
   foreign_crew is same all count none foreign = record {
     none_there = λ n. absurd (n all);
     not_as_many = λ a n. absurd (n count);
@@ -135,7 +137,7 @@ module _ {S : Type 0} (own : ℕ → List (HandlePlace S) → Bool) (Go : RowGoe
     stages = λ a e n are. absurd (cc (foreign, are));
   }
 
-  pub by_stages : AreAllThere old.crews → length old.crews ≡ length old.desks → has old.history ≡ false → own 0 old.crews ≡ true → Stages Go code old new → GoesOnBy own Go code old new
+  pub by_stages : AreAllThere old.crews → length old.crews ≡ length old.desks → has old.history ≡ false → are_own 0 old.crews ≡ true → Stages code old new → NodeGoesOn code old new
   by_stages all count none are s = record {
     none_there = λ n. absurd (n all);
     not_as_many = λ a n. absurd (n count);
@@ -145,10 +147,10 @@ module _ {S : Type 0} (own : ℕ → List (HandlePlace S) → Bool) (Go : RowGoe
   }
 
 -- the stages, where what no stage has changed is as it was
-module _ {S : Type 0} (Go : RowGoesOn S) (old : Places S) (crews : List (HandlePlace S)) (history : HandlePlace HistoryState) (same_crews : crews ≡ old.crews) (same_history : history ≡ old.history)
+module _ (old : Places) (crews : List (HandlePlace Scheduler)) (history : HandlePlace HistoryState) (same_crews : crews ≡ old.crews) (same_history : history ≡ old.history)
     (gathered_code : ℕ) (desks : List (HandlePlace DeskState)) (gathered : HandlePlace GatheredState) (settled : HandlePlace QuietState) (same_settled : settled ≡ old.settled)
     (gathers : GathersFirst gathered_code old.desks desks old.gathered gathered old.settled) where
-  pub first_refused : gathered_code ≢ 0 → Stages Go gathered_code old (record { crews = crews; desks = desks; gathered = gathered; settled = settled; history = history })
+  pub first_refused : gathered_code ≢ 0 → Stages gathered_code old (record { crews = crews; desks = desks; gathered = gathered; settled = settled; history = history })
   first_refused some = record {
     gathered_code = gathered_code;
     desks = desks;
@@ -162,7 +164,7 @@ module _ {S : Type 0} (Go : RowGoesOn S) (old : Places S) (crews : List (HandleP
     settles_it : SettlesFirst settled_code gathered left old.settled after
     settles_it = subst (λ (p : HandlePlace QuietState). SettlesFirst settled_code gathered left p after) same_settled settles
 
-    pub second_refused : settled_code ≢ 0 → Stages Go settled_code old (record { crews = crews; desks = desks; gathered = left; settled = after; history = history })
+    pub second_refused : settled_code ≢ 0 → Stages settled_code old (record { crews = crews; desks = desks; gathered = left; settled = after; history = history })
     second_refused some = record {
       gathered_code = gathered_code;
       desks = desks;
@@ -178,9 +180,9 @@ module _ {S : Type 0} (Go : RowGoesOn S) (old : Places S) (crews : List (HandleP
       );
     }
 
-    pub last_stage : settled_code ≡ 0 → (code : ℕ) (later : List (HandlePlace S)) (back : List (HandlePlace DeskState)) (rest : HandlePlace QuietState) (told : HandlePlace HistoryState)
-        → ResumesWith Go code crews later desks back after rest history told
-        → Stages Go code old (record { crews = later; desks = back; gathered = left; settled = rest; history = told })
+    pub last_stage : settled_code ≡ 0 → (code : ℕ) (later : List (HandlePlace Scheduler)) (back : List (HandlePlace DeskState)) (rest : HandlePlace QuietState) (told : HandlePlace HistoryState)
+        → ResumesWith code crews later desks back after rest history told
+        → Stages code old (record { crews = later; desks = back; gathered = left; settled = rest; history = told })
     last_stage fine code later back rest told resumes = record {
       gathered_code = gathered_code;
       desks = desks;
@@ -193,8 +195,8 @@ module _ {S : Type 0} (Go : RowGoesOn S) (old : Places S) (crews : List (HandleP
         settles_it,
         passed settled_code code _ _ fine (
           refl,
-          subst (λ (p : HandlePlace HistoryState). ResumesWith Go code old.crews later desks back after rest p told) same_history
-              (subst (λ (p : List (HandlePlace S)). ResumesWith Go code p later desks back after rest history told) same_crews resumes),
+          subst (λ (p : HandlePlace HistoryState). ResumesWith code old.crews later desks back after rest p told) same_history
+              (subst (λ (p : List (HandlePlace Scheduler)). ResumesWith code p later desks back after rest history told) same_crews resumes),
         ),
       );
     }

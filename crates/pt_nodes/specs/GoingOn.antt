@@ -1,33 +1,25 @@
--- Going on with a node and its crews or teams: what each stage leaves in the handles.
+-- Going on with a node and its crews: what each stage leaves in the handles.
 use Rattle.std.specs.Prelude.{◌≡◌, ◌≢◌, ℕ, zero, suc, Bool, true, false, ◌||◌, MatchBool, List, length, reverse, Some, None, is_some}
-use Rattle.pt_events.specs.declared.event.Stamped.{Stamped}
 use Rattle.pt_signal.specs.declared.config.OpenError.TheVariants.{Bounds}
 use Rattle.pt_signal.specs.declared.config.Setting.TheVariants.{Desks}
 use Rattle.pt_desk.specs.DeskState.{DeskState}
 use Rattle.pt_gathered.specs.Gathered.{GatheredState}
 use Rattle.pt_gathered.specs.Quiet.{QuietState}
-use Rattle.pt_hands.specs.declared.hands.Hands.{Hands}
 use Rattle.pt_structs.specs.Codes.{empty, filled, open_code, wrong_desk}
 use Rattle.pt_table.specs.Answers.{HandlePlace, HistoryState, value_behind, values}
-use Rattle.pt_table.specs.GoingOn.{AllCrewsGoOn}
-use Rattle.pt_table.specs.Owning.{are_own}
-use Rattle.pt_team_handles.specs.declared.desk_team.DeskTeam.{DeskTeam}
-use Rattle.pt_team_handles.specs.GoingOn.{AllTeamsGoOn}
-use Rattle.pt_team_handles.specs.Owning.{are_teams_own}
+use Rattle.pt_scheduler.specs.declared.scheduler.Scheduler.{Scheduler}
+use Rattle.pt_c_crews.specs.GoingOn.{AllCrewsGoOn}
+use Rattle.pt_c_crews.specs.Owning.{are_own}
 use Rattle.pt_nodes.specs.Nodes.{GathersAs, HandleTells, IsQuietHistoryOf, ResumesAs, SettlesAs}
 use Rattle.pt_places.specs.Filling.{IfEmpty, IfNone}
 
--- what the handles of the call have: crews, or teams, each of which is S
-pub record Places (S : Type 0) : Type 0 where
-  pub crews : List (HandlePlace S)
+-- what the handles of the call have
+pub record Places : Type 0 where
+  pub crews : List (HandlePlace Scheduler)
   pub desks : List (HandlePlace DeskState)
   pub gathered : HandlePlace GatheredState
   pub settled : HandlePlace QuietState
   pub history : HandlePlace HistoryState
-
--- how all of them go on with a history, whose newest event is in front
-abbrev pub RowGoesOn : Type 0 → Type 1
-RowGoesOn S = List Stamped → List (HandlePlace S) → List (HandlePlace S) → Type 0
 
 -- a stage returned the first code. If it is 0, P holds, of what comes behind the stage; else it is the code of the call, and
 -- all else was kept
@@ -56,24 +48,24 @@ SettlesFirst code old new before after =
     (SettlesAs code old new before after)
 
 -- they go on with the history of the handle
-abbrev pub GoOnWith : {S : Type 0} → RowGoesOn S → HandlePlace HistoryState → List (HandlePlace S) → List (HandlePlace S) → Type 0
-GoOnWith Go (Some (Some h)) old new = Go (reverse h.events) old new
-GoOnWith Go _ old new = new ≡ old
+abbrev pub GoOnWith : HandlePlace HistoryState → List (HandlePlace Scheduler) → List (HandlePlace Scheduler) → Type 0
+GoOnWith (Some (Some h)) old new = AllCrewsGoOn (reverse h.events) old new
+GoOnWith _ old new = new ≡ old
 
 -- The history of the node is told, and then the node is resumed. Once it is, the crews go on with the history, and it is
 -- in its handle.
-abbrev pub ResumesWith : {S : Type 0} → RowGoesOn S → ℕ → List (HandlePlace S) → List (HandlePlace S) → List (HandlePlace DeskState)
+abbrev pub ResumesWith : ℕ → List (HandlePlace Scheduler) → List (HandlePlace Scheduler) → List (HandlePlace DeskState)
     → List (HandlePlace DeskState) → HandlePlace QuietState → HandlePlace QuietState → HandlePlace HistoryState
     → HandlePlace HistoryState → Type 0
-ResumesWith Go code crews later desks back settled left before after =
+ResumesWith code crews later desks back settled left before after =
     (told : ℕ) × (h : HandlePlace HistoryState) × HandleTells told (value_behind settled) IsQuietHistoryOf None h
     × IfPassed told code ((later ≡ crews) × (back ≡ desks) × (left ≡ settled) × (after ≡ before))
     ((resumed : ℕ) × ResumesAs resumed settled left desks back
     × IfPassed resumed code ((later ≡ crews) × (after ≡ before))
-    ((code ≡ 0) × GoOnWith Go h crews later × (after ≡ h)))
+    ((code ≡ 0) × GoOnWith h crews later × (after ≡ h)))
 
 -- one stage behind the other, up to the first that is refused
-pub record Stages {S : Type 0} (Go : RowGoesOn S) (code : ℕ) (old new : Places S) : Type 0 where
+pub record Stages (code : ℕ) (old new : Places) : Type 0 where
   pub gathered_code : ℕ
   pub desks : List (HandlePlace DeskState)
   pub gathered : HandlePlace GatheredState
@@ -83,32 +75,24 @@ pub record Stages {S : Type 0} (Go : RowGoesOn S) (code : ℕ) (old new : Places
       × SettlesFirst settled_code gathered left old.settled settled
       × IfPassed settled_code code (new ≡ record old { desks = desks; gathered = left; settled = settled })
       ((new.gathered ≡ left)
-      × ResumesWith Go code old.crews new.crews desks new.desks settled new.settled old.history new.history))
+      × ResumesWith code old.crews new.crews desks new.desks settled new.settled old.history new.history))
 
 -- what is refused before them: nothing has changed
-abbrev pub RefusesWith : {S : Type 0} → ℕ → ℕ → Places S → Places S → Type 0
+abbrev pub RefusesWith : ℕ → ℕ → Places → Places → Type 0
 RefusesWith is code old new = (code ≡ is) × (new ≡ old)
 
 -- each handle has a crew
-abbrev pub AreAllThere : {S : Type 0} → List (HandlePlace S) → Type 0
+abbrev pub AreAllThere : List (HandlePlace Scheduler) → Type 0
 AreAllThere crews = length (values crews) ≡ length crews
 
--- where `own` says whether each is that of the desk of its place
-pub record GoesOnBy {S : Type 0} (own : ℕ → List (HandlePlace S) → Bool) (Go : RowGoesOn S) (code : ℕ) (old new : Places S) : Type 0 where
+-- a node and its crews
+pub record NodeGoesOn (code : ℕ) (old new : Places) : Type 0 where
   pub none_there : ¬ AreAllThere old.crews → RefusesWith empty code old new
   pub not_as_many : AreAllThere old.crews → length old.crews ≢ length old.desks
       → RefusesWith (open_code (Bounds Desks)) code old new
   pub told_before : AreAllThere old.crews → length old.crews ≡ length old.desks → has old.history ≡ true
       → RefusesWith filled code old new
   pub not_own : AreAllThere old.crews → length old.crews ≡ length old.desks → has old.history ≡ false
-      → own 0 old.crews ≡ false → RefusesWith wrong_desk code old new
+      → are_own 0 old.crews ≡ false → RefusesWith wrong_desk code old new
   pub stages : AreAllThere old.crews → length old.crews ≡ length old.desks → has old.history ≡ false
-      → own 0 old.crews ≡ true → Stages Go code old new
-
--- a node and its crews
-abbrev pub NodeGoesOn : ℕ → Places Hands → Places Hands → Type 0
-NodeGoesOn code old new = GoesOnBy are_own AllCrewsGoOn code old new
-
--- a node and its teams
-abbrev pub TeamsNodeGoesOn : ℕ → Places DeskTeam → Places DeskTeam → Type 0
-TeamsNodeGoesOn code old new = GoesOnBy are_teams_own AllTeamsGoOn code old new
+      → are_own 0 old.crews ≡ true → Stages code old new

@@ -3,7 +3,6 @@
 ghost use Rattle.std.specs.Prelude.{◌≡◌, map};
 ghost use Rattle.pt_workers.specs.Desks.{AreDesks};
 ghost use Rattle.pt_table.specs.Answers.{values};
-ghost use Rattle.pt_table.specs.GoingOn.{AllCrewsGoOn};
 ghost use Rattle.pt_structs.specs.Codes.{filled};
 ghost use Rattle.pt_nodes.specs.Nodes.{IsWholeNode};
 ghost use Rattle.pt_places.specs.Filling.{IfNone};
@@ -13,16 +12,17 @@ use crate::gathered_handle::{GatheredHandle, is_full as has_gathered};
 use crate::node::{gather_desks, give_up_history};
 use crate::settled::{resume_unlisted, settle_unlisted, settled_history};
 use crate::settled_handle::{SettledHandle, is_full as has_settled};
+use pt_c_crews::crew_handle::CrewHandle;
+use pt_c_crews::rows::{are_own, count_crews, go_on_all};
 use pt_node::{OpenError, Setting};
 use pt_structs::codes::{DONE, EMPTY, FILLED, WRONG_DESK, open_code};
-use pt_table::crew_handle::CrewHandle;
 use pt_table::desk_handle::DeskHandle;
 use pt_table::history_handle::{HistoryHandle, claim, hold, is_full as has_history};
-use pt_table::rows::{are_own, count_crews, count_full, go_on_all};
+use pt_table::rows::count_full;
 use std::alloc::Global;
 
 /// Continues with a node and its crews. It gathers the desks and settles the node, takes its history, and resumes it. Then
-/// each crew continues over the desk at its place, as `Hands::go_on` does with that history. The desks are in their
+/// each crew continues over the desk at its place, as `Scheduler::go_on` does with that history. The desks are in their
 /// handles again, and `history` has the history. The node keeps its directory of exited processes.
 ///
 /// These come first, and then nothing has changed. It returns 9 if a handle of `crews` has no crew, else 11 if there are
@@ -84,7 +84,7 @@ pub fn crews_go_on(
 }
 
 /// Gathers the desks, if neither of the two handles has a node.
-pub(crate) fn gather_first(
+fn gather_first(
     alloc: Global,
     desks: &mut [DeskHandle],
     gathered: &mut GatheredHandle,
@@ -118,11 +118,7 @@ fn passed_over(alloc: Global, desks: &mut [DeskHandle]) -> u32
 }
 
 /// Settles the node, if it is not settled.
-pub(crate) fn settle_first(
-    alloc: Global,
-    gathered: &mut GatheredHandle,
-    settled: &mut SettledHandle,
-) -> u32
+fn settle_first(alloc: Global, gathered: &mut GatheredHandle, settled: &mut SettledHandle) -> u32
     ensures { SettlesFirst result gathered.old.state gathered.new.state settled.old.state settled.new.state }
 {
     let is_settled = has_settled(alloc, settled);
@@ -144,7 +140,7 @@ fn resume_crews(
     settled: &mut SettledHandle,
     history: &mut HistoryHandle,
 ) -> u32
-    ensures { ResumesWith AllCrewsGoOn result (map (λ h. h.state) crews.old) (map (λ h. h.state) crews.new)
+    ensures { ResumesWith result (map (λ h. h.state) crews.old) (map (λ h. h.state) crews.new)
         (map (λ h. h.state) desks.old) (map (λ h. h.state) desks.new) settled.old.state settled.new.state
         history.old.state history.new.state }
 {
@@ -166,7 +162,7 @@ fn resume_crews(
 
 /// The crews go on with the history of the handle, if there is one.
 fn go_on_with(alloc: Global, crews: &mut [CrewHandle], told: &mut HistoryHandle)
-    ensures crews { GoOnWith AllCrewsGoOn told.old.state (map (λ h. h.state) crews.old) (map (λ h. h.state) crews.new) }
+    ensures crews { GoOnWith told.old.state (map (λ h. h.state) crews.old) (map (λ h. h.state) crews.new) }
     ensures same { told.new.state ≡ told.old.state }
 {
     let Some(place) = claim(alloc, told) else {

@@ -14,13 +14,12 @@
 //!   part. (`IsKeptFor` of `pt_node`)
 //! - **Failures.** If a call fails, each handle is as it was, also if there is no memory.
 //! - **Reading.** A gathered or settled node and a history are read as they are, and nothing changes. (`ReadsThrough`)
-//! - **Going on.** A node and its crews, or its teams, go through the stages of a pause in one call. Whichever is refused,
-//!   its code says so, and the node is in the handle where that stage leaves it. (`NodeGoesOn`, `TeamsNodeGoesOn`)
+//! - **Going on.** A node and its crews go through the stages of a pause in one call. Whichever is refused, its code says
+//!   so, and the node is in the handle where that stage leaves it. (`NodeGoesOn`)
 #![tactic(auto)]
 
 pub mod gathered_handle;
 pub mod going_on;
-pub mod going_on_teams;
 pub mod held;
 pub mod keeping;
 pub mod node;

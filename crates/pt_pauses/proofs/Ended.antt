@@ -62,7 +62,7 @@ pub known_rest : (start : Start) (e : Event) (past : Past) → IsKnownSaid start
 known_rest start (Said a b x) past k = k.1
 known_rest start _ past k = k
 
--- news came to me, by a link or a monitor, that q has ended, or a call was refused since it has
+-- what came to me, by a link or a monitor, that q has ended, or a call was refused since it has
 abbrev pub shows_end : Pid → Pid → Event → Bool
 shows_end me q (Came a b (LinkExit ids r)) = same_pid q a && same_pid me b
 shows_end me q (Came a b (Signal.Down m r)) = same_pid q a && same_pid me b
@@ -162,7 +162,7 @@ module _ (start : Start) where
       (each-weaker (Fine past) (Fine (e ∷ past)) (λ l. tells_later past e l.from l.to l.signal) (landed e (flying start past)) (fine_landed past e (flying start past) before))
       (fine_new past e h.0 k before)
 
-  -- news of an end that came by a link or a monitor, or a call that was refused
+  -- what of an end that came by a link or a monitor, or a call that was refused
   module _ (me q : Pid) (same_desk : q.shard ≡ me.shard) where
     sent_ended : (past : Past) (a b : Pid) (x : Signal) → (same_pid q a && same_pid me b) ≡ true → (a.shard ≡ b.shard → is_ended (life start past a) ≡ true) → is_ended (life start past q) ≡ true
     sent_ended past a b x tells told =

@@ -15,4 +15,4 @@ pub mod Going
 pub mod Passing
 pub mod Settling
 pub mod Halting
-pub mod Teaming
+pub mod Scheduling

@@ -1,17 +1,13 @@
 -- What supervisors uphold on the desks of a node stays so over a pause.
-use Rattle.std.proofs.Common.{◌≡◌, inl, inr, ⊎_elim, ℕ, ◌<◌, Bool, true, false, cond, List, [], ◌∷◌, ◌++◌, length, get_or, Option, Some, None, refl, sym, ap, subst, ◌∙◌, arith}
-use Rattle.std.specs.Map.{lookup}
-use Rattle.std.proofs.lemmas.Bool.{cases_eq, ne_eqb}
+use Rattle.std.proofs.Common.{◌≡◌, inl, inr, ℕ, ◌<◌, false, List, [], ◌∷◌, ◌++◌, length, get_or, Option, Some, None, refl, sym, ap, subst, ◌∙◌, arith}
 use Rattle.std.proofs.lemmas.List.{get_or-map, get_or_default, length-map}
 use Rattle.pt_signal.specs.declared.pid.Pid.{Pid}
-use Rattle.pt_signal.specs.Values.{same_pid}
 use Rattle.pt_events.specs.declared.event.Stamped.{Stamped}
-use Rattle.pt_events.specs.History.{Past, Start, unborn, at_start, phase_or_unborn, change, is_unborn, life}
+use Rattle.pt_events.specs.History.{Past, Start, at_start, is_unborn, life}
 use Rattle.pt_events.specs.Journal.{IsLocal, IsMerge, events, of_desk}
 use Rattle.pt_events.specs.Leaving.{outcome}
 use Rattle.pt_events.specs.Locality.{AllHome}
 use Rattle.pt_events.proofs.Leaving.{leaves_each}
-use Rattle.pt_events.proofs.Local.{home_untouched}
 use Rattle.pt_events.proofs.Telling.{all_home}
 use Rattle.pt_shard.specs.Begun.{Every}
 use Rattle.pt_shard.specs.Restart.{restarted}
@@ -23,7 +19,7 @@ use Rattle.pt_gathered.specs.Settling.{Settles}
 use Rattle.pt_gathered.proofs.Lawful.{locals}
 use Rattle.pt_gathered.proofs.Owned.{life_same}
 use Rattle.pt_gathered.proofs.Pasts.{settles_keep}
-use Rattle.pt_gathered.proofs.Starts.{elsewhere, start_same}
+use Rattle.pt_gathered.proofs.Starts.{start_same}
 use Rattle.pt_gathered.proofs.Told.{journal_of}
 use Rattle.pt_desk.specs.DeskState.{DeskState}
 use Rattle.pt_workers.specs.Desks.{all_shards}

@@ -84,7 +84,7 @@ module _ (past : Past) (merged : List Stamped) (me : Pid) (d e : ShardState) (ba
     where
       go : IsPlaced s.children q ⊎ (has_told me q (all_events past d) ≡ true) → IsPlaced s.children q ⊎ (has_told me q (all_events then e) ≡ true)
       go (inl placed) = inl placed
-      go (inr news) = inr (any_then (tells_end me q) news)
+      go (inr what) = inr (any_then (tells_end me q) what)
 
   born_then : (q : Pid) → is_unborn (phase_of d q) ≡ false → is_unborn (phase_of e q) ≡ false
   born_then q born = ap is_unborn (phases q (own q born)) ∙ (still_born (phase_of d q) ∙ born)

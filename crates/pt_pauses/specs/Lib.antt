@@ -4,4 +4,4 @@ pub mod Gathering
 pub mod Quieting
 pub mod Pauses
 pub mod Halts
-pub mod Teams
+pub mod Schedulers

@@ -11,7 +11,7 @@ use pt_supervisor::Supervised;
 /// is the promise.
 ///
 /// It needs that the node was gathered, settled and resumed, and that each crew began again (`hold`). What happened
-/// until then counts as what was before, from the first opening of the node on: an unlink of a child, or news of its
+/// until then counts as what was before, from the first opening of the node on: an unlink of a child, or what of its
 /// exit. So by [`gathered_children_live`](crate::gathered_children_live) each child that a supervisor wants
 /// alive is alive once the node is still again, or unlinked itself, unless the supervisor is ending one that traps exits
 /// and lives on.

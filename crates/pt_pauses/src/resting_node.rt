@@ -1,17 +1,17 @@
-//! What holds of the teams of all desks of a node that is still, as the contract of a function that does nothing.
+//! What holds of the schedulers of all desks of a node that is still, as the contract of a function that does nothing.
 
-ghost use Rattle.pt_pauses.specs.Quieting.{TeamsChildrenLive};
+ghost use Rattle.pt_pauses.specs.Quieting.{SchedulersChildrenLive};
 
 use pt_laws::{laws, links};
 
-/// Once no team of a node has anything to do, and the node is gathered and settled, each child that a live supervisor wants
-/// alive is alive, on each desk, or unlinked itself; unless the supervisor is ending a child that traps exits and lives on.
-/// The function does nothing: its contract is the promise.
+/// Once no scheduler of a node has anything to do, and the node is gathered and settled, each child that a live supervisor
+/// wants alive is alive, on each desk, or unlinked itself; unless the supervisor is ending a child that traps exits and
+/// lives on. The function does nothing: its contract is the promise.
 ///
-/// It needs what each call of a team keeps (`AttendsTeam`, `TeamUpholds`), and that [`Team::is_idle`](pt_teams::Team::is_idle)
-/// is true of each over its desk.
+/// It needs what each call of a scheduler keeps (`SchedulerAttends`, `SchedulerUpholds`), and that
+/// [`Scheduler::is_idle`](pt_scheduler::Scheduler::is_idle) is true of each over its desk.
 pub fn node_children_live()
-    ensures { TeamsChildrenLive }
+    ensures { SchedulersChildrenLive }
 {
     laws::journals_tell_their_pids();
     laws::journals_have_one_merge();

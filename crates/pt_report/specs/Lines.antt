@@ -1,9 +1,8 @@
 -- The printed lines of a history and of a summary, as lists of characters.
-use Rattle.std.specs.Prelude.{ℕ, List, [], ◌++◌, codes, decimal, Option, Some, None}
+use Rattle.std.specs.Prelude.{ℕ, List, [], ◌++◌, codes, decimal}
 use Rattle.std.specs.List.{flat_map}
 use Rattle.pt_signal.specs.declared.pid.Pid.{Pid}
-use Rattle.pt_signal.specs.declared.reason.Reason.{Reason}
-use Rattle.pt_signal.specs.Text.{pid_text, reason_text, left_over_text, fate_text}
+use Rattle.pt_signal.specs.Text.{pid_text, left_over_text, fate_text}
 use Rattle.pt_events.specs.declared.event.Stamped.{Stamped}
 use Rattle.pt_events.specs.Text.{stamped_text}
 use Rattle.pt_accounts.specs.declared.account.Account.{Account}

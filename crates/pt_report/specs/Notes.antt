@@ -1,6 +1,6 @@
--- What an explained summary says of a process: what it is at, or why it ended. No public clause cites this module.
+-- What an explained summary says of a process that ended: why it did. No public clause cites this module.
 use Rattle.std.specs.Prelude.{ℕ, ◌+◌, ◌==◌, ◌&&◌, Bool, false, cond, is_some, not, List, [], ◌∷◌, ◌++◌, codes, decimal}
-use Rattle.std.specs.Prelude.{slice_get, Option, Some, None}
+use Rattle.std.specs.Prelude.{Option, Some, None}
 use Rattle.std.specs.List.{list_any}
 use Rattle.indexmap.specs.IndexMap.{get}
 use Rattle.pt_signal.specs.declared.pid.Pid.{Pid}
@@ -9,14 +9,11 @@ use Rattle.pt_signal.specs.declared.reason.Reason.TheVariants.{Other, Kill as Ki
 use Rattle.pt_signal.specs.declared.signal.Signal.{Signal}
 use Rattle.pt_signal.specs.declared.signal.Signal.TheVariants.{Exit as ExitSignal, LinkExit}
 use Rattle.pt_signal.specs.Values.{same_pid}
-use Rattle.pt_accounts.specs.declared.account.Account.{Account}
 use Rattle.pt_script.specs.Plans.{Plan}
 use Rattle.pt_script.specs.declared.values.Operation.{Operation}
-use Rattle.pt_script.specs.declared.values.Operation.TheVariants.{Receive, Monitor, Exit as ExitOp, Spawn}
-use Rattle.pt_script.specs.declared.values.Pattern.{Pattern}
-use Rattle.pt_runner.specs.declared.runner.Place.{Place}
+use Rattle.pt_script.specs.declared.values.Operation.TheVariants.{Monitor, Exit as ExitOp, Spawn}
 use Rattle.pt_runner.specs.declared.runner.Runner.{Runner}
-use Rattle.pt_runner.specs.Acting.{pid_numbered, place_listed, plan_at, table}
+use Rattle.pt_runner.specs.Acting.{pid_numbered, plan_at, table}
 use Rattle.pt_report.specs.declared.ending.Ending.{Ending}
 use Rattle.pt_report.specs.declared.ending.Ending.TheVariants.{Kill, Exit, Link, Unseen}
 use Rattle.pt_report.specs.declared.ending.Endings.{Endings}
@@ -26,14 +23,6 @@ use Rattle.pt_report.specs.declared.notes.Sources.{Sources}
 
 abbrev pub operations_in : List Plan → ℕ → List Operation
 operations_in plans process = (plan_at plans process).operations
-
-abbrev pub place_at : Option Runner → Pid → Option Place
-place_at None p = None
-place_at (Some r) p = place_listed (table r) p
-
--- where a process is in its list, by the runner of its desk
-abbrev pub place_among : List Runner → Pid → Option Place
-place_among runners p = place_at (slice_get runners p.shard) p
 
 abbrev pub has_pid : ℕ → Runner → Bool
 has_pid process r = is_some (pid_numbered (table r).pids process)
@@ -55,13 +44,6 @@ ending_by from _ = Exit from
 -- by what a process ended, as it was played
 abbrev pub ending_of : Endings → Pid → Ending
 ending_of e p = or_unseen (get same_pid e.ended p)
-
--- what it is at ---------------------------------------------------------------------------
-
--- what an operation takes, if it is a receive
-abbrev pub receives : Operation → Option Pattern
-receives (Receive pattern) = Some pattern
-receives _ = None
 
 -- why it ended ------------------------------------------------------------------------------
 

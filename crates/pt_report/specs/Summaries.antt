@@ -1,5 +1,5 @@
 -- What a summary prints.
-use Rattle.std.specs.Prelude.{◌≡◌, ℕ, ◌-◌, ◌^◌, ◌++◌, ◌==◌, min, Bool, true, false, List, [], length, map, Option, Some}
+use Rattle.std.specs.Prelude.{◌≡◌, ℕ, ◌-◌, ◌++◌, ◌==◌, Bool, true, false, List, [], length, map, Option, Some}
 use Rattle.std.specs.Prelude.{None, codes, string_bytes}
 use Rattle.std.specs.List.{before_first, flat_map}
 use Rattle.std.specs.Io.KnownBytes.{Appends}

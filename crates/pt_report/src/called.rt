@@ -1,12 +1,12 @@
 //! The names of a script's processes.
 
-ghost use Rattle.std.specs.Prelude.{◌≡◌, [], ◌++◌, IfOk, OnOk, map, slice_index_or, string_bytes};
+ghost use Rattle.std.specs.Prelude.{◌≡◌, ◌++◌, IfOk, OnOk, map, string_bytes};
 ghost use Rattle.pt_chart.specs.Drawing.{called_given};
 ghost use Rattle.pt_report.specs.Called as spec;
 
 use pt_chart::Called;
 use pt_node::Pid;
-use pt_runner::Runner;
+use pt_runner::{Runner, name_at};
 use std::alloc::{AllocError, Global};
 
 /// The pids of a script's processes, as its runners have them, each with the name at its process's number.
@@ -61,13 +61,4 @@ fn call<'a>(
         called.push(Called { pid, name })?;
     }
     Ok(())
-}
-
-fn name_at(names: &[String], process: usize) -> &str
-    ensures { result.now ≡ slice_index_or (map string_bytes names.now) process [] }
-{
-    match names.get(process) {
-        Some(name) => name.as_str(),
-        None => "",
-    }
 }

@@ -1,6 +1,6 @@
 //! The forms in which the events of a history are written.
 
-ghost use Rattle.std.specs.Prelude.{◌≡◌, OnOk};
+ghost use Rattle.std.specs.Prelude.{OnOk};
 ghost use Rattle.std.specs.Io.KnownBytes.{Appends};
 ghost use Rattle.pt_report.specs.Lines.{form_head, left_line, line};
 

@@ -48,7 +48,7 @@
 //! - **Faults.** A script's fault is the first one. After any fault but `File` the writer is as it was, or has the
 //!   lines of the epochs that passed.
 //! - **Status.** It is 1 if the bytes are no script, and else 3. (`ReportFault::status`)
-#![tactic(auto, unfolding(crate::specs::Lines::account_text, crate::specs::Lines::totals_text, crate::specs::Words::called_text, crate::specs::Words::wanted_text, crate::specs::Words::refused_text))]
+#![tactic(auto, unfolding(crate::specs::Lines::account_text, crate::specs::Lines::totals_text, crate::specs::Words::refused_text))]
 
 mod called;
 mod chart;

@@ -3,55 +3,8 @@
 ghost use Rattle.std.specs.Prelude.{◌≡◌};
 ghost use Rattle.pt_report.specs.Words.{word_text};
 
-use pt_script::{Operation, Pattern};
+use pt_script::Operation;
 use std::fmt;
-
-/// A process of the script by its number: its name.
-#[derive(Clone, Copy)]
-pub(crate) struct Named<'a> {
-    pub(crate) names: &'a [String],
-    pub(crate) process: u32,
-}
-
-impl fmt::Display for Named<'_> {
-    ghost use Rattle.std.specs.Prelude.{Some, map, string_bytes};
-    ghost use Rattle.pt_report.specs.Words.{called_text};
-
-    ghost output = { λ n. Some (called_text (map string_bytes n.names.now) n.process) };
-
-    fn fmt<W: fmt::Write>(&self, f: &mut fmt::Formatter<W>) -> fmt::Result {
-        match self.names.get(self.process as usize) {
-            Some(name) => f.write_str(name.as_str()),
-            None => write!(f, "{}", self.process),
-        }
-    }
-}
-
-/// What a `receive` takes.
-#[derive(Clone, Copy)]
-pub(crate) struct Wanted<'a> {
-    pub(crate) names: &'a [String],
-    pub(crate) pattern: Pattern,
-}
-
-impl fmt::Display for Wanted<'_> {
-    ghost use Rattle.std.specs.Prelude.{Some, map, string_bytes};
-    ghost use Rattle.pt_report.specs.Words.{wanted_text};
-
-    ghost output = { λ w. Some (wanted_text (map string_bytes w.names.now) w.pattern) };
-
-    fn fmt<W: fmt::Write>(&self, f: &mut fmt::Formatter<W>) -> fmt::Result {
-        let names = self.names;
-        match self.pattern {
-            Pattern::Any => f.write_str("receive"),
-            Pattern::Kind(kind) => write!(f, "receive kind {kind}"),
-            Pattern::From(process) => write!(f, "receive from {}", Named { names, process }),
-            Pattern::ExitOf(process) => write!(f, "receive exit {}", Named { names, process }),
-            Pattern::DownOf(tag) => write!(f, "receive down of tag {tag}"),
-            Pattern::AliveOf(tag) => write!(f, "receive alive of tag {tag}"),
-        }
-    }
-}
 
 /// How often an operation failed for want of memory or at the clock's limit, if it did.
 #[derive(Clone, Copy)]

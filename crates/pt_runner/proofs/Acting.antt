@@ -1,5 +1,5 @@
 -- What operations do, and what a step does.
-use Rattle.std.proofs.Common.{◌≡◌, ◌≢◌, inl, inr, ℕ, zero, suc, ◌+◌, ◌<◌, List, [], ◌∷◌, ◌++◌, Bool, true, false, length, map, get_or, set, Option, Some, None, Result, Ok, Err, refl, ap, sym, subst, ◌∙◌, add-one, arith}
+use Rattle.std.proofs.Common.{◌≡◌, ◌≢◌, inl, inr, ℕ, ◌+◌, ◌<◌, List, [], ◌∷◌, ◌++◌, Bool, true, false, length, map, get_or, set, Option, Some, None, Result, Ok, Err, refl, ap, sym, subst, ◌∙◌, add-one}
 use Rattle.std.specs.Prelude.{is_some}
 use Rattle.std.specs.List.{filter}
 use Rattle.std.proofs.lemmas.List.{map-set, get_or-map, get_or_append_left, get_or_default, length-map}

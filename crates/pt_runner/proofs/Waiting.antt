@@ -1,6 +1,6 @@
 -- What a runner knows of those that wait stays true, and who sleeps finds nothing.
 use Rattle.std.proofs.Common.{◌≡◌, ◌≢◌, ◌⊎◌, inl, inr, ℕ, zero, suc, ◌+◌, ◌-◌, ◌<◌, ◌≤◌, Bool, true, false, cond, ◌||◌, ◌&&◌, ◌==◌, leb-true, List, [], ◌∷◌, ◌++◌, length, length-append, reverse, take, map, get_or, set, slice_get, Option, Some, None, Ok, refl, sym, ap, subst, ◌∙◌, append_assoc, append-nil, add-one, arith}
-use Rattle.std.specs.Prelude.{is_some, not}
+use Rattle.std.specs.Prelude.{not}
 use Rattle.std.specs.List.{All, find, filter, list_all, list_any}
 use Rattle.std.specs.Option.{option_map}
 use Rattle.std.proofs.lemmas.Bool.{cases_lt, eqb-true}
@@ -16,8 +16,7 @@ use Rattle.pt_signal.proofs.Same.{same_pid_is}
 use Rattle.pt_events.specs.declared.event.Event.{Event}
 use Rattle.pt_events.specs.declared.event.Event.TheVariants.{Born, Said, Came, Took, Flag, Left, Refused}
 use Rattle.pt_events.specs.declared.event.Stamped.{Stamped}
-use Rattle.pt_events.specs.History.{Phase, unborn, living, ended, is_living, is_unborn, state_of}
-use Rattle.pt_shard.specs.ShardState.{ShardState, lives, phase_of, state_in}
+use Rattle.pt_shard.specs.ShardState.{ShardState, lives, state_in}
 use Rattle.pt_shard.specs.Calls.{Calls, CanWriteIf, after_if, first_match, take_event}
 use Rattle.pt_shard.specs.Extends.{Extends}
 use Rattle.pt_workers.specs.Waking.{came_in, came_to}

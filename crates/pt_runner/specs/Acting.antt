@@ -1,7 +1,7 @@
 -- What an operation of a process does, and what a step does: the operations of the processes, one after the other.
 use Rattle.std.specs.Prelude.{◌≡◌, ◌⊎◌, ℕ, ℤ, zero, suc, ◌+◌, ◌-◌, ◌^◌, ◌<◌, Bool, true, false, cond, is_some, List, []}
-use Rattle.std.specs.Prelude.{◌∷◌, ◌++◌, length, map, min, slice_index_or, slice_set, Option, Some, None, Result, Ok}
-use Rattle.std.specs.Prelude.{Err}
+use Rattle.std.specs.Prelude.{◌∷◌, ◌++◌, length, map, min, slice_get, slice_index_or, slice_set, Option, Some, None}
+use Rattle.std.specs.Prelude.{Result, Ok, Err}
 use Rattle.std.specs.Bool.{then_some}
 use Rattle.std.specs.List.{filter, find}
 use Rattle.std.specs.Option.{option_map}
@@ -79,6 +79,14 @@ place_of a = record { begins = a.begins; done = a.done; refused = a.refused }
 -- where the process p is in its list, if it was born here
 abbrev pub place_listed : PidTable → Pid → Option Place
 place_listed t p = option_map place_of (find (λ (a : Acting). same_pid a.pid p) t.actors)
+
+abbrev pub place_at : Option Runner → Pid → Option Place
+place_at None p = None
+place_at (Some r) p = place_listed (table r) p
+
+-- where a process is in its list, by the runner of its desk
+abbrev pub place_among : List Runner → Pid → Option Place
+place_among runners p = place_at (slice_get runners p.shard) p
 
 abbrev pub plan_at : List Plan → ℕ → Plan
 plan_at plans process = slice_index_or plans process (record { trap = false; operations = [] })

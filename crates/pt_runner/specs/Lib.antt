@@ -2,3 +2,4 @@ pub mod Acting
 pub mod Starting
 pub mod Stepping
 pub mod Waiting
+pub mod Words

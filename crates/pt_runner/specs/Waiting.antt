@@ -1,6 +1,6 @@
 -- What a runner knows of the processes that wait, by the events of the desk's journal that it read.
-use Rattle.std.specs.Prelude.{◌≡◌, ◌⊎◌, ℕ, ◌-◌, ◌<◌, ◌≤◌, Bool, false, true, List, ◌++◌, length, slice_get, slice_index_or}
-use Rattle.std.specs.Prelude.{slice_set, take, leb, cond, not, ◌&&◌, ◌||◌, ◌==◌, Option, Some, None}
+use Rattle.std.specs.Prelude.{◌≡◌, ◌⊎◌, ℕ, ◌<◌, ◌≤◌, Bool, false, true, List, ◌++◌, length, slice_get, slice_index_or}
+use Rattle.std.specs.Prelude.{slice_set, leb, cond, not, ◌&&◌, ◌||◌, ◌==◌, Option, Some, None}
 use Rattle.std.specs.List.{All, list_all, list_any}
 use Rattle.pt_signal.specs.declared.pid.Pid.{Pid}
 use Rattle.pt_signal.specs.declared.item.Item.{Item}

@@ -2,7 +2,7 @@
 
 #![tactic(auto, using(pt_workers::proofs::GoingOn::stays))]
 
-ghost use Rattle.std.specs.Prelude.{◌≡◌, ◌≢◌, ℕ, Bool, ◌+◌, ◌<◌, ◌++◌, true, Some, IfSome, vec_len, vec_capacity};
+ghost use Rattle.std.specs.Prelude.{◌≡◌, ◌≢◌, ℕ, Bool, ◌<◌, ◌++◌, true, Some, IfSome, vec_len, vec_capacity};
 ghost use Rattle.pt_signal.specs.declared.signal.Signal.{Signal};
 ghost use Rattle.pt_events.specs.declared.event.Event.{Event};
 ghost use Rattle.pt_desk.specs.DeskState.{GoesOn, HasSameEnds};

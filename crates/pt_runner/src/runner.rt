@@ -10,8 +10,8 @@ ghost use Rattle.pt_script.specs.Plans.{Plan};
 ghost use Rattle.pt_script.specs.declared.values.Operation.{Operation};
 ghost use Rattle.pt_script.specs.declared.values.Pattern.{Pattern};
 ghost use Rattle.pt_runner.specs.declared.runner.Actor.{Actor};
-ghost use Rattle.pt_runner.specs.Acting.{Plays, GoesBehind, ActsAt, RunnerDoes, acting, table, newborn_actor, next_of};
-ghost use Rattle.pt_runner.specs.Acting.{advanced, living, place_listed, put_off, with_born, RunnerSpawns};
+ghost use Rattle.pt_runner.specs.Acting.{Plays, GoesBehind, ActsAt, acting, table, newborn_actor, next_of};
+ghost use Rattle.pt_runner.specs.Acting.{advanced, living, place_among, place_listed, put_off, with_born, RunnerSpawns};
 ghost use Rattle.pt_runner.specs.Stepping.{ProcessesStep, processes_here};
 ghost use Rattle.pt_runner.specs.Waiting.{RunnerAttends, HasSameRest, IsAbreast, IsFresh, IsTrueOf, IsUnmarked, RunnerKnows, RunnerSteps};
 ghost use Rattle.pt_runner.specs.Waiting.{AllRest, idle_runner, is_out_of_work, marked, none_fits, rests, sleeps, takes_none};
@@ -571,4 +571,15 @@ impl Work for Runner<'_> {
     }
 
     fn turned(&mut self, _desk: &Desk, _turned: Turned) {}
+}
+
+/// The place of the process in its list, as the runner of its desk has it: see [`Runner::place`]. The runners are those
+/// of all desks, in order.
+pub fn place_among(runners: &[Runner<'_>], p: Pid) -> Option<Place>
+    ensures { result ≡ place_among runners.now p }
+{
+    match runners.get(p.shard as usize) {
+        Some(runner) => runner.place(p),
+        None => None,
+    }
 }

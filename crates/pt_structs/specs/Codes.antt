@@ -39,16 +39,16 @@ IfCrosses None code kept P = (code ≡ bad_code) × kept
 abbrev pub not_running : ℕ
 not_running = 17
 
--- a crew or a team is used with a desk that is not its own
+-- a crew is used with a desk that is not its own
 abbrev pub wrong_desk : ℕ
 wrong_desk = 18
 
--- this is the number of the desk of a crew or of a team, or it may be that of any
+-- this is the number of the desk of a crew, or it may be that of any
 abbrev pub is_number_of : Option ℕ → ℕ → Bool
 is_number_of (Some own) number = own == number
 is_number_of None number = true
 
--- a call of a crew or of a team over a desk: if that is another's the code says so, and nothing has changed
+-- a call of a crew over a desk: if that is another's the code says so, and nothing has changed
 abbrev pub IfOwn : Bool → ℕ → Type 0 → Type 0 → Type 0
 IfOwn true code kept P = P
 IfOwn false code kept P = (code ≡ wrong_desk) × kept
@@ -65,6 +65,15 @@ open_code (Bounds Start) = 15
 abbrev pub code_at : {A : Type 0} → Result A Fault → ℕ
 code_at (Ok a) = 0
 code_at (Err f) = code_of f
+
+-- the value of an answer, and what stood there where there is none
+abbrev pub told_or : {A B : Type 0} → (A → B) → B → Result A Fault → B
+told_or f before (Ok a) = f a
+told_or f before (Err e) = before
+
+-- an answer with a value that P allows, as its code and its struct
+abbrev pub GivesCode : {A B : Type 0} → ℕ → B → B → (A → B) → (Result A Fault → Type 0) → Type 0
+GivesCode {A} code before after f P = (r : Result A Fault) × (code ≡ code_at r) × (after ≡ told_or f before r) × P r
 
 abbrev pub found_code : {A : Type 0} → Result (Option A) Fault → ℕ
 found_code (Ok (Some a)) = 0

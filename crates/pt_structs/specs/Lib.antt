@@ -1,3 +1,3 @@
 pub mod Crossing
-pub mod Jobs
+pub mod Nexts
 pub mod Codes

@@ -440,7 +440,7 @@ pub(crate) fn no_pick() -> PtPick
     }
 }
 
-pub(crate) fn no_item() -> PtItem
+pub fn no_item() -> PtItem
     ensures { result ≡ no_item }
 {
     PtItem {

@@ -7,11 +7,11 @@
 //! # What is proved
 //!
 //! - **Structs.** Each value crosses to its struct and back. A field that has no meaning for a code is zero. (`Crossing`,
-//!   `Jobs`)
+//!   `Nexts`)
 //! - **Codes.** Each failure has its code, and a struct whose code means nothing is no value. (`Codes`)
 #![tactic(auto)]
 
 pub mod codes;
 pub mod crossing;
-pub mod crossing_jobs;
+pub mod crossing_nexts;
 pub mod types;

@@ -218,24 +218,6 @@ pub struct PtNext {
     pub pick: PtPick,
 }
 
-/// What a process of a crew is told. The codes are:
-///
-/// - 0: it begins;
-/// - 1: it proceeds;
-/// - 2: it gets an item (`item`);
-/// - 3: the time until which it waited has come;
-/// - 4: it has exited (`reason`), and this was what it was to do (`was`).
-#[repr(C)]
-#[derive(Clone, Copy)]
-pub struct PtJob {
-    pub code: u32,
-    pub pid: PtPid,
-    pub tag: u64,
-    pub item: PtItem,
-    pub reason: PtReason,
-    pub was: PtNext,
-}
-
 /// What a running process does next.
 #[repr(C)]
 #[derive(Clone, Copy)]

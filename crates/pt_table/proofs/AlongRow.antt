@@ -1,14 +1,10 @@
--- Rows of handles: whether the desks are in order, and how the crews go on.
+-- Rows of handles: whether the desks are in order.
 use Rattle.std.proofs.Common.{◌≡◌, ℕ, ◌+◌, ◌<◌, Bool, true, List, [], ◌∷◌, ◌++◌, length, map, set, get_or, Option, refl, sym, ap, ◌∙◌, subst, arith}
 use Rattle.std.specs.Prelude.{◌&&◌}
 use Rattle.std.proofs.lemmas.List.{append-nil, append_assoc, length-append}
-use Rattle.pt_events.specs.declared.event.Stamped.{Stamped}
 use Rattle.pt_desk.specs.DeskState.{DeskState}
-use Rattle.pt_hands.specs.declared.hands.Hands.{Hands}
 use Rattle.pt_table.specs.Answers.{HandlePlace, value_behind}
-use Rattle.pt_table.specs.GoingOn.{AllCrewsGoOn, CrewGoesOn}
 use Rattle.pt_table.specs.InOrder.{are_in_order}
-use Rattle.pt_table.specs.Owning.{are_own}
 use Rattle.pt_table.proofs.InRow.{changed}
 
 nothing_more : {X : Type 0} (xs pre rest : List X) → xs ≡ pre ++ rest → length pre ≡ length xs → rest ≡ []
@@ -57,55 +53,3 @@ InOrderSoFar count whole k = Looked (λ place. are_in_order place count) whole k
 
 pub all_looked : (whole : List (HandlePlace DeskState)) (count k : ℕ) → InOrderSoFar count whole k → k ≡ length whole → are_in_order 0 count whole ≡ true
 all_looked whole count k l is = looked_all (λ place. are_in_order place count) whole k l is refl
-
--- the crews, each with its own desk
-abbrev pub OwnSoFar : List (HandlePlace Hands) → ℕ → Type 0
-OwnSoFar whole k = Looked are_own whole k
-
-pub all_own : (whole : List (HandlePlace Hands)) (k : ℕ) → OwnSoFar whole k → k ≡ length whole → are_own 0 whole ≡ true
-all_own whole k l is = looked_all are_own whole k l is refl
-
--- crews that go on -----------------------------------------------------------------------------
-
-both_more : (past : List Stamped) (olds news : List (HandlePlace Hands)) (old new : HandlePlace Hands) → AllCrewsGoOn past olds news → CrewGoesOn past old new → AllCrewsGoOn past (olds ++ old ∷ []) (news ++ new ∷ [])
-both_more past [] [] old new a one = (one, tt)
-both_more past (x ∷ olds) (y ∷ news) old new a one = (a.0, both_more past olds news old new a.1 one)
-both_more past [] (y ∷ news) old new a one = absurd a
-both_more past (x ∷ olds) [] old new a one = absurd a
-
--- so many have gone on
-pub record GoneOn (past : List Stamped) (whole now : List (HandlePlace Hands)) (k : ℕ) : Type 0 where
-  pub olds : List (HandlePlace Hands)
-  pub news : List (HandlePlace Hands)
-  pub rest : List (HandlePlace Hands)
-  pub whole_is : whole ≡ olds ++ rest
-  pub now_is : now ≡ news ++ rest
-  pub long : length news ≡ k
-  pub as_long : length olds ≡ k
-  pub all : AllCrewsGoOn past olds news
-
-pub none_gone_on : (past : List Stamped) (whole : List (HandlePlace Hands)) → GoneOn past whole whole 0
-none_gone_on past whole = record { olds = []; news = []; rest = whole; whole_is = refl; now_is = refl; long = refl; as_long = refl; all = tt }
-
-module _ {H : Type 0} (st : H → HandlePlace Hands) where
-  pub goes_on_one : (past : List Stamped) (whole : List (HandlePlace Hands)) (hs : List H) (k : ℕ) (h h' : H) → GoneOn past whole (map st hs) k → k < length hs → h ≡ get_or hs k h → CrewGoesOn past (st h) (st h')
-      → GoneOn past whole (map st (set hs k h')) (k + 1)
-  goes_on_one past whole hs k h h' g within is one =
-      let f = changed st hs g.news g.rest k h g.now_is g.long within is in
-      record {
-        olds = g.olds ++ st h ∷ [];
-        news = g.news ++ st h' ∷ [];
-        rest = f.0;
-        whole_is = g.whole_is ∙ ap (λ z. g.olds ++ z) f.1 ∙ sym (append_assoc g.olds (st h ∷ []) f.0);
-        now_is = f.2 h' ∙ sym (append_assoc g.news (st h' ∷ []) f.0);
-        long = length-append g.news (st h' ∷ []) ∙ ap (λ n. n + 1) g.long;
-        as_long = length-append g.olds (st h ∷ []) ∙ ap (λ n. n + 1) g.as_long;
-        all = both_more past g.olds g.news (st h) (st h') g.all one;
-      }
-
-pub all_gone_on : (past : List Stamped) (whole now : List (HandlePlace Hands)) (k : ℕ) → GoneOn past whole now k → k ≡ length now → AllCrewsGoOn past whole now
-all_gone_on past whole now k g is =
-    let none = nothing_more now g.news g.rest g.now_is (g.long ∙ is) in
-    let whole_is : whole ≡ g.olds = g.whole_is ∙ ap (λ z. g.olds ++ z) none ∙ append-nil g.olds in
-    let now_is : now ≡ g.news = g.now_is ∙ ap (λ z. g.news ++ z) none ∙ append-nil g.news in
-    subst (λ (xs : List (HandlePlace Hands)). AllCrewsGoOn past xs now) (sym whole_is) (subst (λ (ys : List (HandlePlace Hands)). AllCrewsGoOn past g.olds ys) (sym now_is) g.all)

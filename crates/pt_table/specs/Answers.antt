@@ -26,15 +26,11 @@ use Rattle.pt_structs.specs.declared.types.PtItem.{PtItem}
 use Rattle.pt_structs.specs.declared.types.PtTurned.{PtTurned}
 use Rattle.pt_structs.specs.declared.types.PtPick.{PtPick}
 use Rattle.pt_structs.specs.declared.types.PtReason.{PtReason}
+pub use Rattle.pt_structs.specs.Codes.{GivesCode, told_or}
 use Rattle.pt_structs.specs.Codes.{IfCrosses, code_at, found_code, unknown}
 use Rattle.pt_structs.specs.Crossing.{pid_out, ref_out, item_out, pick_in, reason_in, turned_out}
 
 -- what is passed out ---------------------------------------------------------------------
-
--- the value of an answer, and what stood there where there is none
-abbrev pub told_or : {A B : Type 0} → (A → B) → B → Result A Fault → B
-told_or f before (Ok a) = f a
-told_or f before (Err e) = before
 
 abbrev pub found_or : {A B : Type 0} → (A → B) → B → Result (Option A) Fault → B
 found_or f before (Ok (Some a)) = f a
@@ -44,11 +40,7 @@ found_or f before _ = before
 abbrev pub AnswersCode : ℕ → (Result (Unit {0}) Fault → Type 0) → Type 0
 AnswersCode code P = (r : Result (Unit {0}) Fault) × (code ≡ code_at r) × P r
 
--- the same where an answer has a value too
-abbrev pub GivesCode : {A B : Type 0} → ℕ → B → B → (A → B) → (Result A Fault → Type 0) → Type 0
-GivesCode {A} code before after f P = (r : Result A Fault) × (code ≡ code_at r) × (after ≡ told_or f before r) × P r
-
--- the same where an answer may be that there is none
+-- the same where an answer has a value, or is that there is none
 abbrev pub FindsCode : {A B : Type 0} → ℕ → B → B → (A → B) → (Result (Option A) Fault → Type 0) → Type 0
 FindsCode {A} code before after f P =
     (r : Result (Option A) Fault) × (code ≡ found_code r) × (after ≡ found_or f before r) × P r

@@ -1,6 +1,5 @@
 //! The places that handles have: a value on the heap, which can be taken out and leaves its place.
 
-use pt_hands::Hands;
 use pt_node::{Desk, LeftOver, Quiet, Stamped};
 use std::marker::Model;
 
@@ -77,23 +76,4 @@ impl Model for HeldHistory {
     ghost Value = { Option HistoryState };
 
     ghost view = { λ h. h.history };
-}
-
-/// The place of a crew.
-#[derive(Drop)]
-pub struct HeldCrew {
-    pub crew: Option<Hands>,
-}
-
-impl Model for HeldCrew {
-    ghost use Rattle.std.specs.Prelude.{Option};
-    ghost use Rattle.std.specs.Coded.{coded_option};
-    ghost use Rattle.pt_hands.specs.contracts.hands.Hands as hands;
-    ghost use Rattle.pt_hands.specs.declared.hands.Hands.{Hands};
-
-    ghost Value = { Option Hands };
-
-    ghost coded = { coded_option hands.the_row.coded };
-
-    ghost view = { λ h. h.crew };
 }

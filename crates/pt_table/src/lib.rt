@@ -1,5 +1,5 @@
-//! The table for C without its exports: the handles of desks, crews, histories and quiet nodes, and the calls of a desk
-//! and of a crew with the structs and codes of `pt_structs`.
+//! The table for C without its exports: the handles of desks, histories and quiet nodes, and the calls of a desk with the
+//! structs and codes of `pt_structs`.
 //!
 //! `pt_c` exports it. It is a library of its own so that the gate proves it once. A static library keeps no checked
 //! crate, so what is in `pt_c` is proved again when its archive is built.
@@ -10,18 +10,11 @@
 //!
 //! - **Bad codes.** A pick or a reason with a code that means nothing is refused, before all that the desk would refuse,
 //!   and nothing has changed. (`IfCrosses`)
-//! - **One desk.** A call of a crew over a desk with another number than that of its own is refused, and nothing has
-//!   changed. (`IfOwn`, `are_own`)
-//! - **Crews.** A step hands out what `Hands` hands out, each job as its struct, and an answer is that of `Hands`. Of a row
-//!   of answers each is taken up to the first that is refused. (`CrewSteps`, `TakesAnswers`)
-//! - **Going on.** Each crew of a row goes on with the history, as `Hands` does. (`AllCrewsGoOn`)
 //! - **Losses.** What a desk lost is read item by item, and each loss is passed once. (`Losing`)
 //! - **Wake-ups.** `Woken` says which process is returned next. No event gives an item to any other process, or makes
 //!   it exit. (`NobodyIsMissed`)
 #![tactic(auto)]
 
-pub mod crew_handle;
-pub mod crewing;
 pub mod desk_handle;
 pub mod doing;
 pub mod held;

@@ -89,7 +89,7 @@ impl<B: Behaviour> Process<B> {
 impl<B: Behaviour> Actor for Process<B> {
     fn told(&mut self, worker: &mut Worker, what: What) -> Next {
         let event = match what {
-            What::Start | What::Exit(..) => None,
+            What::Start(_) | What::Exit(..) => None,
             What::Proceed => Some(Event::Proceed),
             What::Timeout => Some(Event::Timeout),
             What::Item(item) => match self.event_of(worker, item) {

@@ -1,6 +1,7 @@
 //! The calls of crews in the table of rows.
 
 use super::{or_none, pick, pid, reason, refused, text, turned_text};
+use pundewo::supervisors::{Child, ChildSpec, Origin, Restart, Shutdown, Strategy, SupervisorSpec};
 use pundewo::{Crew, Desk, Fault, Job, Loss, Next, Pid, What};
 
 fn next(words: &[&str]) -> Next {
@@ -26,7 +27,9 @@ fn next_text(next: Next) -> String {
 
 fn job_text(Job { pid, tag, what }: Job) -> String {
     match what {
-        What::Start => format!("start {pid} {tag}"),
+        What::Start(None) => format!("start {pid} {tag}"),
+        What::Start(Some(Origin { supervisor, again: false })) => format!("start {pid} {tag} under {supervisor}"),
+        What::Start(Some(Origin { supervisor, again: true })) => format!("start {pid} {tag} under {supervisor} again"),
         What::Proceed => format!("proceed {pid} {tag}"),
         What::Item(item) => format!("item {pid} {tag} {item}"),
         What::Timeout => format!("timeout {pid} {tag}"),
@@ -65,6 +68,54 @@ fn losses(crew: &mut Crew, desk: &mut Desk) -> Result<String, Fault> {
     Ok(if texts.is_empty() { "nothing".to_string() } else { texts.join("; ") })
 }
 
+const RESTARTS: [(&str, Restart); 3] =
+    [("permanent", Restart::Permanent), ("transient", Restart::Transient), ("temporary", Restart::Temporary)];
+
+/// A supervisor, of four words.
+fn spec(w: &[&str]) -> SupervisorSpec {
+    let strategy = match w[0] {
+        "one_for_one" => Strategy::OneForOne,
+        "one_for_all" => Strategy::OneForAll,
+        "rest_for_one" => Strategy::RestForOne,
+        word => panic!("no strategy: {word}"),
+    };
+    let parent = (w[3] != "-").then(|| pid(w[3]));
+    SupervisorSpec { strategy, most: w[1].parse().unwrap(), span: w[2].parse().unwrap(), timed: false, parent }
+}
+
+/// Its children, of three words behind a comma each.
+fn children(w: &[&str]) -> Vec<ChildSpec> {
+    let child = |w: &[&str]| ChildSpec {
+        tag: w[1].parse().unwrap(),
+        restart: RESTARTS.iter().find(|(name, _)| *name == w[2]).expect("a restart").1,
+        shutdown: match w[3] {
+            "infinity" => Shutdown::Infinity,
+            "brutal_kill" => Shutdown::BrutalKill,
+            time => Shutdown::After(time.parse().unwrap()),
+        },
+    };
+    w.chunks(4).map(child).collect()
+}
+
+fn child_text(child: &Child) -> String {
+    let process = child.pid.map_or("-".to_string(), |pid| pid.to_string());
+    let restart = RESTARTS.iter().find(|(_, restart)| *restart == child.restart).expect("a restart").0;
+    let shutdown = match child.shutdown {
+        Shutdown::Infinity => "infinity".to_string(),
+        Shutdown::BrutalKill => "brutal_kill".to_string(),
+        Shutdown::After(time) => time.to_string(),
+    };
+    format!("{process} {restart} {shutdown}{}", if child.wanted { "" } else { " unwanted" })
+}
+
+fn children_of(crew: &Crew, p: Pid) -> String {
+    let Some(children) = crew.children(p) else { return "none".to_string() };
+    let places = 0..children.len();
+    assert!(places.clone().all(|place| crew.child(p, place) == Some(children[place])));
+    assert_eq!(crew.child(p, places.end), None);
+    children.iter().map(child_text).collect::<Vec<_>>().join("; ")
+}
+
 /// What a process does next.
 pub fn next_of(crew: &Crew, word: &str) -> String {
     crew.next(pid(word)).map_or("none".to_string(), next_text)
@@ -77,6 +128,11 @@ pub fn on_crew(crew: &mut Crew, desk: &mut Desk, name: &str, w: &[&str]) -> Stri
         "crew_spawn_child" => {
             text(crew.spawn_child(desk, pid(w[0]), w[1] == "true", w[2].parse().unwrap(), next(&w[3..])))
         }
+        "crew_supervisor" => {
+            text(crew.spawn_supervisor(desk, w[1].parse().unwrap(), spec(&w[2..]), &children(&w[6..])))
+        }
+        "crew_supervise" => text(crew.supervise(pid(w[1]), spec(&w[2..]), &children(&w[6..])).map(|()| "ok")),
+        "crew_children" => children_of(crew, pid(w[1])),
         "crew_step" => text(step(crew, desk, w[1].parse().unwrap(), w[2].parse().unwrap())),
         "crew_answer" => answer(crew, &w[1..]),
         "crew_losses" => text(losses(crew, desk)),

@@ -1,13 +1,13 @@
 -- `node_children_live`: its contract.
 use Rattle.std.proofs.Common.{map}
 use Rattle.pt_pauses.proofs.AllLive.{all_children_live}
-use Rattle.pt_teams.specs.Members.{boss_part}
-use Rattle.pt_teams.specs.Teaming.{team_crew}
+use Rattle.pt_scheduler.specs.Members.{boss_part}
+use Rattle.pt_scheduler.specs.Scheduling.{crew_of}
 use Rattle.pt_pauses.proofs.Quieting.{crews_idle, crews_uphold}
 use Rattle.pt_pauses.proofs.resting_node.node_children_live.Goals as goal
 
 pub returns : goal.returns
-returns c = λ past teams desks g u idle.
+returns c = λ past schedulers desks g u idle.
     all_children_live boss_part
     (record {
       say = c.journals_tell_their_pids.ensures.journals;
@@ -17,5 +17,5 @@ returns c = λ past teams desks g u idle.
       once = c.one_down.ensures.over;
       stamps = c.stamps_make_new_ids.ensures.new;
     })
-    past (map team_crew teams) desks g
-    (crews_uphold past teams desks u) (crews_idle past teams desks u idle)
+    past (map crew_of schedulers) desks g
+    (crews_uphold past schedulers desks u) (crews_idle past schedulers desks u idle)

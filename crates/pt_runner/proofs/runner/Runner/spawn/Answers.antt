@@ -1,5 +1,5 @@
 -- `Runner::spawn`: its clauses `spawns` and `knows`.
-use Rattle.std.proofs.Common.{◌≡◌, ◌<◌, inr, inl, List, length, get_or, set, ap, sym, subst, refl, ◌∙◌, arith}
+use Rattle.std.proofs.Common.{◌≡◌, ◌<◌, inr, inl, List, length, get_or, set, ap, sym, subst, ◌∙◌, arith}
 use Rattle.pt_signal.specs.declared.pid.Pid.{Pid}
 use Rattle.pt_shard.specs.Calls.{BearsChild}
 use Rattle.pt_runner.specs.declared.calls.Progress.{Progress}

@@ -1,0 +1,243 @@
+//! The supervisors of a crew: whom they start, what the crew tells of it, and how they go on with their node.
+
+use pundewo::raw::*;
+use pundewo::supervisors::{Child, ChildSpec, Origin, Restart, Shutdown, Strategy, SupervisorSpec};
+use pundewo::{Config, Crew, Desk, Fault, Job, Next, Node, NotTaken, Pick, Pid, Reason, What, gather, go_on, open};
+
+const ANY: Next = Next::Wait(Pick::Any);
+const CRASH: Reason = Reason::Other(1);
+
+fn spec() -> SupervisorSpec {
+    SupervisorSpec { most: 2, span: 1000, ..SupervisorSpec::default() }
+}
+
+fn step(crew: &mut Crew, desk: &mut Desk) -> Vec<Job> {
+    let mut jobs = Vec::new();
+    let turned = crew.step(desk, 64, 64, &mut jobs).expect("the crew of this desk");
+    assert_eq!((turned.stopped, crew.refused()), (None, false));
+    jobs
+}
+
+/// Steps until nobody has anything to do. Each process that begins is answered that it waits.
+fn run(crew: &mut Crew, desk: &mut Desk) -> Vec<Job> {
+    let mut told = Vec::new();
+    let mut quiet = 0;
+    while quiet < 2 {
+        let jobs = step(crew, desk);
+        for job in &jobs {
+            if let What::Start(_) = job.what {
+                crew.answer(&[(job.pid, ANY)]).expect("it runs");
+            }
+        }
+        let rests = jobs.is_empty() && desk.pending() == 0 && crew.is_idle(desk) == Ok(true);
+        quiet = if rests { quiet + 1 } else { 0 };
+        told.extend(jobs);
+    }
+    told
+}
+
+fn starts(pid: Pid, tag: u64, supervisor: Pid, again: bool) -> Job {
+    Job { pid, tag, what: What::Start(Some(Origin { supervisor, again })) }
+}
+
+fn exits(pid: Pid, tag: u64, reason: Reason) -> Job {
+    Job { pid, tag, what: What::Exit(reason, ANY) }
+}
+
+fn pids(crew: &Crew, supervisor: Pid) -> Vec<Pid> {
+    let children = crew.children(supervisor).expect("it is a supervisor");
+    children.iter().map(|child| child.pid.expect("it was started")).collect()
+}
+
+#[test]
+fn children_are_started_again() -> Result<(), Fault> {
+    let mut desks = open(1, Config::default())?;
+    let desk = &mut desks[0];
+    let mut crew = Crew::new(desk)?;
+    assert!(crew.is_empty() && crew.is_idle(desk)?);
+    let boss = crew.spawn_supervisor(desk, 5, spec(), &[ChildSpec::new(10), ChildSpec::new(11)])?;
+    let told = run(&mut crew, desk);
+    let first = pids(&crew, boss);
+    assert_eq!(told, [starts(first[0], 10, boss, false), starts(first[1], 11, boss, false)]);
+    assert_eq!(
+        (crew.len(), crew.tag(boss), crew.tag(first[1]), crew.next(first[0])),
+        (3, Some(5), Some(11), Some(ANY))
+    );
+    desk.exit(first[0], CRASH)?;
+    let told = run(&mut crew, desk);
+    let second = pids(&crew, boss);
+    assert_eq!(told, [exits(first[0], 10, CRASH), starts(second[0], 10, boss, true)]);
+    assert_eq!(second[1], first[1]);
+    // two restarts are all that it makes
+    desk.exit(second[1], CRASH)?;
+    assert_eq!(run(&mut crew, desk).len(), 2);
+    desk.exit(second[0], CRASH)?;
+    let told = run(&mut crew, desk);
+    assert_eq!((told.len(), told[0].pid, told[2].pid, crew.len()), (3, second[0], boss, 0));
+    assert!(crew.children(boss).is_none());
+    Ok(())
+}
+
+#[test]
+fn strategies_end_others() -> Result<(), Fault> {
+    for (strategy, ended) in [(Strategy::OneForOne, 1), (Strategy::RestForOne, 2), (Strategy::OneForAll, 3)] {
+        let mut desks = open(1, Config::default())?;
+        let desk = &mut desks[0];
+        let mut crew = Crew::new(desk)?;
+        let boss =
+            crew.spawn_supervisor(desk, 0, SupervisorSpec { strategy, ..spec() }, &[1, 2, 3].map(ChildSpec::new))?;
+        run(&mut crew, desk);
+        let before = pids(&crew, boss);
+        desk.exit(before[1], CRASH)?;
+        let told = run(&mut crew, desk);
+        assert_eq!(told.iter().filter(|job| matches!(job.what, What::Exit(..))).count(), ended);
+        let again = told.iter().filter(|job| matches!(job.what, What::Start(Some(Origin { again: true, .. }))));
+        assert_eq!(again.count(), ended);
+        assert_eq!(pids(&crew, boss).iter().zip(&before).filter(|(now, was)| now != was).count(), ended);
+    }
+    Ok(())
+}
+
+#[test]
+fn a_child_may_be_a_supervisor() -> Result<(), Fault> {
+    let mut desks = open(1, Config::default())?;
+    let desk = &mut desks[0];
+    let mut crew = Crew::new(desk)?;
+    let children = [ChildSpec { restart: Restart::Transient, shutdown: Shutdown::After(7), ..ChildSpec::new(1) }];
+    let boss = crew.spawn_supervisor(desk, 0, spec(), &children)?;
+    // (children are started in the first step, and told so in the next)
+    assert_eq!(step(&mut crew, desk), []);
+    let branch = step(&mut crew, desk)[0].pid;
+    assert_eq!(crew.next(branch), Some(Next::Running));
+    crew.supervise(branch, SupervisorSpec { parent: Some(boss), ..spec() }, &[ChildSpec::new(2)])?;
+    let told = run(&mut crew, desk);
+    let leaf = pids(&crew, branch)[0];
+    assert_eq!(told, [starts(leaf, 2, branch, false)]);
+    let known = Child { pid: Some(branch), restart: Restart::Transient, shutdown: Shutdown::After(7), wanted: true };
+    assert_eq!(crew.children(boss), Some(vec![known]));
+    assert!(crew.children(leaf).is_none());
+    // it is not running, and nobody is at the other pid
+    for p in [branch, Pid { shard: 0, slot: 9, version: 9 }] {
+        assert_eq!(crew.supervise(p, spec(), &[]), Err(Fault::NotRunning));
+        assert_eq!(crew.answer(&[(p, ANY)]), Err(NotTaken { taken: 0, fault: Fault::NotRunning }));
+    }
+    Ok(())
+}
+
+#[test]
+fn processes_without_a_supervisor_are_told_beside_it() -> Result<(), Fault> {
+    let mut desks = open(1, Config::default())?;
+    let desk = &mut desks[0];
+    let mut crew = Crew::new(desk)?;
+    let one = crew.spawn(desk, 1, Next::Proceed)?;
+    let boss = crew.spawn_supervisor(desk, 0, spec(), &[ChildSpec::new(2)])?;
+    assert_eq!(step(&mut crew, desk), [Job { pid: one, tag: 1, what: What::Start(None) }]);
+    crew.answer(&[(one, Next::Proceed)]).expect("it runs");
+    let child = crew.child(boss, 0).and_then(|child| child.pid).expect("it was started");
+    let told = step(&mut crew, desk);
+    assert_eq!(told, [starts(child, 2, boss, false), Job { pid: one, tag: 1, what: What::Proceed }]);
+    assert_eq!((crew.child(boss, 1), crew.child(one, 0)), (None, None));
+    Ok(())
+}
+
+#[test]
+fn supervisors_go_on_with_their_node() -> Result<(), Fault> {
+    let mut desks = open(2, Config::default())?;
+    let mut crew = Crew::new(&desks[1])?;
+    let boss = crew.spawn_supervisor(&mut desks[1], 5, spec(), &[ChildSpec::new(10)])?;
+    run(&mut crew, &mut desks[1]);
+    let child = pids(&crew, boss)[0];
+    // an exit that was not told as the node is gathered
+    desks[1].exit(child, CRASH)?;
+    let settled = gather(desks)?.settle_unlisted()?;
+    let history = settled.history()?;
+    let mut desks = settled.resume()?;
+    let mut jobs = vec![exits(child, 9, CRASH)];
+    assert_eq!(crew.step(&mut desks[1], 1, 1, &mut jobs), Err(Fault::WrongDesk));
+    assert_eq!(crew.go_on(&desks[0], &history), Err(Fault::WrongDesk));
+    assert_eq!(jobs.len(), 1);
+    crew.go_on(&desks[1], &history)?;
+    let told = run(&mut crew, &mut desks[1]);
+    let again = pids(&crew, boss)[0];
+    assert!(told.contains(&exits(child, 10, CRASH)) && told.contains(&starts(again, 10, boss, true)));
+    assert_eq!(told.len(), 2);
+    // and once more, where all was told
+    let mut desks = gather(desks)?.settle_unlisted()?.resume()?;
+    crew.begin_again(&desks[1])?;
+    assert_eq!((run(&mut crew, &mut desks[1]), pids(&crew, boss)), (vec![], vec![again]));
+    Ok(())
+}
+
+#[test]
+fn a_node_of_supervisors_goes_on_in_one_call() -> Result<(), Fault> {
+    let mut desks = open(2, Config::default())?;
+    let mut crews = [Crew::new(&desks[0])?, Crew::new(&desks[1])?];
+    let mut bosses = vec![];
+    for (crew, desk) in crews.iter_mut().zip(&mut desks) {
+        bosses.push(crew.spawn_supervisor(desk, 5, spec(), &[ChildSpec::new(10)])?);
+        run(crew, desk);
+    }
+    let child = pids(&crews[1], bosses[1])[0];
+    // an exit that was not told
+    desks[1].exit(child, CRASH)?;
+    crews.swap(0, 1);
+    let back = go_on(desks, &mut crews).expect_err("each is of another desk");
+    assert_eq!(back.fault, Fault::WrongDesk);
+    crews.swap(0, 1);
+    let back = go_on(back.node, &mut crews[..1]).expect_err("there are two desks");
+    assert_eq!(back.fault, Fault::BadDesks);
+    let (mut desks, history) = go_on(back.node, &mut crews)?;
+    assert!(history.count() > 4 && desks.iter().all(|desk| desk.event_count() == 0));
+    assert_eq!(run(&mut crews[0], &mut desks[0]), []);
+    let told = run(&mut crews[1], &mut desks[1]);
+    let again = pids(&crews[1], bosses[1])[0];
+    assert!(told.contains(&exits(child, 10, CRASH)) && told.contains(&starts(again, 10, bosses[1], true)));
+    assert_eq!(told.len(), 2);
+    // a node that was settled by calls of its own
+    let (desks, _) = go_on(Node::Settled(gather(desks)?.settle_unlisted()?), &mut crews)?;
+    assert_eq!((desks.len(), pids(&crews[1], bosses[1])), (2, vec![again]));
+    Ok(())
+}
+
+#[test]
+fn a_supervisor_is_spawned_on_the_desk_of_its_crew_alone() -> Result<(), Fault> {
+    let mut desks = open(2, Config::default())?;
+    let mut others = open(2, Config::default())?;
+    let settled = gather(open(1, Config::default())?)?.settle_unlisted()?;
+    let mut crew = Crew::new(&desks[1])?;
+    for desk in [&mut desks[0], &mut others[1]] {
+        assert_eq!(crew.spawn_supervisor(desk, 1, spec(), &[]), Err(Fault::WrongDesk));
+        assert_eq!(crew.go_on(desk, &settled.history()?), Err(Fault::WrongDesk));
+        assert_eq!(desk.event_count(), 0);
+    }
+    assert_eq!((crew.len(), crew.queued()), (0, 0));
+    Ok(())
+}
+
+#[test]
+fn types_go_to_other_threads() {
+    fn goes<T: std::fmt::Debug + Send + Sync + 'static>() {}
+    goes::<Crew>();
+    goes::<Job>();
+    goes::<Child>();
+}
+
+/// The structs and codes are those that the library says it has.
+#[test]
+fn structs_and_codes_are_the_librarys() {
+    let (mut codes, mut child) = (RawSupervisorCodes::default(), RawChild::default());
+    let (mut of_child, mut spec) = (RawChildSpec::default(), RawSupervisorSpec::default());
+    unsafe {
+        pt_about_supervisors(&mut codes);
+        pt_about_supervisor_spec(&mut spec);
+        pt_about_child_spec(&mut of_child);
+        pt_about_child(&mut child);
+    }
+    let pid = |first: u8| Pid { shard: first, slot: u32::from(first) + 1, version: u32::from(first) + 2 };
+    assert_eq!(codes, SUPERVISOR_CODES);
+    assert_eq!((spec.strategy, spec.timed, spec.has_parent), (1, true, true));
+    assert_eq!((spec.parent, spec.most, spec.span), (pid(4), 7, 8));
+    assert_eq!((of_child.tag, of_child.restart, of_child.shutdown, of_child.time), (1, 2, 3, 4));
+    assert_eq!((child.has_pid, child.wanted, child.pid), (true, true, pid(3)));
+    assert_eq!((child.restart, child.shutdown, child.time), (6, 7, 8));
+}

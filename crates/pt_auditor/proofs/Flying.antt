@@ -1,0 +1,227 @@
+-- In a merge of local journals whose lanes agree the letters on their way, each with its stamp, are what the lanes leave
+-- over, and each receipt is of the oldest letter of its lane.
+use Rattle.std.proofs.Common.{◌≡◌, ℕ, ◌≤◌, Bool, true, false, cond, ◌==◌, List, [], ◌∷◌, ◌++◌, map, filter, drop, refl, sym, ap, ◌∙◌, subst, append-nil, ⊎_elim, arith}
+use Rattle.std.specs.Prelude.{slice_get, ⊤}
+use Rattle.std.proofs.lemmas.Bool.{eq-eqb, eqb-true, both_ways}
+use Rattle.std.proofs.lemmas.List.Elements.{filter-append}
+use Rattle.pt_signal.specs.declared.pid.Pid.{Pid}
+use Rattle.pt_signal.specs.declared.letter.Letter.{Letter}
+use Rattle.pt_signal.specs.declared.signal.Signal.{Signal}
+use Rattle.pt_signal.specs.Process.{Sent, sent}
+use Rattle.pt_signal.proofs.Same.{same_pid_refl}
+use Rattle.pt_events.specs.declared.event.Event.{Event}
+use Rattle.pt_events.specs.declared.event.Event.TheVariants.{Born, Said, Came, Took, Flag, Left, Refused}
+use Rattle.pt_events.specs.declared.event.Stamped.{Stamped}
+use Rattle.pt_events.specs.History.{is_between, sent_by}
+use Rattle.pt_events.specs.Journal.{events, of_desk, letter, content, in_lane, IsHome, IsNext, letters, posts, got, got_of, gots, Agrees, LanesAgree, IsAfter, AllBefore, IsRising}
+use Rattle.pt_events.specs.Locality.{AllHome}
+use Rattle.pt_events.proofs.Homes.{AllFrom, from_home, sent_home}
+use Rattle.pt_events.proofs.Telling.{AllLocal, head_local, tail_local, all_home}
+use Rattle.pt_laws.proofs.lanes.Lanes.{AllUpTo, AllUpTo-append, AllAt-letters, Back, back}
+use Rattle.pt_auditor.specs.Lanes.{is_lane, lane, letters_flying, letters_landed, IsFirstInLane}
+use Rattle.pt_auditor.specs.Foreigners.{ComesInOrder}
+use Rattle.pt_auditor.proofs.Carried.{landed_lane}
+use Rattle.pt_auditor.proofs.Laid.{lane_is}
+
+-- one event more in the lanes ----------------------------------------------------------------
+
+-- the letters of the newest event in one lane
+abbrev new_posts : Stamped → List Stamped → ℕ → ℕ → List Letter
+new_posts s merged d e = lane d e (map (letter s.stamp) (sent_by [] (events merged) s.event))
+
+abbrev new_gots : Stamped → ℕ → ℕ → List Letter
+new_gots s d e = cond (s.desk == e) (got d s) []
+
+gots_step : (s : Stamped) (merged : List Stamped) (d e : ℕ) → gots (of_desk e (s ∷ merged)) d ≡ gots (of_desk e merged) d ++ new_gots s d e
+gots_step s merged d e = go (s.desk == e) refl
+  where
+    go : (b : Bool) → (s.desk == e) ≡ b → gots (of_desk e (s ∷ merged)) d ≡ gots (of_desk e merged) d ++ new_gots s d e
+    go true f = rw (f, gots) refl
+    go false f = rw (f, gots) (sym (append-nil _))
+
+lane_letters : (d e n : ℕ) (ls : List Sent) → AllFrom d ls → filter (λ l. l.to.shard == e) (map (letter n) ls) ≡ lane d e (map (letter n) ls)
+lane_letters d e n [] h = refl
+lane_letters d e n (l ∷ ls) h = rw (eq-eqb l.from.shard d h.0, lane_letters d e n ls h.1) refl
+
+no_letters : (d e c n : ℕ) (ls : List Sent) → (c == d) ≡ false → AllFrom c ls → lane d e (map (letter n) ls) ≡ []
+no_letters d e c n [] f h = refl
+no_letters d e c n (l ∷ ls) f h = let k : (l.from.shard == d) ≡ false = rw h.0 f in rw (k, no_letters d e c n ls f h.1) refl
+
+posts_step : (s : Stamped) (merged : List Stamped) (d e : ℕ) → IsHome s.desk s.event → AllHome merged
+    → posts [] (of_desk d (s ∷ merged)) e ≡ posts [] (of_desk d merged) e ++ new_posts s merged d e
+posts_step s merged d e i k = go (s.desk == d) refl
+  where
+    go : (b : Bool) → (s.desk == d) ≡ b → posts [] (of_desk d (s ∷ merged)) e ≡ posts [] (of_desk d merged) e ++ new_posts s merged d e
+    go true f =
+        let same : s.desk ≡ d = eqb-true _ _ f in
+        let home : IsHome d s.event = subst (λ d. IsHome d s.event) same i in
+        subst (λ c. posts [] (cond c (s ∷ of_desk d merged) (of_desk d merged)) e ≡ posts [] (of_desk d merged) e ++ new_posts s merged d e) (sym f)
+        (filter-append (λ l. l.to.shard == e) (letters [] (of_desk d merged)) (map (letter s.stamp) (sent_by [] (events (of_desk d merged)) s.event))
+        ∙ ap (λ z. posts [] (of_desk d merged) e ++ z)
+        (ap (λ z. filter (λ l. l.to.shard == e) (map (letter s.stamp) z)) (sent_home [] d merged s.event home k)
+        ∙ lane_letters d e s.stamp (sent_by [] (events merged) s.event) (from_home [] (events merged) d s.event home)))
+    go false f =
+        subst (λ c. posts [] (cond c (s ∷ of_desk d merged) (of_desk d merged)) e ≡ posts [] (of_desk d merged) e ++ new_posts s merged d e) (sym f)
+        (sym (append-nil _)
+        ∙ ap (λ z. posts [] (of_desk d merged) e ++ z) (sym (no_letters d e s.desk s.stamp (sent_by [] (events merged) s.event) f (from_home [] (events merged) s.desk s.event i))))
+
+before_le : (s t : Stamped) → IsAfter s t → t.stamp ≤ s.stamp
+before_le s t h = ⊎_elim (λ w. omega arith) (λ w. omega (arith, w.0)) h
+
+-- stamps of receipts are no later than the newest event
+up_to_of : (n d : ℕ) (t : Stamped) → t.stamp ≤ n → (ev : Event) → AllUpTo n (got_of d t.stamp ev)
+up_to_of n d t h (Came a c x) = go (a.shard == d)
+  where
+    go : (b : Bool) → AllUpTo n (cond b (letter t.stamp (sent a c x) ∷ []) [])
+    go true = (h, tt)
+    go false = tt
+up_to_of n d t h _ = tt
+
+gots_up_to : (s : Stamped) (merged : List Stamped) (d e : ℕ) → AllBefore s merged → AllUpTo s.stamp (gots (of_desk e merged) d)
+gots_up_to s [] d e h = tt
+gots_up_to s (t ∷ merged) d e h = go (t.desk == e) (gots_up_to s merged d e h.1)
+  where
+    go : (b : Bool) → AllUpTo s.stamp (gots (of_desk e merged) d) → AllUpTo s.stamp (gots (cond b (t ∷ of_desk e merged) (of_desk e merged)) d)
+    go true ih = AllUpTo-append s.stamp _ _ ih (up_to_of s.stamp d t (before_le s t h.0) t.event)
+    go false ih = ih
+
+new_up_to : (s : Stamped) (d e : ℕ) → AllUpTo s.stamp (new_gots s d e)
+new_up_to s d e = go (s.desk == e)
+  where
+    go : (b : Bool) → AllUpTo s.stamp (cond b (got d s) [])
+    go true = up_to_of s.stamp d s (omega arith) s.event
+    go false = tt
+
+-- letters that land -----------------------------------------------------------------------
+
+none_leads : (lead : List Letter) → map content lead ≡ [] → lead ≡ []
+none_leads [] h = refl
+none_leads (l ∷ lead) h = absurd (cc)
+
+one_leads : (x : Sent) (lead : List Letter) → map content lead ≡ x ∷ [] → (l : Letter) × (lead ≡ l ∷ []) × (content l ≡ x)
+one_leads x [] h = absurd (cc)
+one_leads x (l ∷ []) h = let k : content l ≡ x = cc in (l, refl, k)
+one_leads x (l ∷ m ∷ lead) h = absurd (cc)
+
+-- the letters that lead in a lane are those of which a receipt is the event
+abbrev Lead : ℕ → ℕ → Event → (ℕ → ℕ → List Letter) → Type 0
+Lead home n ev lead = (d e : ℕ) → map content (lead d e) ≡ map content (cond (home == e) (got_of d n ev) [])
+
+module _ (home n : ℕ) (fl : List Letter) (lead rest : ℕ → ℕ → List Letter) (are : (d e : ℕ) → lane d e fl ≡ lead d e ++ rest d e) where
+  plain : (d e : ℕ) → map content (lead d e) ≡ map content (cond (home == e) [] []) → lane d e fl ≡ rest d e
+  plain d e same = are d e ∙ ap (λ z. z ++ rest d e) (none_leads (lead d e) (same ∙ none (home == e)))
+    where
+      none : (b : Bool) → map content (cond b [] []) ≡ []
+      none true = refl
+      none false = refl
+
+  first_lands : (a c : Pid) (x : Signal) → c.shard ≡ home → Lead home n (Came a c x) lead → IsFirstInLane a c fl
+  first_lands a c x at same =
+      let h : (home == c.shard) ≡ true = eq-eqb home c.shard (sym at) in
+      let k : (a.shard == a.shard) ≡ true = eq-eqb a.shard a.shard refl in
+      let one = one_leads (sent a c x) (lead a.shard c.shard) (same a.shard c.shard ∙ rw (h, k) refl) in
+      record {
+        first = one.0;
+        there = ap (λ z. slice_get z 0) (are a.shard c.shard ∙ ap (λ z. z ++ rest a.shard c.shard) one.1);
+        between = ap (is_between a c) one.2 ∙ rw (same_pid_refl a, same_pid_refl c) refl;
+      }
+
+  lands : (ev : Event) → IsHome home ev → Lead home n ev lead → (d e : ℕ) → lane d e (letters_landed ev fl) ≡ rest d e
+  lands (Came a c x) at same d e =
+      let f = first_lands a c x at same in
+      landed_lane a c fl f.first f.there f.between d e ∙ go (is_lane a.shard c.shard (d, e)) refl
+    where
+      go : (b : Bool) → is_lane a.shard c.shard (d, e) ≡ b → cond (is_lane a.shard c.shard (d, e)) (drop 1 (lane a.shard c.shard fl)) (lane d e fl) ≡ rest d e
+      go true w =
+          let p = lane_is a.shard c.shard d e w in
+          let h : (home == e) ≡ true = eq-eqb home e (sym at ∙ p.1) in
+          let k : (a.shard == d) ≡ true = eq-eqb a.shard d p.0 in
+          let one = one_leads (sent a c x) (lead d e) (same d e ∙ rw (h, k) refl) in
+          rw w (ap (λ z. drop 1 (lane z c.shard fl)) p.0 ∙ ap (λ z. drop 1 (lane d z fl)) p.1 ∙ ap (drop 1) (are d e) ∙ ap (λ z. drop 1 (z ++ rest d e)) one.1)
+      go false w =
+          rw w (are d e ∙ ap (λ z. z ++ rest d e) (none_leads (lead d e) (same d e ∙ none (home == e) refl (a.shard == d) refl)))
+        where
+          none : (p : Bool) → (home == e) ≡ p → (q : Bool) → (a.shard == d) ≡ q → map content (cond (home == e) (cond (a.shard == d) (letter n (sent a c x) ∷ []) []) []) ≡ []
+          none false g q k = rw g refl
+          none true g false k = rw (g, k) refl
+          none true g true k =
+              let there : (c.shard == e) ≡ true = eq-eqb c.shard e (at ∙ eqb-true home e g) in
+              absurd (both_ways (is_lane a.shard c.shard (d, e)) w (rw (k, there) refl))
+  lands (Born p parent link) at same d e = plain d e (same d e)
+  lands (Said a c x) at same d e = plain d e (same d e)
+  lands (Took p k i) at same d e = plain d e (same d e)
+  lands (Flag p on) at same d e = plain d e (same d e)
+  lands (Left p r) at same d e = plain d e (same d e)
+  lands (Refused a c) at same d e = plain d e (same d e)
+
+  order_of : (ev : Event) (past : List Stamped) → letters_flying past ≡ fl → IsHome home ev → Lead home n ev lead → ComesInOrder past ev
+  order_of (Came a c x) past is at same = subst (IsFirstInLane a c) (sym is) (first_lands a c x at same)
+  order_of (Born p parent link) past is at same = tt
+  order_of (Said a c x) past is at same = tt
+  order_of (Took p k i) past is at same = tt
+  order_of (Flag p on) past is at same = tt
+  order_of (Left p r) past is at same = tt
+  order_of (Refused a c) past is at same = tt
+
+-- the theorem --------------------------------------------------------------------------------
+
+-- each receipt is of the oldest letter of its lane
+abbrev pub AllInOrder : List Stamped → Type 0
+AllInOrder [] = ⊤
+AllInOrder (s ∷ past) = ComesInOrder past s.event × AllInOrder past
+
+-- before each event the lanes agree, and leave over what is on its way
+pub record IsAgreedAt (merged : List Stamped) : Type 0 where
+  pub over : ℕ → ℕ → List Letter
+  pub agree : LanesAgree [] (λ d. of_desk d merged) over
+  pub flies : (d e : ℕ) → lane d e (letters_flying merged) ≡ over d e
+
+abbrev pub AllAgreed : List Stamped → Type 0
+AllAgreed [] = ⊤
+AllAgreed (s ∷ past) = IsAgreedAt past × AllAgreed past
+
+pub record IsLaidOut (merged : List Stamped) (over : ℕ → ℕ → List Letter) : Type 0 where
+  pub flies : (d e : ℕ) → lane d e (letters_flying merged) ≡ over d e
+  pub order : AllInOrder merged
+  pub agreed : AllAgreed merged
+
+module _ (low top : ℕ) where
+  module _ (s : Stamped) (merged : List Stamped) (over : ℕ → ℕ → List Letter) (r : IsRising (s ∷ merged)) (h : AllLocal [] low top (s ∷ merged)) (a : LanesAgree [] (λ d. of_desk d (s ∷ merged)) over) where
+    tail : AllLocal [] low top merged
+    tail = tail_local [] low top s merged h
+
+    next : IsNext [] low top s.desk (of_desk s.desk merged) s
+    next = head_local [] low top s merged h
+
+    backs : (d e : ℕ) → Back (posts [] (of_desk d merged) e) (new_posts s merged d e) (gots (of_desk e merged) d) (new_gots s d e) (over d e)
+    backs d e =
+        back s.stamp _ _ _ _ _ (AllAt-letters s.stamp (λ l. in_lane d e (content l)) (sent_by [] (events merged) s.event)) (gots_up_to s merged d e r.0) (new_up_to s d e)
+        (subst (λ z. Agrees z (gots (of_desk e merged) d ++ new_gots s d e) (over d e)) (posts_step s merged d e next.home (all_home [] low top merged tail))
+        (subst (λ z. Agrees (posts [] (of_desk d (s ∷ merged)) e) z (over d e)) (gots_step s merged d e) (a d e)))
+
+    before : ℕ → ℕ → List Letter
+    before d e = (backs d e).lead ++ (backs d e).rest
+
+    agreed : LanesAgree [] (λ d. of_desk d merged) before
+    unfolding before
+    agreed d e = (backs d e).agrees
+
+    more : IsLaidOut merged before → IsLaidOut (s ∷ merged) over
+    unfolding before
+    more k = record {
+      flies = λ d e.
+          filter-append (λ l. in_lane d e (content l)) (letters_landed s.event (letters_flying merged)) (map (letter s.stamp) (sent_by [] (events merged) s.event))
+          ∙ ap (λ z. z ++ new_posts s merged d e)
+          (lands s.desk s.stamp (letters_flying merged) (λ d e. (backs d e).lead) (λ d e. (backs d e).rest) k.flies s.event next.home (λ d e. (backs d e).same) d e)
+          ∙ sym (backs d e).left;
+      order = (
+        order_of s.desk s.stamp (letters_flying merged) (λ d e. (backs d e).lead) (λ d e. (backs d e).rest) k.flies s.event merged refl next.home (λ d e. (backs d e).same),
+        k.order,
+      );
+      agreed = (record { over = before; agree = agreed; flies = k.flies }, k.agreed);
+    }
+
+  pub laid_out : (merged : List Stamped) (over : ℕ → ℕ → List Letter) → IsRising merged → AllLocal [] low top merged → LanesAgree [] (λ d. of_desk d merged) over → IsLaidOut merged over
+  laid_out [] over r h a = record { flies = λ d e. a d e; order = tt; agreed = tt }
+  laid_out (s ∷ merged) over r h a =
+      more s merged over r h a (laid_out merged (before s merged over r h a) r.1 (tail s merged over r h a) (agreed s merged over r h a))

@@ -1,0 +1,5 @@
+pub mod Crossing
+pub mod GoingOn
+pub mod Owning
+pub mod Crewing
+pub mod Through

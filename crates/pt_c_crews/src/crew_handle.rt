@@ -1,0 +1,113 @@
+//! The handle of a crew.
+
+ghost use Rattle.std.specs.Prelude.{◌≡◌, Option, Some, None, IfOk, is_some};
+ghost use Rattle.std.specs.Coded.{coded_option};
+ghost use Rattle.std.specs.Option.{option_map};
+ghost use Rattle.pt_c_crews.specs.contracts.held.HeldCrew.{the_row as row};
+ghost use Rattle.pt_places.specs.Places.{value_behind, full};
+ghost use Rattle.pt_places.specs.Held.{held_on_heap};
+
+use crate::held::HeldCrew;
+use pt_places::loose::{Loose, Opaque};
+use pt_scheduler::Scheduler;
+use std::alloc::{AllocError, Global};
+use std::marker::Model;
+use std::mem;
+
+/// The place of a crew on the heap, or none.
+///
+/// In C it is a pointer, null if there is none. The ghost field is the value at the place.
+#[repr(C)]
+#[derive(Drop)]
+pub struct CrewHandle {
+    at: *mut Opaque,
+    pub ghost state: { Option row.Denot } by { coded_option row.coded },
+}
+
+impl Model for CrewHandle {
+    ghost also_owns = { λ h. held_on_heap row h.state h.at };
+}
+
+// What it has is `Send`, and any thread may give a block of the C library's heap back.
+unsafe impl Send for CrewHandle {}
+
+impl CrewHandle {
+    pub(crate) fn of(loose: Loose<HeldCrew, Global>) -> CrewHandle
+        ensures { result.state ≡ Some loose.value }
+    {
+        let Loose { at, alloc: _ } = loose;
+        let at = at as *mut Opaque;
+        CrewHandle { at }
+    }
+
+    pub(crate) fn into_loose(self, alloc: Global) -> Option<Loose<HeldCrew, Global>>
+        ensures { option_map (λ l. l.value) result ≡ self.state }
+    {
+        let CrewHandle { at } = self;
+        if at.is_null() {
+            None
+        } else {
+            let at = at as *mut HeldCrew;
+            Some(Loose { at, alloc })
+        }
+    }
+
+    pub(crate) fn none() -> CrewHandle
+        ensures { result.state ≡ None }
+    {
+        CrewHandle {
+            at: std::ptr::null_mut(),
+        }
+    }
+}
+
+/// Takes the place out of the handle, for one call.
+pub fn claim(alloc: Global, h: &mut CrewHandle) -> Option<Box<HeldCrew, Global>>
+    ensures value { option_map (λ b. b.value) result ≡ h.old.state }
+    ensures handle { h.new.state ≡ None }
+{
+    match mem::replace(h, CrewHandle::none()).into_loose(alloc) {
+        Some(loose) => Some(loose.into_box()),
+        None => None,
+    }
+}
+
+/// The handle with this place.
+pub fn hold(place: Box<HeldCrew, Global>) -> CrewHandle
+    ensures { result.state ≡ Some place.value }
+{
+    CrewHandle::of(Loose::of(place))
+}
+
+/// Whether the handle has a crew.
+pub fn is_full(alloc: Global, h: &mut CrewHandle) -> bool
+    ensures same { h.new.state ≡ h.old.state }
+    ensures full { result ≡ is_some (value_behind h.old.state) }
+{
+    let Some(place) = claim(alloc, h) else {
+        return false;
+    };
+    let full = place.crew.is_some();
+    *h = hold(place);
+    full
+}
+
+/// An empty place.
+pub fn spare(alloc: Global) -> Result<Box<HeldCrew, Global>, AllocError>
+    ensures { IfOk result (λ b. b.value ≡ None) }
+{
+    match Box::new(alloc, HeldCrew { crew: None }) {
+        Ok(place) => Ok(place),
+        Err(_) => Err(AllocError),
+    }
+}
+
+/// The handle with this place, and with the value in it.
+pub fn filled(place: Box<HeldCrew, Global>, value: Scheduler) -> CrewHandle
+    ensures { result.state ≡ full value }
+{
+    let mut place = place;
+    let before = mem::replace(&mut place.crew, Some(value));
+    drop(HeldCrew { crew: before });
+    hold(place)
+}

@@ -1,8 +1,0 @@
--- `Hands::begin_again`: its clause `attends`.
-use Rattle.pt_hands.proofs.Noting.{again}
-use Rattle.pt_hands.proofs.hands.Hands.begin_again.Goals as goal
-
-pub returns-clause-attends : goal.returns-clause-attends
-returns-clause-attends c =
-    let b = c.begin_over.ensures in
-    again c.args.self.now c.begin_over.new.self c.begin_over.result b.crew b.read b.roles b.rest

@@ -1,6 +1,0 @@
--- `Hands::keep_exits`: what holds in its loop over `place`.
-use Rattle.pt_hands.proofs.Keeping.{Through}
-use Rattle.pt_hands.proofs.hands.Hands.keep_exits.Given as goal
-
-abbrev pub invariant-loop-place : goal.invariant-loop-place
-invariant-loop-place l = Through l.history l.place l.initial.self l.self

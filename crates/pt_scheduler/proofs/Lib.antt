@@ -1,0 +1,12 @@
+-- The lemmas that more than one function of the crate uses.
+pub mod Exits
+pub mod Begins
+pub mod Served
+pub mod Noting
+pub mod Coming
+pub mod Pulls
+pub mod Filling
+pub mod Upheld
+pub mod Becoming
+pub mod Idle
+pub mod Keeping

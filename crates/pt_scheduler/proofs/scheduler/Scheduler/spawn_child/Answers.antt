@@ -1,0 +1,42 @@
+-- `Scheduler::spawn_child`: its clauses `attends` and `upholds`.
+use Rattle.std.proofs.Common.{Some, Ok, Err, ap, refl, subst, sym}
+use Rattle.pt_shard.specs.Calls.{birth_link}
+use Rattle.pt_crew.proofs.Newborn.{newborn_is}
+use Rattle.pt_supervisor.specs.Keeping.{SupervisorBegins}
+use Rattle.pt_scheduler.specs.declared.member.Member.{Member}
+use Rattle.pt_scheduler.specs.Members.{boss_part}
+use Rattle.pt_scheduler.proofs.Exits.{no_exit_born}
+use Rattle.pt_scheduler.proofs.Noting.{attends_same, one_entered}
+use Rattle.pt_scheduler.proofs.Upheld.{child_upholds}
+use Rattle.pt_scheduler.proofs.scheduler.Scheduler.spawn_child.Goals as goal
+
+pub returns-clause-attends : goal.returns-clause-attends
+returns-clause-attends c = λ a.
+    let d = c.args.desk.now.shard in
+    let e = c.enter_child.new.desk.shard in
+    let n = c.enter_child.ensures in
+    let k = a.crew in
+    let p = c.in_ok-pid.pid in
+    let does = c.in_ok-pid.ensures.does in
+    one_entered c.args.self.now (record c.args.self.now { crew = c.enter_child.new.self; desk = Some c.number-own.result }) d e p c.new.result c.args.first (ap (λ (b : Member). b.notes.handed) c.new.ensures) (ap (λ (b : Member). b.notes.ended) c.new.ensures) a n.goes_on.shard (record { knows = n.knows k.knows; room = n.room k.room; timers = n.timers k.timers }) does.4 refl does.1
+    (no_exit_born (Some c.args.parent) (birth_link c.args.linked d) p d e does.0.1 c.journal-lawful.ensures.local)
+
+pub returns-in_err-pid-clause-attends : goal.returns-in_err-pid-clause-attends
+returns-in_err-pid-clause-attends c = λ a.
+    let n = c.enter_child.ensures in
+    let k = a.crew in
+    attends_same c.args.self.now (record c.args.self.now { crew = c.enter_child.new.self }) c.args.desk.now.shard c.enter_child.new.desk.shard a n.goes_on.shard (record { knows = n.knows k.knows; room = n.room k.room; timers = n.timers k.timers }) c.in_err-pid.ensures.does.1 refl
+
+pub returns-clause-upholds : goal.returns-clause-upholds
+returns-clause-upholds c = λ past no u.
+    let d = c.args.desk.now.shard in
+    let e = c.enter_child.new.desk.shard in
+    let does = c.in_ok-pid.ensures.does in
+    child_upholds past c.args.parent c.args.linked c.new.result c.args.first c.args.self.now (record c.args.self.now { crew = c.enter_child.new.self; desk = Some c.number-own.result }) d e (Ok c.in_ok-pid.pid) does
+    (newborn_is (Some c.args.parent) (birth_link c.args.linked d) c.in_ok-pid.pid d e does.0.1 c.journal-lawful.ensures.local).1
+    (subst (λ (b : Member). SupervisorBegins (boss_part b) c.args.first) (sym c.new.ensures) tt) no u
+
+pub returns-in_err-pid-clause-upholds : goal.returns-in_err-pid-clause-upholds
+returns-in_err-pid-clause-upholds c = λ past no u.
+    child_upholds past c.args.parent c.args.linked c.new.result c.args.first c.args.self.now (record c.args.self.now { crew = c.enter_child.new.self }) c.args.desk.now.shard c.enter_child.new.desk.shard (Err _) c.in_err-pid.ensures.does
+    tt (subst (λ (b : Member). SupervisorBegins (boss_part b) c.args.first) (sym c.new.ensures) tt) no u

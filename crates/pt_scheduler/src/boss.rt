@@ -1,0 +1,126 @@
+//! The supervisor that a process is, on the heap.
+
+ghost use Rattle.std.specs.Prelude.{◌≡◌, IfOk, position};
+ghost use Rattle.pt_crew.specs.Births.{bore, born, kept_roles, time_told};
+ghost use Rattle.pt_crew.specs.Visiting.{takes};
+ghost use Rattle.pt_desk.specs.DeskState.{GoesOn};
+ghost use Rattle.pt_signal.specs.Values.{is_pid};
+ghost use Rattle.pt_supervisor.specs.Ending.{child_end_heard};
+ghost use Rattle.pt_supervisor.specs.Hearing.{program_of, standing};
+ghost use Rattle.pt_supervisor.specs.Keeping.{BearsFrom, Tends};
+ghost use Rattle.pt_scheduler.specs.Members.{BossHandles};
+ghost use Rattle.pt_scheduler.specs.Planning.{again_at, posts_heard, posts_of, starts_post};
+
+use crate::member::Member;
+use crate::plan::{Plan, mark};
+use pt_crew::{Births, Next};
+use pt_supervisor::{Child, Supervisor};
+use pt_workers::{Desk, Item, Pid};
+use std::alloc::{AllocError, Global};
+use std::boxed::Box;
+use std::marker::Model;
+
+/// The supervisor that a process is. It is on the heap, so that a process that is none stays small. It is public since
+/// the definitions name it.
+#[derive(Drop)]
+pub struct Boss {
+    supervisor: Box<Supervisor<Plan>, Global>,
+}
+
+impl Model for Boss {
+    ghost use Rattle.pt_supervisor.specs.declared.supervisor.Supervisor.{Supervisor};
+    ghost use Rattle.pt_scheduler.specs.declared.plan.Plan.{Plan};
+
+    ghost Value = { Supervisor Plan };
+
+    ghost view = { λ b. b.supervisor.value };
+}
+
+impl Boss {
+    /// Puts a supervisor on the heap.
+    pub(crate) fn new(alloc: Global, supervisor: Supervisor<Plan>) -> Result<Boss, AllocError>
+        ensures { IfOk result (λ b. b ≡ supervisor) }
+    {
+        match Box::new(alloc, supervisor) {
+            Ok(supervisor) => Ok(Boss { supervisor }),
+            Err(_) => Err(AllocError),
+        }
+    }
+
+    /// Its children.
+    pub(crate) fn children(&self) -> &[Child]
+        ensures { result.now ≡ (standing self.now).children }
+    {
+        self.supervisor.children()
+    }
+
+    /// Handles an item, or none. It notes before which child has exited.
+    pub(crate) fn handle(
+        &mut self,
+        desk: &mut Desk,
+        births: &mut Births<Member>,
+        me: Pid,
+        item: Option<Item>,
+    ) -> Next
+        ensures handles { BossHandles (time_told births.old) self.old desk.old.shard me item result self.new desk.new.shard
+            (bore (born births.old) (born births.new)) }
+        ensures tends { Tends me item (standing self.old) desk.old.shard result (standing self.new) desk.new.shard }
+        ensures bears { BearsFrom starts_post me (born births.old) (born births.new) }
+        ensures takes { takes desk.new.shard.journal ≡ takes desk.old.shard.journal }
+        ensures kept { kept_roles births.new ≡ kept_roles births.old }
+        ensures goes_on { GoesOn desk.old desk.new }
+    {
+        run(&mut self.supervisor, desk, births, me, item)
+    }
+}
+
+/// Handles an item, or none, once it has noted which child has exited.
+fn run(
+    boss: &mut Supervisor<Plan>,
+    desk: &mut Desk,
+    births: &mut Births<Member>,
+    me: Pid,
+    item: Option<Item>,
+) -> Next
+    ensures handles { BossHandles (time_told births.old) boss.old desk.old.shard me item result boss.new desk.new.shard
+        (bore (born births.old) (born births.new)) }
+    ensures tends { Tends me item (standing boss.old) desk.old.shard result (standing boss.new) desk.new.shard }
+    ensures bears { BearsFrom starts_post me (born births.old) (born births.new) }
+    ensures takes { takes desk.new.shard.journal ≡ takes desk.old.shard.journal }
+    ensures kept { kept_roles births.new ≡ kept_roles births.old }
+    ensures goes_on { GoesOn desk.old desk.new }
+{
+    heed(boss, item);
+    boss.handle(desk, births, me, item)
+}
+
+/// The place of a child by its pid.
+fn place_of(children: &[Child], pid: Pid) -> Option<usize>
+    ensures { result ≡ position (λ c. is_pid c.pid pid) children.now }
+{
+    children.iter().position(|child| child.is_of(pid))
+}
+
+/// Notes that a child of a supervisor has exited, if the process is one.
+fn heed_exit(boss: &mut Supervisor<Plan>, from: Pid)
+    ensures standing { standing boss.new ≡ standing boss.old }
+    ensures posts { posts_of (program_of boss.new)
+        ≡ again_at (position (λ c. is_pid c.pid from) (standing boss.old).children) (posts_of (program_of boss.old)) }
+{
+    if let Some(place) = place_of(boss.children(), from) {
+        mark(boss, place);
+    }
+}
+
+/// Notes which child of a supervisor has exited, if it hears so of one by this item, or without an item.
+fn heed(boss: &mut Supervisor<Plan>, item: Option<Item>)
+    ensures standing { standing boss.new ≡ standing boss.old }
+    ensures posts { posts_of (program_of boss.new)
+        ≡ posts_heard (child_end_heard item (standing boss.old).asked) (standing boss.old).children
+        (posts_of (program_of boss.old)) }
+{
+    match boss.hears(item) {
+        Some(from) => heed_exit(boss, from),
+        None => {}
+    }
+}

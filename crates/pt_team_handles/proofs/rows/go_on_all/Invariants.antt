@@ -1,7 +1,0 @@
--- `go_on_all`: what holds in its loop over `k`.
-use Rattle.std.proofs.Common.{map, reverse}
-use Rattle.pt_team_handles.proofs.AlongRow.{GoneOn}
-use Rattle.pt_team_handles.proofs.rows.go_on_all.Given as goal
-
-abbrev pub invariant-loop-k : goal.invariant-loop-k
-invariant-loop-k l = GoneOn (reverse l.history) (map (λ h. h.state) l.fn.teams) (map (λ h. h.state) l.teams) l.k

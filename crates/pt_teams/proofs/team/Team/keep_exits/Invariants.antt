@@ -1,6 +1,0 @@
--- `Team::keep_exits`: what holds in its loop over `place`.
-use Rattle.pt_teams.proofs.Keeping.{Through}
-use Rattle.pt_teams.proofs.team.Team.keep_exits.Given as goal
-
-abbrev pub invariant-loop-place : goal.invariant-loop-place
-invariant-loop-place l = Through l.history l.place l.initial.self l.self

@@ -1,5 +1,0 @@
--- `Team::next_time`: its contract.
-use Rattle.pt_teams.proofs.team.Team.next_time.Goals as goal
-
-pub returns : goal.returns
-returns c = λ d a. c.next_time.ensures d a.crew
