@@ -25,7 +25,8 @@ applies all edits, those too that it does not try.
 Edits of different functions go into one copy of their crate, and one check proves the changed functions and what they
 call. In the same check each function that is neither changed nor calls a changed one has to be proved, and at least one
 such function is asked for, so a broken set-up refuses nothing. An edit for which a batch gives no verdict goes into a
-later batch, at last alone. If a refusal rests on the words of its clause (deciding.py), then a twin of its function is
+later batch, at last alone. If a hand-written answer of another clause fails there, the prover leaves goals untried. So it
+is checked once more without that answer, and then counts if values break its goal or the tactics do not prove it. If a refusal rests on the words of its clause (deciding.py), then a twin of its function is
 tried too, and the refusal does not count if the twin fails at a goal of the same clause.
 
 A verdict is kept in verdicts.txt beside the checksum of all that it was made from. A run tries the edits whose verdict is
@@ -121,14 +122,19 @@ def sources_of(crate: str) -> dict[str, str]:
     return {str(it.relative_to(folder)): it.read_text() for it in sorted((folder / "src").rglob("*.rt"))}
 
 
-def proofs_of(crate: str) -> dict[str, str]:
-    """What is written of the proof of each function of a crate, by the function's path."""
-    folder = ROOT / "crates" / crate / "proofs"
+def answers_of(crate: str) -> dict[str, str]:
+    """The files of a crate that answer the goals of its functions, by their paths in it."""
+    folder = ROOT / "crates" / crate
+    files = [it for name in ("Answers.antt", "Proof.antt") for it in sorted((folder / "proofs").rglob(name))]
+    return {str(it.relative_to(folder)): it.read_text() for it in files}
+
+
+def proofs_of(answers: dict[str, str]) -> dict[str, str]:
+    """What is written of the proof of each function, by the function's path."""
     found: dict[str, str] = {}
-    for name in ("Answers.antt", "Proof.antt"):
-        for file in sorted(folder.rglob(name)):
-            read = deciding.proofs_in(str(file.parent.relative_to(folder)).replace("/", "::"), file.read_text())
-            found.update({path: found.get(path, "") + text for path, text in read.items()})
+    for file, text in answers.items():
+        read = deciding.proofs_in(deciding.function_at(file), text)
+        found.update({path: found.get(path, "") + each for path, each in read.items()})
     return found
 
 
@@ -157,7 +163,8 @@ class Trials:
     def __init__(self, kit: Kit, crate: str, edits: list[Edit], options: Options):
         self.kit, self.crate, self.edits, self.options = kit, crate, edits, options
         self.texts = sources_of(crate)
-        self.proofs = proofs_of(crate)
+        self.answers = answers_of(crate)
+        self.proofs = proofs_of(self.answers)
         self.definitions = definitions_of([*kit.below(crate), crate])
         self.found: dict[str, Finding] = {}
         self.checks = 0
@@ -257,9 +264,17 @@ class Trials:
         elif not changed:
             self.found[edit.label] = Finding("bad", "", "it changes no function: name the one that is to refuse it by a line 'fn: PATH'")
         elif said.is_sound(changed):
-            self.found[edit.label] = deciding.found_in(edit, said, self.proofs, True, self.asks(edit))
+            self.found[edit.label] = self.looked_behind(edit, deciding.found_in(edit, said, self.proofs, True, self.asks(edit)))
         else:
-            self.found[edit.label] = Finding("bad", "", "a function is refused that the edit does not reach: " + deciding.first_error(said.text))
+            self.found[edit.label] = Finding("bad", "", "a function is refused that the edit does not reach: " + said.not_sound(changed))
+
+    def looked_behind(self, edit: Edit, found: Finding) -> Finding:
+        """A finding, after a look at the goals that the prover does not try once a hand-written answer of others fails."""
+        answers = deciding.without_failed(self.answers, edit, found)
+        if found.verdict not in ("other", "name") or edit.neutral or not answers:
+            return found
+        said = self.check({**(edit.apply(self.texts) or self.texts), **answers}, self.asked_for(set(edit.functions)))
+        return deciding.found_behind(edit, found, said, self.proofs, self.asks(edit))
 
     def check(self, texts: dict[str, str], only: list[str]) -> Said:
         """Checks a copy of the crate with these source files, or of it the functions `only` and what they call."""
@@ -369,7 +384,7 @@ def twins_of(crate: str, edits: list[Edit]) -> list[Edit]:
 def by_hand(crate: str, texts: dict[str, str]) -> list[str]:
     """The functions of a crate that have a proof by hand."""
     paths = [it.path for file, text in texts.items() for it in deciding.functions_of(text, deciding.module_of(file))]
-    proved = proofs_of(crate)
+    proved = proofs_of(answers_of(crate))
     return [it for it in paths if paths.count(it) == 1 and any(deciding.same(name, it) for name in proved)]
 
 

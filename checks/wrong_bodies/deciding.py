@@ -161,9 +161,10 @@ def clause_in(text: str) -> Clause | None:
 def kind_of(goal: str) -> tuple[str, str]:
     """What a goal is of, as a place, and the label of its clause."""
     base, _, label = goal.partition("-clause-")
-    loop = re.match(r"loop-(\w+?)-(preserved|init|smaller)", base)
+    loop = re.match(r"loop-(?:(\w+?)-)?(preserved|init|smaller)", base)
     if loop:
-        return f"loop {loop[1]}", label
+        # (the invariant of a `while` has no name)
+        return f"loop {loop[1]}" if loop[1] else "loop", label
     if base.startswith("returns"):
         return "returns", label
     if base.startswith("invariant_of"):
@@ -350,6 +351,33 @@ def answers_with(text: str, helper: str) -> list[str]:
     return [it for it in answers_in(text) if it in reached]
 
 
+def without_answers(text: str, goals: set[str]) -> str:
+    """A proof file without its answers of these goals, so that the tactics try them."""
+    kept: list[str] = []
+    is_dropped = False
+    for line in text.split("\n"):
+        begins = re.match(r"(?:pub )?([^\s:]+) *:", line)
+        if begins:
+            is_dropped = begins[1] in goals
+        if not is_dropped:
+            kept.append(line)
+    return "\n".join(kept)
+
+
+def function_at(file: str) -> str:
+    """The path of the function whose goals this file of a crate answers."""
+    return "::".join(file.split("/")[1:-1])
+
+
+def without_failed(answers: dict[str, str], edit: Edit, found: Finding) -> dict[str, str]:
+    """The files that answer goals of a changed function, without the answers of those that were refused. None are in it
+    that answer none of these."""
+    failed = {it for it in found.goals + found.names if it}
+    own = {file: text for file, text in answers.items() if any(same(function_at(file), it) for it in edit.functions)}
+    cut = {file: without_answers(text, failed) for file, text in own.items()}
+    return {file: text for file, text in cut.items() if text != own[file]}
+
+
 def answered_by_hand(text: str, clause: Clause) -> bool:
     """Whether a proof file answers a goal of this clause by more than one tactic."""
     return any(is_of(name, clause) and not TACTIC.match(body) for name, body in answers_in(text).items())
@@ -394,12 +422,20 @@ class Said:
                     waits.append(it)
         return False
 
+    def apart(self, changed: set[str]) -> dict[str, str]:
+        """The verdicts of the functions that are neither changed nor call a changed one."""
+        full = {name for name in self.verdicts if any(same(name, it) for it in changed)}
+        return {name: it for name, it in self.verdicts.items() if not within(name, full) and not self.is_above(name, full)}
+
     def is_sound(self, changed: set[str]) -> bool:
         """Whether each function that is neither changed nor calls a changed one is proved, and there is one."""
-        full = {name for name in self.verdicts if any(same(name, it) for it in changed)}
-        others = {name: it for name, it in self.verdicts.items() if not within(name, full)}
-        apart = [name for name in others if not self.is_above(name, full)]
-        return bool(apart) and all(is_proved(others[name]) for name in apart)
+        apart = self.apart(changed)
+        return bool(apart) and all(map(is_proved, apart.values()))
+
+    def not_sound(self, changed: set[str]) -> str:
+        """Which of these functions is not proved, and what is said of it."""
+        refused = [f"{name}: {it}" for name, it in self.apart(changed).items() if not is_proved(it)]
+        return (refused or ["none that the edit does not reach was checked"])[0][:200]
 
 
 def messages_of(text: str) -> list[str]:
@@ -481,13 +517,14 @@ class Finding:
 
     The verdict is `refused`, `proved`, `name` (only a name, or only the form of a proof, refuses it), `other` (a goal
     of another clause), `bad` (it cannot be tried), `open`, `neutral`, or empty if there is none yet. `goals` are those
-    that were refused otherwise than by a name.
+    that were refused otherwise than by a name, and `names` those by a name.
     """
 
     verdict: str = ""
     reason: str = ""
     text: str = ""
     goals: list[str] = field(default_factory=list)
+    names: list[str] = field(default_factory=list)
 
 
 def goals_through(goal: Goal, proof: str) -> list[Goal]:
@@ -522,6 +559,7 @@ def found_in(edit: Edit, said: Said, proofs: dict[str, str], is_alone: bool, ask
     else:
         clauses = [(edit.clause, name, it) for name, it in goals if is_of(it.name, edit.clause)]
     counted = [it.name for _, it in goals if it.reason != "name"]
+    named = [it.name for _, it in goals if it.reason == "name"]
     reasons = [(reason_of(edit, clause, it, proofs.get(name, ""), asks), name, it) for clause, name, it in clauses]
     for wanted in ("values", "search", "answer", "words"):
         for reason, name, it in reasons:
@@ -535,7 +573,16 @@ def found_in(edit: Edit, said: Said, proofs: dict[str, str], is_alone: bool, ask
     texts = [f"{name}: {it.text}" for name, it in goals] or [first_error(said.text)]
     if edit.neutral:
         return Finding("neutral", "name", texts[0], counted)
-    return Finding("other" if any(counted) and edit.clause else "name", "", texts[0], counted)
+    return Finding("other" if any(counted) and edit.clause else "name", "", texts[0], counted, named)
+
+
+def found_behind(edit: Edit, found: Finding, said: Said, proofs: dict[str, str], asks: bool) -> Finding:
+    """A finding, after a check without the answers that had failed: the tactics have tried all goals of the function there.
+    It counts only if values break the clause's goal, or the tactics prove the goal of the right body alone."""
+    if not said.ended or not said.is_sound(set(edit.functions)):
+        return found
+    behind = found_in(edit, said, proofs, True, asks)
+    return behind if behind.verdict == "refused" and behind.reason in ("values", "search") else found
 
 
 def place_of(goal: str) -> tuple[str, str]:

@@ -82,6 +82,7 @@ class Clauses(unittest.TestCase):
         at = {
             "loop-run-preserved": "loop run", "invariant_of-self-2-clause-few": "invariant few", "push-requires-clause-room": "requires push",
             "search_within-returns": "closure search_within", "overflow_add-count": "safe", "returns-in-Some-clause-writes": "returns",
+            "loop-preserved-then-in-Some": "loop", "loop-init-clause-few": "loop",
         }
         self.assertEqual({it: deciding.kind_of(it)[0] for it in at}, at)
         clause = deciding.clause_in("counts (loop run): it counts one more")
@@ -139,6 +140,21 @@ class Reasons(unittest.TestCase):
         for name, verdict in (("does", "refused"), ("fit", "other")):
             tried = edit("playing::play", f"{name}: words")
             self.assertEqual(deciding.found_in(tried, report, {"playing::play": proof}, True).verdict, verdict)
+
+    def test_a_failed_answer_hides_other_goals(self) -> None:
+        answers = {"proofs/playing/play/Answers.antt": BY_HAND + "\nother : It\nother = it\n", "proofs/lib/of/Answers.antt": BY_HAND}
+        tried = edit("playing::play", "told: words")
+        first = Finding("other", "", "", ["returns-in_default"])
+        self.assertEqual(deciding.without_failed(answers, tried, first), {"proofs/playing/play/Answers.antt": "other : It\nother = it\n"})
+        self.assertEqual(deciding.without_failed(answers, tried, Finding("other", "", "", ["returns-in-Some"])), {})
+        told = "fn pt_schedules::playing::play: `search` did not prove `returns-clause-told`\nfn pt_schedules::lib::of: proved\nonly=2"
+        for text, verdict in ((told, "refused"), (told.replace("of: proved", "of: refused"), "other"), (told.replace("only=2", ""), "other")):
+            behind = deciding.found_behind(tried, first, deciding.understood(text, "pt_schedules", 1.0), {}, False)
+            self.assertEqual(behind.verdict, verdict)
+
+    def test_which_function_is_not_sound(self) -> None:
+        text = "fn pt_a::one: refused\nfn pt_a::two: out of memory\nonly=2"
+        self.assertEqual(deciding.understood(text, "pt_a", 1.0).not_sound({"one"}), "two: out of memory")
 
     def test_the_clauses_of_a_function(self) -> None:
         text = "fn two(a: u8) -> u8\n    requires { a < 9 }\n    ensures sum { result ≡\n        a + 1 }\n    ensures { a ≡ a }\n{\n    a + 1\n}\n"
