@@ -201,11 +201,12 @@ class Trials:
         return batch, texts
 
     def asked_for(self, changed: set[str]) -> list[str]:
-        """The functions to ask for: the changed ones and a short one of the others; an empty list for all."""
+        """The functions to ask for: the changed ones, and a short one that calls none of them; an empty list for all."""
         files = [it for file, text in self.texts.items() for it in deciding.functions_of(text, deciding.module_of(file))]
         names = [it.path for it in files]
         free = [it for it in files if it.path not in changed and names.count(it.path) == 1 and it.last - it.first > 1]
-        free.sort(key=lambda it: (re.search(r"[A-Z]", it.path) is not None, it.has_loop, it.last - it.first))
+        above = deciding.callers_of(self.texts, changed)
+        free.sort(key=lambda it: (it.path in above, re.search(r"[A-Z]", it.path) is not None, it.has_loop, it.last - it.first))
         return [*sorted(changed), free[0].path] if changed and free else []
 
     def try_all(self) -> None:

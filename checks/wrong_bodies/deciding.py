@@ -122,6 +122,19 @@ def functions_of(text: str, module: str) -> tuple[Function, ...]:
     return tuple(found)
 
 
+def callers_of(texts: dict[str, str], functions: set[str]) -> set[str]:
+    """The functions that may call one of these, at once or by others: they name it, or a function of the same name."""
+    words: dict[str, set[str]] = {}
+    for file, text in texts.items():
+        lines = text.split("\n")
+        for it in functions_of(text, module_of(file)):
+            words[it.path] = words.get(it.path, set()) | set(re.findall(r"\w+", "\n".join(lines[it.first + 1 : it.last + 1])))
+    found: set[str] = set()
+    while more := {path for path, used in words.items() if used & {it.split("::")[-1] for it in found | functions}} - found:
+        found |= more
+    return found
+
+
 def end_of(lines: list[str], at: int, indent: str) -> int:
     """The last line of the function that begins in this line."""
     if lines[at].rstrip().endswith(("}", ";")) and lines[at].count("{") == lines[at].count("}"):

@@ -152,6 +152,10 @@ class Reasons(unittest.TestCase):
             behind = deciding.found_behind(tried, first, deciding.understood(text, "pt_schedules", 1.0), {}, False)
             self.assertEqual(behind.verdict, verdict)
 
+    def test_a_caller_is_no_witness(self) -> None:
+        text = "fn tell(a: u8) {\n    go(a)\n}\n\nfn tell_all(a: u8) {\n    tell(a)\n}\n\nfn run() {\n    tell_all(1)\n}\n\nfn rest() {\n    go(2)\n}\n"
+        self.assertEqual(deciding.callers_of({"src/a.rt": text}, {"a::tell"}), {"a::tell_all", "a::run"})
+
     def test_which_function_is_not_sound(self) -> None:
         text = "fn pt_a::one: refused\nfn pt_a::two: out of memory\nonly=2"
         self.assertEqual(deciding.understood(text, "pt_a", 1.0).not_sound({"one"}), "two: out of memory")
