@@ -35,14 +35,13 @@ room = bytearray(60_000_000)
 while time.process_time() < 3: pass
 END
 cp build check
-mkdir -p crates/pt_a/must-fail crates/pt_b/must-fail
 cat >checks <<'END'
 (exec -a rattle python3 build --crate-name pt_a src/lib.rt) &
 (exec -a rattle python3 build --crate-name pt_b --test src/lib.rt) &
-(exec -a rattle python3 check --crate-name pt_b src/lib.rt) &
+(exec -a rattle python3 check --crate-name pt_c src/main.rt) &
 wait
 END
-printf 'pt_a:\npt_b: pt_a\n' >crates.txt
+printf 'pt_a:\npt_b: pt_a\npt_c: pt_b\n' >crates.txt
 printf '%s\n' 'pt_a proof 999 999' 'pt_b proof 41 512' 'pt_gone proof 7 100' >table
 cp table before
 
@@ -53,7 +52,7 @@ holds 'no command is told' has_status 2 "$costs" table
 holds 'a command that passes has status 0' has_status 0 "$costs" table bash checks
 holds 'its proof is noted' grep -qE '^pt_a +proof +[1-4] +[5-9][0-9]$' table
 holds 'its tests are noted' grep -qE '^pt_b +tests +[1-4] +[5-9][0-9]$' table
-holds 'its wrong bodies are noted' grep -qE '^pt_b +edits +[1-4] +[5-9][0-9]$' table
+holds 'the check of a program is its proof' grep -qE '^pt_c +proof +[1-4] +[5-9][0-9]$' table
 holds 'what it did not check stays' grep -qE '^pt_b +proof +41 +512$' table
 holds 'a crate that is gone goes' bash -c '! grep -q pt_gone table'
 holds 'the sum is written' grep -qE '^# together (4[4-9]|5[0-3]) seconds$' table

@@ -17,8 +17,8 @@
 
 The libraries are those that `rt ci` has proved and left in crates/*/out/rlib, so this runs behind it.
 
-A wrong body is a file CRATE/NAME.edit in this folder, with lines `file:`, `old:` and `new:` as edits under must-fail
-have them, and a line `clause: NAME: what is false of it`. deciding.py says what NAME may be, and when an edit counts as
+A wrong body is a file CRATE/NAME.edit in this folder, with lines `file:`, `old:` and `new:` as the toolchain's edits under
+`must-fail` have them, and a line `clause: NAME: what is false of it`. deciding.py says what NAME may be, and when an edit counts as
 refused. A file CRATE/NAME.neutral is a twin: an edit that changes nothing, and may not come out as refused. Each run
 applies all edits, those too that it does not try.
 
