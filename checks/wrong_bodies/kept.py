@@ -6,12 +6,13 @@ from __future__ import annotations
 
 import hashlib
 import re
+from collections import Counter
 from dataclasses import dataclass
 from pathlib import Path
 
 HEAD = """\
 # What a trial of each wrong body found, beside a checksum of all that it was made from: `batches.py --keep` writes it.
-# A line is: name, verdict, reason, clause, checksum. deciding.py says what the words mean.
+# A line is: name, verdict, reason, clause, checksum. deciding.py says what the words mean. There are:
 """
 
 
@@ -37,8 +38,10 @@ def read(file: Path) -> dict[str, Verdict]:
 
 
 def write(file: Path, kept: dict[str, Verdict]) -> None:
-    """Writes the verdicts, sorted by the names of their edits."""
-    file.write_text(HEAD + "".join(kept[it].line(it) for it in sorted(kept)))
+    """Writes the verdicts, sorted by the names of their edits, below how many there are of each kind."""
+    counted = Counter((it.verdict, it.reason or "-") for it in kept.values())
+    kinds = "".join(f"# {count:>4}  {verdict}{f' by {reason}' if reason != '-' else ''}\n" for (verdict, reason), count in sorted(counted.items()))
+    file.write_text(HEAD + kinds + "".join(kept[it].line(it) for it in sorted(kept)))
 
 
 class Checksums:
