@@ -253,7 +253,7 @@ class Trials:
         elif said.is_sound(changed):
             for edit in batch:
                 found = deciding.found_in(edit, said, self.proofs, len(batch) == 1, self.asks(edit))
-                if found.verdict:
+                if found.verdict and not self.answers_behind(edit, found):
                     self.found[edit.label] = found
 
     def try_alone(self, edit: Edit) -> None:
@@ -269,10 +269,16 @@ class Trials:
         else:
             self.found[edit.label] = Finding("bad", "", "a function is refused that the edit does not reach: " + said.not_sound(changed))
 
+    def answers_behind(self, edit: Edit, found: Finding) -> dict[str, str]:
+        """The files of answers without those that failed, if another goal than that of the clause refuses the edit."""
+        if edit.neutral or found.verdict not in ("other", "name"):
+            return {}
+        return deciding.without_failed(self.answers, edit, found)
+
     def looked_behind(self, edit: Edit, found: Finding) -> Finding:
         """A finding, after a look at the goals that the prover does not try once a hand-written answer of others fails."""
-        answers = deciding.without_failed(self.answers, edit, found)
-        if found.verdict not in ("other", "name") or edit.neutral or not answers:
+        answers = self.answers_behind(edit, found)
+        if not answers:
             return found
         said = self.check({**(edit.apply(self.texts) or self.texts), **answers}, self.asked_for(set(edit.functions)))
         return deciding.found_behind(edit, found, said, self.proofs, self.asks(edit))
