@@ -141,11 +141,15 @@ def c_handles(section: Section) -> str:
 
 
 def c_version(source: Source) -> str:
+    """The version, as a text, in its parts, and as one number."""
     version = source.version()
+    major, minor, patch = (int(part) for part in version.split("."))
     parts = "".join(f"#define PUNDEWO_VERSION_{name} {number}\n"
-                    for name, number in zip(("MAJOR", "MINOR", "PATCH"), version.split(".")))
-    return ("/* The version of this header. `pundewo_build` has that of the library. */\n"
-            f'#define PUNDEWO_VERSION "{version}"\n{parts}')
+                    for name, number in (("MAJOR", major), ("MINOR", minor), ("PATCH", patch)))
+    return ("/* The version of this header: as a text, in its parts, and as the number that pt_version() returns of the library\n"
+            " * (10203 is 1.2.3). */\n"
+            f'#define PUNDEWO_VERSION "{version}"\n{parts}'
+            f"#define PUNDEWO_VERSION_NUMBER {10000 * major + 100 * minor + patch}\n")
 
 
 def c_entry(source: Source, entry: Entry) -> str:

@@ -1,13 +1,15 @@
 #!/usr/bin/env bash
 # Builds the proved library for C, Rust and Python into a folder, as other packages install theirs.
 #
-#   bindings/build.sh FOLDER              proves what was not proved on this machine (`rt lib`), and builds
+#   bindings/build.sh FOLDER              takes what the gate proved on this machine, if it is of the same sources, and else
+#                                         proves what was not proved here (`rt lib`)
 #   bindings/build.sh --unproved FOLDER   proves nothing: for trying out, in a minute or two, and slower to run
 #
 # PT_C_ARCHIVE names an archive of pt_c that was built before. `pundewo_build`, a text in the library, says whether it was
-# proved.
-# FOLDER gets include/pundewo.h and pundewo_text.h, lib/libpundewo.a and libpundewo.so, and lib/pkgconfig/pundewo.pc. The
-# heap of the toolchain's C library is within both libraries, so a program links nothing else. RT names another 'rt'.
+# proved, and has the checksum of that archive then.
+# FOLDER gets include/pundewo.h and pundewo_text.h, lib/libpundewo.a and libpundewo.so, lib/pkgconfig/pundewo.pc, and
+# SHA256SUMS. It may be moved. The heap of the toolchain's C library is within both libraries, so a program links nothing
+# else. The toolchain's own compiler and linker build all of it, so it is the same on each machine. RT names another 'rt'.
 set -euo pipefail
 
 proved=true
@@ -21,39 +23,57 @@ folder=$(cd "$1" && pwd)
 archive=${PT_C_ARCHIVE:-}
 rt=${RT:-rt}
 kit=$(dirname "$("$rt" doc)")
+tools=$kit/toolchain/bin
 
 work=$(mktemp -d)
 trap 'rm -rf "$work"' EXIT
 if ! $proved; then
     "$here/../.ci/unproved_archive.py" "$work/libpt_c.a"
     archive=$work/libpt_c.a
+elif [ -z "$archive" ] && kept=$("$here/proved.py" 2>/dev/null); then
+    archive=$kept/libpt_c.a
 elif [ -z "$archive" ]; then
     (cd "$here/../crates/pt_c" && "$rt" lib) || exit 1
     archive=$here/../crates/pt_c/out/libpt_c.a
 fi
 [ -f "$archive" ] || { echo "build.sh: no archive at $archive" >&2; exit 1; }
 
-version=$(sed -n 's/^pub const VERSION: &str = "\(.*\)";/\1/p' "$here/../crates/pt_render/src/choices.rt")
-build="pundewo $version, proved"
+value() { # MACRO
+    sed -n "s/^#define $1 \"\{0,1\}\([^\"]*\)\"\{0,1\}\$/\1/p" "$here/c/pundewo.h"
+}
+version=$(value PUNDEWO_VERSION)
+soname=libpundewo.so.${version%%.*}
+build="pundewo $version, proved: $(sha256sum <"$archive" | cut -c 1-64)"
 # (grep reads all that nm prints: if it stopped at the first match, nm would fail, and the archive would pass for proved)
 if nm "$archive" 2>/dev/null | grep ' pt_c_is_not_proved$' >/dev/null; then
     build="pundewo $version, not proved: for trying out"
 fi
-echo "extern const char pundewo_build[]; const char pundewo_build[] = \"$build\";" |
-    cc -std=c11 -Wall -Wextra -Werror -fPIC -x c -c -o "$work/build.o" -
+"$tools/clang" --target=x86_64-unknown-linux-gnu -std=c11 -Wall -Wextra -Werror -O2 -fPIC "-DPUNDEWO_BUILD=\"$build\"" \
+    "-DPUNDEWO_VERSION_NUMBER=$(value PUNDEWO_VERSION_NUMBER)" -c -o "$work/version.o" "$here/c/version.c"
 
+rm -rf "$folder/include" "$folder/lib" "$folder/SHA256SUMS"
 mkdir -p "$folder/include" "$folder/lib/pkgconfig"
 cp "$here/c/pundewo.h" "$here/c/pundewo_text.h" "$folder/include/"
-ar -M <<END
+"$tools/llvm-ar" -M <<END
 create $folder/lib/libpundewo.a
 addlib $archive
 addlib $kit/c/liblibc_c.a
-addmod $work/build.o
+addmod $work/version.o
 save
 end
 END
-cc -shared -Wl,-soname,libpundewo.so -o "$folder/lib/libpundewo.so" \
-    -Wl,--whole-archive "$folder/lib/libpundewo.a" -Wl,--no-whole-archive
-sed "s|@PREFIX@|$folder|; s|@VERSION@|$version|" "$here/c/pundewo.pc.in" >"$folder/lib/pkgconfig/pundewo.pc"
+# The shared library exports what the header declares. It names no library that it needs: the program has a C library, and
+# it may be any.
+{
+    echo '{ global: pundewo_build;'
+    sed -nE 's/^(uint32_t|void|unsigned) (pt_\w+)\(.*/\2;/p' "$folder/include/pundewo.h"
+    echo 'local: *; };'
+} >"$work/exported"
+"$tools/ld.lld" -shared -soname "$soname" --version-script "$work/exported" --build-id=sha1 --gc-sections \
+    --strip-all --hash-style=gnu -z relro -z now -o "$folder/lib/libpundewo.so.$version" --whole-archive "$folder/lib/libpundewo.a"
+ln -s "libpundewo.so.$version" "$folder/lib/$soname"
+ln -s "$soname" "$folder/lib/libpundewo.so"
+sed "s|@VERSION@|$version|" "$here/c/pundewo.pc.in" >"$folder/lib/pkgconfig/pundewo.pc"
+(cd "$folder" && find include lib -type f | LC_ALL=C sort | xargs sha256sum >SHA256SUMS)
 echo "$build"
 echo "built in $folder: include/pundewo.h lib/libpundewo.a lib/libpundewo.so lib/pkgconfig/pundewo.pc"

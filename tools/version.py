@@ -19,6 +19,7 @@ PLACES = {
     "CHANGELOG.md": r"^## (\S+)",
     "crates/pt_explorer/src/options.rt": r'\.version\("(.*)"\)',
     "bindings/c/pundewo.h": r'^#define PUNDEWO_VERSION "(.*)"',
+    "bindings/rust/sys/Cargo.toml": r'^version = "(.*)"',
     "bindings/rust/Cargo.toml": r'^version = "(.*)"',
     "bindings/python/pundewo/__init__.py": r'^__version__ = "(.*)"',
     "bench/rust/Cargo.toml": r'^version = "(.*)"',

@@ -169,6 +169,10 @@ static void version(void) {
         printf("version: '%s' in the library, %s (%s) in the header\n", pundewo_build, PUNDEWO_VERSION, parts);
         wrong++;
     }
+    is("the number of the version", pt_version(), PUNDEWO_VERSION_NUMBER);
+    is("the parts of the number", PUNDEWO_VERSION_MAJOR * 10000 + PUNDEWO_VERSION_MINOR * 100 + PUNDEWO_VERSION_PATCH,
+        PUNDEWO_VERSION_NUMBER);
+    is("whether the version fits", pt_version_fits(), 1);
 }
 
 int main(void) {

@@ -40,15 +40,28 @@ extern "C" {
 #endif
 
 /* [abi: version] */
-/* The version of this header. `pundewo_build` has that of the library. */
+/* The version of this header: as a text, in its parts, and as the number that pt_version() returns of the library
+ * (10203 is 1.2.3). */
 #define PUNDEWO_VERSION "0.1.0"
 #define PUNDEWO_VERSION_MAJOR 0
 #define PUNDEWO_VERSION_MINOR 1
 #define PUNDEWO_VERSION_PATCH 0
+#define PUNDEWO_VERSION_NUMBER 100
 /* [abi: end] */
 
-/* The name and the version of the library, and whether it was proved: "pundewo 0.1.0, proved". */
+/* What the library is: "pundewo 0.1.0, proved: SHA256", with the checksum of the archive that the proofs are of, which is in
+ * docs/proved-files.txt, or "pundewo 0.1.0, not proved: for trying out". */
 extern const char pundewo_build[];
+
+/* The version of the library, as PUNDEWO_VERSION_NUMBER is that of this header. It and `pundewo_build` are tested, not
+ * proved. (pt_version() cannot fail.) */
+unsigned pt_version(void);
+
+/* Whether the library has the structs and calls of this header: it is of the same major and minor version, and no older. A
+ * program that links the shared library asks this before it makes a call. */
+static inline bool pt_version_fits(void) {
+    return pt_version() / 100 == PUNDEWO_VERSION_NUMBER / 100 && pt_version() >= PUNDEWO_VERSION_NUMBER;
+}
 
 /* [abi: handles] */
 /* Handles: each is one pointer, and null if it is empty. */

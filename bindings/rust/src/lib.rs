@@ -85,6 +85,8 @@ pub use values::{
     Turned,
 };
 
+// (the library is linked by it)
+use pundewo_sys as _;
 use raw::{Handle, RawAccount, RawIds, RawItem, RawLoss, RawRef, RawTurned};
 use std::fmt;
 use std::ptr::null_mut;
