@@ -1,8 +1,8 @@
 #!/usr/bin/env bash
 # Builds the proved library for C, Rust and Python into a folder, as other packages install theirs.
 #
-#   bindings/build.sh FOLDER              takes what the gate proved on this machine, if it is of the same sources, and else
-#                                         proves what was not proved here (`rt lib`)
+#   bindings/build.sh FOLDER              takes what the gate proved and left here, if it is of the same sources. Else it
+#                                         proves what was not proved on this machine
 #   bindings/build.sh --unproved FOLDER   proves nothing: for trying out, in a minute or two, and slower to run
 #
 # PT_C_ARCHIVE names an archive of pt_c that was built before. `pundewo_build`, a text in the library, says whether it was
@@ -33,8 +33,8 @@ if ! $proved; then
 elif [ -z "$archive" ] && kept=$("$here/proved.py" 2>/dev/null); then
     archive=$kept/libpt_c.a
 elif [ -z "$archive" ]; then
-    (cd "$here/../crates/pt_c" && "$rt" lib) || exit 1
-    archive=$here/../crates/pt_c/out/libpt_c.a
+    "$here/archive.sh" "$work/libpt_c.a"
+    archive=$work/libpt_c.a
 fi
 [ -f "$archive" ] || { echo "build.sh: no archive at $archive" >&2; exit 1; }
 
@@ -51,7 +51,7 @@ fi
 "$tools/clang" --target=x86_64-unknown-linux-gnu -std=c11 -Wall -Wextra -Werror -O2 -fPIC "-DPUNDEWO_BUILD=\"$build\"" \
     "-DPUNDEWO_VERSION_NUMBER=$(value PUNDEWO_VERSION_NUMBER)" -c -o "$work/version.o" "$here/c/version.c"
 
-rm -rf "$folder/include" "$folder/lib" "$folder/SHA256SUMS"
+rm -rf "${folder:?}/include" "${folder:?}/lib" "$folder/SHA256SUMS"
 mkdir -p "$folder/include" "$folder/lib/pkgconfig"
 cp "$here/c/pundewo.h" "$here/c/pundewo_text.h" "$folder/include/"
 "$tools/llvm-ar" -M <<END

@@ -1,11 +1,13 @@
 #!/usr/bin/env python3
 """Keeps the library and the programs that the gate proved and built, so that no later command proves them again.
 
-    bindings/proved.py                        prints the folder of what was kept, if it was made of the sources as they are
+    bindings/proved.py                        prints the folder of what was kept, if it was made of the crates as they are
                                               now; else it says what differs, with status 1
     bindings/proved.py --keep ARCHIVE FOLDER  keeps this archive of pt_c, the FOLDER that bindings/build.sh built of it, and
                                               the programs that `rt ci` left; and writes docs/proved-files.txt
     bindings/proved.py --compare FOLDER       whether the files of FOLDER are those of the gate, by docs/proved-files.txt
+    bindings/proved.py --note                 notes that `rt ci` has passed the crates as they are now
+    bindings/proved.py --noted                whether it has; else it says what differs, with status 1
 
 docs/proved-files.txt has the checksum of each file that the gate built, by version. So a reader who has a file, and not the
 toolchain, sees by `sha256sum` whether it is that of the gate. Once CHANGELOG.md calls a version released, its lines stay as
@@ -26,6 +28,7 @@ import check  # noqa: E402
 from unproved import Fault, crates, kit  # noqa: E402
 
 KEPT = ROOT / "out" / "proved"
+NOTE = ROOT / "out" / "passed"
 LISTED = ROOT / "docs" / "proved-files.txt"
 PROGRAMS = ("pt_run", "pt_audit", "pt_explore", "pt_shell")
 HEAD = """\
@@ -51,25 +54,38 @@ def is_released(name: str) -> bool:
     return re.search(rf"^## {re.escape(name)}(?! \(not released yet\))", (ROOT / "CHANGELOG.md").read_text(), re.M) is not None
 
 
-def made_of() -> str:
-    """The checksums of all that the archive and the programs are made of, a line each."""
+def crate_sums() -> dict[str, str]:
+    """The checksums of all that the archive and the programs are proved and built of."""
     listed = crates(ROOT)
-    lines = {name: check.checksum(listed, name) for name in ("pt_c", *PROGRAMS)}
-    lines["toolchain"] = sum_of(kit() / "KIT-ID")
-    for path in (*sorted((ROOT / "bindings/c").glob("pundewo*")), ROOT / "bindings/c/version.c", ROOT / "bindings/build.sh"):
-        lines[path.name] = sum_of(path)
-    return "".join(f"{name} {found}\n" for name, found in lines.items())
+    return {**{name: check.checksum(listed, name) for name in ("pt_c", *PROGRAMS)}, "toolchain": sum_of(kit() / "KIT-ID")}
 
 
-def kept() -> Path:
-    """The folder of what was kept, if it was made of the sources as they are now."""
-    stamp = KEPT / "made-of"
+def made_of() -> dict[str, str]:
+    """The checksums of all that a built folder is made of."""
+    own = ROOT / "bindings"
+    return {**crate_sums(), **{path.name: sum_of(path) for path in (*sorted((own / "c").glob("pundewo*")), own / "c/version.c",
+                                                                    own / "build.sh")}}
+
+
+def write_sums(path: Path, sums: dict[str, str]) -> None:
+    """Writes checksums, a line each."""
+    path.parent.mkdir(exist_ok=True)
+    path.write_text("".join(f"{name} {found}\n" for name, found in sums.items()))
+
+
+def compared(stamp: Path, now: dict[str, str], what: str) -> None:
+    """Fails if this was not made of the sources as they are now."""
     if not stamp.exists():
-        raise Fault(f"the gate left nothing in {KEPT}: .ci/run proves and builds it")
-    was, now = (set(text.splitlines()) for text in (stamp.read_text(), made_of()))
-    if was != now:
-        other = sorted({line.split()[0] for line in was ^ now})
-        raise Fault(f"what the gate left in {KEPT} is of other sources than those of now: {', '.join(other)}")
+        raise Fault(f"{what} is not there: .ci/run makes it")
+    was = dict(line.split() for line in stamp.read_text().splitlines())
+    other = sorted(name for name, found in now.items() if was.get(name) != found)
+    if other:
+        raise Fault(f"{what} is of other sources than those of now: {', '.join(other)}")
+
+
+def kept(now: dict[str, str]) -> Path:
+    """The folder of what was kept, if it was made of these sources."""
+    compared(KEPT / "made-of", now, f"what the gate leaves in {KEPT}")
     return KEPT
 
 
@@ -123,21 +139,25 @@ def keep(archive: Path, folder: Path) -> None:
         "".join(f"{sum_of(path)}  {path.relative_to(KEPT)}\n" for path in files if path.is_file()))
     write_list(KEPT)
     # (last, so that what an interrupted run left is not taken)
-    (KEPT / "made-of").write_text(made_of())
+    write_sums(KEPT / "made-of", made_of())
 
 
 def main(words: list[str]) -> int:
     if not words:
-        print(kept())
+        print(kept(crate_sums()))
     elif words[0] == "--keep" and len(words) == 3:
         keep(Path(words[1]), Path(words[2]))
         print(f"kept in {KEPT}: {', '.join(found_sums(KEPT))}")
+    elif words == ["--note"]:
+        write_sums(NOTE, crate_sums())
+    elif words == ["--noted"]:
+        compared(NOTE, crate_sums(), "what `rt ci` passed")
     elif words[0] == "--compare" and len(words) == 2:
         faults = differing(Path(words[1]))
         print("".join(f"{fault}\n" for fault in faults), end="")
         return 1 if faults else 0
     else:
-        raise Fault("wanted: bindings/proved.py [--keep ARCHIVE FOLDER | --compare FOLDER]")
+        raise Fault("wanted: bindings/proved.py [--keep ARCHIVE FOLDER | --compare FOLDER | --note | --noted]")
     return 0
 
 

@@ -16,7 +16,6 @@ set -euo pipefail
 
 mode=${1:-all}
 here=$(cd "$(dirname "$0")" && pwd)
-crates=$here/../crates
 bench=$here/../bench/bindings
 rt=${RT:-rt}
 
@@ -43,42 +42,21 @@ fi
 
 "$here/abi.py"
 
-kit=$(dirname "$("$rt" doc)")
 work=$(mktemp -d)
 trap 'rm -rf "$work"' EXIT
 mkdir "$work/lib"
 
-# The archive over the libraries that `rt ci` built: the compiler's own command, as the gate calls it for a program.
-build_over_gate() {
-    local words=(--crate-name pt_c src/lib.rt --crate-type staticlib --links pt_c= --jobs "$(nproc)")
-    local name folder
-    for name in std $(sed -n 's/^pt_c staticlib: //p' ../../crates.txt); do
-        folder=../$name/out/rlib
-        [ -d "../$name" ] || folder=$kit/rlibs
-        words+=(--extern "$name=$folder/$name.rlib")
-    done
-    for folder in "$kit/rlibs" ../*/out/rlib; do
-        words+=(-L "dependency=$folder")
-    done
-    words+=(--antt-project "$kit/rattle/logic/antt-project.json" --logic-built "$kit/logic_built")
-    "$kit/bin/rattle" build "${words[@]}" --toolchain "$kit/toolchain" --backend llvm -o "$work/lib/libpt_c.a"
-}
-
-build_by_lib() {
-    "$rt" lib && cp out/libpt_c.a "$work/lib/libpt_c.a"
-}
-
-build_archive() {
-    local how=build_by_lib
-    # (a library with a stamp is one of `rt check`, which `rt ci` puts back: `rt lib` sees whether it is up to date)
-    [ "$mode" != --gate ] || [ -e "$crates/pt_node/out/rlib/stamp" ] || how=build_over_gate
-    (cd "$crates/pt_c" && $how) >"$work/log" 2>&1 || { tail -n 30 "$work/log"; exit 1; }
-}
-
-if [ -n "${PT_C_ARCHIVE:-}" ]; then
-    cp "$PT_C_ARCHIVE" "$work/lib/libpt_c.a"
+# The archive: one that was given, what the gate left of the same sources, or one that is built now.
+given=${PT_C_ARCHIVE:-}
+over=
+[ "$mode" != --gate ] || over=--gate
+if [ -n "$given" ]; then
+    cp "$given" "$work/lib/libpt_c.a"
+elif [ "$mode" != --gate ] && kept=$("$here/proved.py" 2>/dev/null); then
+    cp "$kept/libpt_c.a" "$work/lib/libpt_c.a"
 else
-    build_archive
+    # shellcheck disable=SC2086 # (no word, or one)
+    "$here/archive.sh" $over "$work/lib/libpt_c.a" >"$work/log" 2>&1 || { tail -n 30 "$work/log"; exit 1; }
 fi
 
 # The folder that a user builds: the header, both libraries, and what pkg-config reads.
@@ -86,6 +64,10 @@ export PT_C_ARCHIVE=$work/lib/libpt_c.a
 "$here/build.sh" "$work/built" >"$work/printed"
 if nm "$PT_C_ARCHIVE" | grep ' pt_c_is_not_proved$' >/dev/null; then
     grep ', not proved: ' "$work/printed" || { echo "bindings: a library that was not proved does not say so"; exit 1; }
+fi
+# (so that no later command proves it again; it writes docs/proved-files.txt)
+if [ "$mode" = --gate ] && [ -z "$given" ]; then
+    "$here/proved.py" --keep "$PT_C_ARCHIVE" "$work/built"
 fi
 c="cc -std=c11 -D_GNU_SOURCE -O2 -Wall -Wextra -Werror"
 build() { # PROGRAM [FOLDER]
