@@ -143,7 +143,7 @@ def c_handles(section: Section) -> str:
 def c_version(source: Source) -> str:
     """The version, as a text, in its parts, and as one number."""
     version = source.version()
-    major, minor, patch = (int(part) for part in version.split("."))
+    major, minor, patch = (int(part) for part in version.split(".")[:3])
     parts = "".join(f"#define PUNDEWO_VERSION_{name} {number}\n"
                     for name, number in (("MAJOR", major), ("MINOR", minor), ("PATCH", patch)))
     return ("/* The version of this header: as a text, in its parts, and as the number that pt_version() returns of the library\n"

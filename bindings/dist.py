@@ -36,9 +36,10 @@ from dataclasses import dataclass
 from pathlib import Path
 
 sys.dont_write_bytecode = True
-sys.path.insert(0, str(Path(__file__).resolve().parent))
+sys.path[:0] = [str(Path(__file__).resolve().parent), str(Path(__file__).resolve().parent.parent / ".ci")]
 import proved  # noqa: E402
-from proved import PROGRAMS, ROOT, Fault  # noqa: E402
+from proved import PROGRAMS, ROOT  # noqa: E402
+from unproved import Fault  # noqa: E402
 
 BINDINGS = ROOT / "bindings"
 SAID = re.compile(rb"pundewo (\d+\.\d+\.\d+), ((?:not )?proved)\b[^\0]*")

@@ -185,9 +185,9 @@ def use_from_c(world: World, at: Path, libraries: Path, rooted: Path | None = No
     is_same("the version of pkg-config", run(["pkg-config", "--modversion", "pundewo"], at, PKG_CONFIG_LIBDIR=str(
         libraries / "pkgconfig")).strip(), world.version)
     flags = [it for it in words.split() if not it.startswith("-l")]
-    static = ["cc", *C_FLAGS.split(), HERE / "c/supervisor.c", *flags, "-o", "static", "-static", "-lpundewo"]
-    run(["cc", *C_FLAGS.split(), HERE / "c/supervisor.c", *words.split(), "-o", "shared"], at)
-    run(static, at)
+    compiler: list[str | Path] = ["cc", *C_FLAGS.split(), HERE / "c/supervisor.c"]
+    run([*compiler, *words.split(), "-o", "shared"], at)
+    run([*compiler, *flags, "-o", "static", "-static", "-lpundewo"], at)
     is_same("the shared program", run(["./shared"], at, LD_LIBRARY_PATH=str(libraries)), stored("supervisor.out"))
     is_same("the static program", run(["./static"], at), stored("supervisor.out"))
     (at / "plus.cpp").write_text(PLUS)
@@ -414,7 +414,7 @@ def test_all(library: Path, programs: Path, folder: Path) -> int:
 def main(words: list[str]) -> int:
     if len(words) == 2:
         alone = ["unshare", "--net"] if os.geteuid() == 0 else ["unshare", "--net", "--map-root-user"]
-        return subprocess.run([*alone, sys.executable, __file__, APART, *map(os.path.abspath, words)], check=False).returncode
+        return subprocess.run([*alone, sys.executable, __file__, APART, *(os.path.abspath(word) for word in words)], check=False).returncode
     if len(words) != 3 or words[0] != APART:
         print("wanted: bindings/packages.py LIBRARY PROGRAMS", file=sys.stderr)
         return 2

@@ -128,11 +128,12 @@ def keep(archive: Path, folder: Path) -> None:
     shutil.rmtree(KEPT, ignore_errors=True)
     shutil.copytree(folder, KEPT, symlinks=True)
     shutil.copyfile(archive, KEPT / "libpt_c.a")
-    (KEPT / "bin").mkdir()
-    for name in PROGRAMS:
-        left = ROOT / "crates" / name / "out" / name
-        if left.exists():
-            shutil.copyfile(left, KEPT / "bin" / name)
+    left = {name: ROOT / "crates" / name / "out" / name for name in PROGRAMS}
+    # (all or none: a toolchain may leave no programs)
+    if all(path.exists() for path in left.values()):
+        (KEPT / "bin").mkdir()
+        for name, path in left.items():
+            shutil.copyfile(path, KEPT / "bin" / name)
             (KEPT / "bin" / name).chmod(0o755)
     files = sorted(path for part in ("bin", "include", "lib") for path in (KEPT / part).rglob("*") if not path.is_symlink())
     (KEPT / "SHA256SUMS").write_text(

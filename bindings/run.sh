@@ -6,7 +6,8 @@
 #
 #   bindings/run.sh           everything, over an archive of `rt lib`, which proves what was not proved on this machine
 #   bindings/run.sh --gate    everything, over an archive that is built on the libraries which `rt ci` has just proved
-#                             and left in this tree: the library itself is checked once more, and nothing below it
+#                             and left in this tree: the library itself is checked once more, and nothing below it. It
+#                             keeps what it built (bindings/proved.py), and tests the packages (bindings/packages.py)
 #   bindings/run.sh --tools   only says which tools are missing
 #   bindings/run.sh --speed   the ping-pong through C, Rust and Python, and what the calls of C cost
 #
@@ -27,6 +28,14 @@ needs "$rt" "the archive" "it is the toolchain's own command"
 needs cc "the C examples" "apt-get install gcc libc6-dev"
 needs cargo "the Rust crate" "apt-get install cargo, or https://rustup.rs (1.85 or later)"
 needs python3 "the Python module" "apt-get install python3 (3.9 or later)"
+if [ "$mode" = --gate ] || [ "$mode" = --tools ]; then
+    needs make "the packages" "apt-get install make"
+    needs c++ "the packages" "apt-get install g++"
+    needs pkg-config "the packages" "apt-get install pkg-config"
+    needs dpkg-deb "the packages" "apt-get install dpkg"
+    needs dpkg-shlibdeps "the packages" "apt-get install dpkg-dev"
+    needs unshare "the packages" "apt-get install util-linux"
+fi
 [ "$missing" -eq 0 ] || exit 1
 if ! cargo clippy --version >/dev/null 2>&1; then
     echo "bindings: no clippy: the Rust crate is not linted (rustup component add clippy; apt-get install rust-clippy)"
@@ -168,16 +177,16 @@ echo "c: examples passed"
 (
     cd "$here/rust"
     if cargo fmt --version >/dev/null 2>&1; then
-        cargo fmt --check
+        cargo fmt --all --check
     fi
-    cargo test -q --offline
-    RUSTDOCFLAGS="-D warnings" cargo doc -q --offline --no-deps
+    cargo test -q --offline --workspace
+    RUSTDOCFLAGS="-D warnings" cargo doc -q --offline --no-deps --workspace
     cargo run -q --offline --example supervisor | diff "$here/c/supervisor.out" -
     cargo run -q --offline --example crew_supervisors | diff "$here/c/crew_supervisors.out" -
     cargo run -q --offline --example ring >"$work/printed"
     cargo run -q --offline --example ping_pong 200 >"$work/printed"
     if cargo clippy --version >/dev/null 2>&1; then
-        cargo clippy -q --offline --all-targets -- -D warnings
+        cargo clippy -q --offline --workspace --all-targets -- -D warnings
         echo "rust: clippy finds nothing"
     fi
     for lib in /nowhere "$work"; do # there is no library
@@ -213,7 +222,8 @@ echo "rust: the telephone exchange passed"
     if command -v mypy >/dev/null; then
         for level in 3.9 "$(python3 -c 'import sys; print("%d.%d" % sys.version_info[:2])')"; do
             mypy --strict --cache-dir=/dev/null --python-version "$level" pundewo build_wheel.py examples tests ../bad_clients.py
-            MYPYPATH=..:../../.ci mypy --strict --cache-dir=/dev/null --python-version "$level" ../abi.py ../abi_tests.py
+            MYPYPATH=..:../../.ci:../../tools mypy --strict --cache-dir=/dev/null --python-version "$level" ../abi.py \
+                ../abi_tests.py ../proved.py ../dist.py ../packages.py
         done
     fi
     if python3 -m pyflakes --version >/dev/null 2>&1; then
@@ -237,13 +247,24 @@ echo "python: the package is installed, and runs"
 
 # The library as `make install` leaves it, found by pkg-config
 if command -v make >/dev/null && command -v pkg-config >/dev/null; then
-    make -s -C "$here" install PREFIX="$work/installed" BUILT="$work/made" >"$work/printed"
+    make -s -C "$here" install LIBRARY="$work/built" PREFIX="$work/installed" >"$work/printed"
     export PKG_CONFIG_PATH=$work/installed/lib/pkgconfig
+    # shellcheck disable=SC2046 # (words)
     $c -o "$work/ping_pong" "$here/c/ping_pong.c" $(pkg-config --cflags --libs pundewo)
     LD_LIBRARY_PATH=$work/installed/lib "$work/ping_pong" >"$work/printed"
     (cd "$here/rust" && env -u PUNDEWO_LIB cargo build -q --offline --examples)
     echo "install: header, libraries and pkg-config file serve C and Rust"
 else
     echo "bindings: no make or pkg-config: the installed library is not tried (apt-get install make pkg-config)"
+fi
+
+# The packages as their users get them, with the programs that `rt ci` left, or with those of bin/
+if [ "$mode" = --gate ]; then
+    programs=$here/../out/proved/bin
+    if [ -n "$given" ] || [ ! -e "$programs/pt_run" ]; then
+        "$here/../.ci/build" pt_run pt_audit pt_explore pt_shell >"$work/printed"
+        programs=$here/../bin
+    fi
+    "$here/packages.py" "$work/built" "$programs"
 fi
 echo "bindings: all passed"
