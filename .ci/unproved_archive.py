@@ -24,7 +24,7 @@ from dataclasses import dataclass
 from pathlib import Path
 
 sys.dont_write_bytecode = True
-from unproved import Fault, command, keeping_toolchain, kit  # noqa: E402
+from unproved import Fault, clang, kit, module  # noqa: E402
 
 ROOT = Path(__file__).resolve().parent.parent
 PROGRAM = "pt_c_unproved"
@@ -93,29 +93,8 @@ def program(all_exports: list[Export], folder: Path) -> None:
                    "fn main(rt: HostRuntime) {\n    if std::hint::black_box(false) {\n" + body + "    }\n}\n")
 
 
-def module(tools: Path, folder: Path) -> str:
-    """The program's module, as text."""
-    kept = keeping_toolchain(tools, folder / "toolchain")
-    words = [str(kept) if it == f"{tools}/toolchain" else it for it in command(folder, PROGRAM, ["--seconds", "60"])]
-    ran = subprocess.run(words, cwd=folder / "crates" / PROGRAM, stdin=subprocess.DEVNULL, capture_output=True, text=True,
-                         check=False)
-    if not (kept / "module.bc").exists():
-        raise Fault(f"the toolchain wrote no module of the program:\n{ran.stdout}{ran.stderr}")
-    clang(tools, ["-x", "ir", str(kept / "module.bc"), "-S", "-emit-llvm", "-o", str(folder / "module.ll")])
-    return (folder / "module.ll").read_text()
-
-
-def clang(tools: Path, words: list[str]) -> None:
-    """Runs the toolchain's own clang."""
-    ran = subprocess.run([f"{tools}/toolchain/bin/clang", "--target=x86_64-unknown-linux-gnu", *words],
-                         capture_output=True, text=True, check=False)
-    if ran.returncode:
-        raise Fault(f"clang failed: {ran.stderr}")
-
-
 def with_external(text: str, all_exports: list[Export]) -> str:
     """The module with the exports external, under names of their own, and without a program's entry."""
-    text = text.replace(" sanitize_address", "")
     text = re.sub(r"^define i32 @main\(\)", "define internal i32 @pt_entry()", text, flags=re.M)
     listed = {(it.module, it.name) for it in all_exports}
     found: Counter[tuple[str, str]] = Counter()
@@ -201,7 +180,7 @@ def build(archive: Path, folder: Path) -> None:
     tools = kit()
     all_exports = exports()
     program(all_exports, folder)
-    (folder / "inner.ll").write_text(with_external(module(tools, folder), all_exports))
+    (folder / "inner.ll").write_text(with_external(module(folder, PROGRAM, folder), all_exports))
     (folder / "outer.c").write_text(shim(all_exports))
     flags = ["-O2", "-fPIC", "-ffunction-sections", "-fdata-sections", "-c"]
     clang(tools, ["-x", "ir", str(folder / "inner.ll"), *flags, "-o", str(folder / "inner.o")])

@@ -18,20 +18,7 @@ from pathlib import Path
 sys.dont_write_bytecode = True
 REPOSITORY = Path(__file__).resolve().parent.parent
 sys.path.insert(0, str(REPOSITORY / ".ci"))
-from unproved import Fault, command, keeping_toolchain, kit  # noqa: E402
-from unproved_archive import clang  # noqa: E402
-
-
-def module(root: Path, name: str, folder: Path) -> Path:
-    """The program's module, as the toolchain writes it for `rt try`."""
-    tools = kit()
-    kept = keeping_toolchain(tools, folder / "toolchain")
-    words = [str(kept) if it == f"{tools}/toolchain" else it for it in command(root, name, ["--seconds", "60"])]
-    ran = subprocess.run(words, cwd=root / "crates" / name, stdin=subprocess.DEVNULL, capture_output=True, text=True,
-                         check=False)
-    if not (kept / "module.bc").exists():
-        raise Fault(f"{name} was not compiled:\n{ran.stdout}{ran.stderr}")
-    return kept / "module.bc"
+from unproved import Fault, clang, kit, module  # noqa: E402
 
 
 def build(root: Path, name: str, to: Path) -> None:
@@ -40,8 +27,7 @@ def build(root: Path, name: str, to: Path) -> None:
     with tempfile.TemporaryDirectory(prefix="unproved-") as room:
         folder = Path(room)
         text, objects = folder / "program.ll", folder / "program.o"
-        clang(tools, ["-x", "ir", str(module(root, name, folder)), "-S", "-emit-llvm", "-o", str(text)])
-        text.write_text(text.read_text().replace(" sanitize_address", ""))
+        text.write_text(module(root, name, folder))
         clang(tools, ["-x", "ir", str(text), "-O3", "-c", "-o", str(objects)])
         libraries = [f"{tools}/c/libos_c.a", f"{tools}/c/liblibc_c.a", "-lpthread", "-lm"]
         ran = subprocess.run(["cc", "-o", str(to), str(objects), *libraries], capture_output=True, text=True, check=False)
