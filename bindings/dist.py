@@ -52,6 +52,12 @@ ABOUT = """\
 Pundewo gives a program lightweight processes with mailboxes, selective receive, links, monitors, exit reasons and
 trap_exit, as the Erlang manual describes them. Each function of the table is proved to meet its contract.
 """
+# What Python compiled of the modules is no file of the package.
+PRERM = """\
+#!/bin/sh
+set -e
+rm -rf "${DPKG_ROOT:-}/usr/lib/python3/dist-packages/pundewo/__pycache__"
+"""
 
 
 @dataclass(frozen=True)
@@ -215,6 +221,9 @@ def deb(given: Given, package: Package, staged: Path, room: Path) -> None:
     if package.name == "libpundewo0":
         (about / "triggers").write_text("activate-noawait ldconfig\n")
         (about / "shlibs").write_text(f"libpundewo 0 libpundewo0 (>= {given.version})\n")
+    if package.name == "python3-pundewo":
+        (about / "prerm").write_text(PRERM)
+        (about / "prerm").chmod(0o755)
     normalized(root, given.date)
     run(["dpkg-deb", "--root-owner-group", "--threads-max=1", "-b", str(root),
          str(given.into / f"{package.name}_{given.version}-1_amd64.deb")], SOURCE_DATE_EPOCH=str(given.date))

@@ -307,7 +307,8 @@ def debian(world: World) -> None:
     for name in there:
         (root / f"var/lib/dpkg/info/{name}.list").write_text("/.\n")
     (root / "var/lib/dpkg/info/format").write_text("1\n")
-    dpkg: list[str | Path] = ["dpkg", f"--root={root}", f"--log={at}/log"]
+    # (there is no shell in this root)
+    dpkg: list[str | Path] = ["dpkg", f"--root={root}", f"--log={at}/log", "--force-script-chrootless"]
     before = {path for path in root.rglob("*") if not path.is_dir()}
     refused("depends on libpundewo0 ", [*dpkg, "-i", world.package("libpundewo-dev_*.deb")], at)
     run([*dpkg, "-i", *sorted(world.dist.glob("*.deb"))], at)
