@@ -262,13 +262,13 @@ def given_by(asked: argparse.Namespace) -> Given:
     version, is_proved = said[1].decode(), said[2] == b"proved"
     if version != proved.version():
         raise Fault(f"{archive} is of version {version}, and bindings/c/pundewo.h is of {proved.version()}")
-    faults = proved.differing(library) if is_proved else []
-    if faults:
-        raise Fault(f"{library} says that it was proved, and is not what the gate built: {faults[0]}")
     programs = asked.programs.resolve() if asked.programs else library / "bin"
     for name in PROGRAMS:
         if not (programs / name).is_file():
             raise Fault(f"no program {name} in {programs}: PROGRAMS names the folder of {', '.join(PROGRAMS)}")
+    faults = proved.differing(library, programs) if is_proved else []
+    if faults:
+        raise Fault(f"{library} says that it was proved, and this is not what the gate built: {faults[0]}")
     date = os.environ.get("SOURCE_DATE_EPOCH") or run(["git", "-C", str(ROOT), "log", "-1", "--format=%ct"])
     return Given(library, programs, asked.into.resolve(), version, is_proved, int(date))
 

@@ -337,7 +337,7 @@ def bad_input(world: World) -> None:
             ("changed", b"", b"\n", "the library in .* is not as it was built"),
             ("older", f"pundewo {world.version}, ".encode(), b"pundewo 0.0.1, ", "is of version 0.0.1, and .*pundewo.h is of"),
             ("silent", b"pundewo ", b"nothing ", "does not say what it is"),
-            ("false", world.said.encode(), f"pundewo {world.version}, proved: 00".encode(), "is not what the gate built: .*checksum")):
+            ("false", world.said.encode(), f"pundewo {world.version}, proved: 00".encode(), "this is not what the gate built: .*checksum")):
         other = at / name
         shutil.copytree(world.library, other, symlinks=True)
         archive = other / "lib/libpundewo.a"

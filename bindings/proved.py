@@ -96,30 +96,30 @@ def listed_sums(name: str) -> dict[str, str]:
     return {row[1]: row[2] for row in rows if row[0] == name}
 
 
-def found_sums(folder: Path) -> dict[str, str]:
-    """The files of a built folder that the list names, with their checksums."""
+def found_sums(folder: Path, programs: Path) -> dict[str, str]:
+    """The files of a built folder and of one of programs that the list names, with their checksums."""
     paths = [folder / "libpt_c.a", folder / "lib/libpundewo.a", folder / f"lib/libpundewo.so.{version()}"]
-    paths += [folder / "bin" / name for name in PROGRAMS]
+    paths += [programs / name for name in PROGRAMS]
     return {path.name: sum_of(path) for path in paths if path.exists()}
 
 
-def differing(folder: Path) -> list[str]:
-    """Lines on the files of a built folder that are not those of the list."""
+def differing(folder: Path, programs: Path) -> list[str]:
+    """Lines on the files of a built folder and of one of programs that are not those of the list."""
     listed = listed_sums(version())
     return [f"{name} has the checksum {found}, and docs/proved-files.txt has "
             + (f"{listed[name]} for it" if name in listed else f"none for {name} of {version()}")
-            for name, found in found_sums(folder).items() if listed.get(name) != found]
+            for name, found in found_sums(folder, programs).items() if listed.get(name) != found]
 
 
 def write_list(folder: Path) -> None:
     """Writes the lines of this version, or fails if it was released with other files."""
     name = version()
-    faults = differing(folder)
+    faults = differing(folder, folder / "bin")
     if faults and is_released(name):
         raise Fault(f"version {name} was released with other files: {'; '.join(faults)}")
     old = LISTED.read_text().splitlines() if LISTED.exists() else []
     lines = [line for line in old if line and not line.startswith("#") and line.split()[0] != name]
-    lines += [f"{name} {file} {found}" for file, found in found_sums(folder).items()]
+    lines += [f"{name} {file} {found}" for file, found in found_sums(folder, folder / "bin").items()]
     LISTED.write_text(HEAD + "".join(f"{line}\n" for line in lines))
 
 
@@ -128,13 +128,13 @@ def keep(archive: Path, folder: Path) -> None:
     shutil.rmtree(KEPT, ignore_errors=True)
     shutil.copytree(folder, KEPT, symlinks=True)
     shutil.copyfile(archive, KEPT / "libpt_c.a")
-    left = {name: ROOT / "crates" / name / "out" / name for name in PROGRAMS}
-    # (all or none: a toolchain may leave no programs)
-    if all(path.exists() for path in left.values()):
+    left = [ROOT / "crates" / name / "out" / name for name in PROGRAMS]
+    # (`rt ci` leaves each as LLVM and as Rattle's own compiler built it, and `rt run` the first alone. All are kept or none)
+    if all(path.exists() and path.with_name(f"{path.name}.by-rattle").exists() for path in left):
         (KEPT / "bin").mkdir()
-        for name, path in left.items():
-            shutil.copyfile(path, KEPT / "bin" / name)
-            (KEPT / "bin" / name).chmod(0o755)
+        for path in left:
+            shutil.copyfile(path, KEPT / "bin" / path.name)
+            (KEPT / "bin" / path.name).chmod(0o755)
     files = sorted(path for part in ("bin", "include", "lib") for path in (KEPT / part).rglob("*") if not path.is_symlink())
     (KEPT / "SHA256SUMS").write_text(
         "".join(f"{sum_of(path)}  {path.relative_to(KEPT)}\n" for path in files if path.is_file()))
@@ -148,13 +148,13 @@ def main(words: list[str]) -> int:
         print(kept(crate_sums()))
     elif words[0] == "--keep" and len(words) == 3:
         keep(Path(words[1]), Path(words[2]))
-        print(f"kept in {KEPT}: {', '.join(found_sums(KEPT))}")
+        print(f"kept in {KEPT}: {', '.join(found_sums(KEPT, KEPT / 'bin'))}")
     elif words == ["--note"]:
         write_sums(NOTE, crate_sums())
     elif words == ["--noted"]:
         compared(NOTE, crate_sums(), "what `rt ci` passed")
     elif words[0] == "--compare" and len(words) == 2:
-        faults = differing(Path(words[1]))
+        faults = differing(Path(words[1]), Path(words[1]) / "bin")
         print("".join(f"{fault}\n" for fault in faults), end="")
         return 1 if faults else 0
     else:
