@@ -70,7 +70,8 @@ END
     echo 'local: *; };'
 } >"$work/exported"
 "$tools/ld.lld" -shared -soname "$soname" --version-script "$work/exported" --build-id=sha1 --gc-sections \
-    --strip-all --hash-style=gnu -z relro -z now -o "$folder/lib/libpundewo.so.$version" --whole-archive "$folder/lib/libpundewo.a"
+    --strip-all --hash-style=gnu -z relro -z now -o "$folder/lib/libpundewo.so.$version" \
+    --whole-archive "$folder/lib/libpundewo.a"
 ln -s "libpundewo.so.$version" "$folder/lib/$soname"
 ln -s "$soname" "$folder/lib/libpundewo.so"
 sed "s|@VERSION@|$version|" "$here/c/pundewo.pc.in" >"$folder/lib/pkgconfig/pundewo.pc"

@@ -252,7 +252,8 @@ def use_from_python(world: World, at: Path, python: Path, **more: str) -> None:
     """The examples print what they do in the repository."""
     examples = HERE / "python/examples"
     for name in ("supervisor", "crew", "crew_supervisors"):
-        is_same(f"{name}.py", run([python, "-I" if not more else "-B", examples / f"{name}.py"], at, **more), stored(f"{name}.out"))
+        printed = run([python, "-I" if not more else "-B", examples / f"{name}.py"], at, **more)
+        is_same(f"{name}.py", printed, stored(f"{name}.out"))
     code = "import pundewo; print(pundewo.__version__, pundewo.BUILD)"
     is_same("the package", run([python, "-c", code], at, **more), f"{world.version} {world.said}\n")
 
@@ -261,12 +262,13 @@ def wheel(world: World) -> None:
     """The wheel is installed into a new environment, by its name, and the source distribution into a folder."""
     at = world.room("wheel")
     run([sys.executable, "-m", "venv", "venv"], at)
-    pip: list[str | Path] = [at / "venv/bin/python", "-m", "pip", "install", "-q", "--no-index", "--disable-pip-version-check"]
-    run([*pip, "--only-binary", ":all:", "--find-links", world.dist, "pundewo"], at)
-    use_from_python(world, at, at / "venv/bin/python")
-    run([*pip, "--target", at / "sources", world.package("pundewo-*.*.?.tar.gz")], at)
-    run([at / "venv/bin/python", "-m", "pip", "uninstall", "-q", "-y", "pundewo"], at)
-    use_from_python(world, at, at / "venv/bin/python", PYTHONPATH=str(at / "sources"))
+    python = at / "venv/bin/python"
+    install: list[str | Path] = [python, "-m", "pip", "install", "-q", "--no-index", "--disable-pip-version-check"]
+    run([*install, "--only-binary", ":all:", "--find-links", world.dist, "pundewo"], at)
+    use_from_python(world, at, python)
+    run([*install, "--target", at / "sources", world.dist / f"pundewo-{world.version}.tar.gz"], at)
+    run([python, "-m", "pip", "uninstall", "-q", "-y", "pundewo"], at)
+    use_from_python(world, at, python, PYTHONPATH=str(at / "sources"))
 
 
 # ---- Rust
@@ -289,8 +291,8 @@ def crates(world: World) -> None:
     is_same("the library of Rust", done.stderr, f"{world.said}\n")
     with open(at / f"pundewo-sys-{world.version}/lib/libpundewo.a", "ab") as archive:
         archive.write(b"\n")
-    refused("pundewo: .*libpundewo.a has another checksum than libpundewo.a.sha256", ["cargo", "build", "-q", "--offline"], user,
-            CARGO_TARGET_DIR=str(at / "target"))
+    refused("pundewo: .*libpundewo.a has another checksum than libpundewo.a.sha256", ["cargo", "build", "-q", "--offline"],
+            user, CARGO_TARGET_DIR=str(at / "target"))
 
 
 # ---- Debian
@@ -303,7 +305,7 @@ def debian(world: World) -> None:
     for folder in ("info", "updates", "triggers"):
         (root / "var/lib/dpkg" / folder).mkdir(parents=True)
     there = {"libc6": "2.36-9", "libgcc-s1": "12.2.0-14", "python3": "3.11.2-1"}
-    (root / "var/lib/dpkg/status").write_text("".join(STATUS.format(name=name, version=version) for name, version in there.items()))
+    (root / "var/lib/dpkg/status").write_text("".join(STATUS.format(name=name, version=it) for name, it in there.items()))
     for name in there:
         (root / f"var/lib/dpkg/info/{name}.list").write_text("/.\n")
     (root / "var/lib/dpkg/info/format").write_text("1\n")
@@ -317,7 +319,8 @@ def debian(world: World) -> None:
     use_from_python(world, at, Path(sys.executable), PYTHONPATH=str(root / "usr/lib/python3/dist-packages"))
     run([*dpkg, "--verify"], at)
     run([*dpkg, "-P", "libpundewo0", "libpundewo-dev", "pundewo", "python3-pundewo"], at)
-    left = sorted(str(path) for path in root.rglob("*") if not path.is_dir() and path not in before and "/var/" not in str(path))
+    now = {path for path in root.rglob("*") if not path.is_dir()}
+    left = sorted(str(path) for path in now - before if root / "var" not in path.parents)
     is_same("what a purge leaves", str(left), "[]")
 
 
@@ -337,7 +340,8 @@ def bad_input(world: World) -> None:
             ("changed", b"", b"\n", "the library in .* is not as it was built"),
             ("older", f"pundewo {world.version}, ".encode(), b"pundewo 0.0.1, ", "is of version 0.0.1, and .*pundewo.h is of"),
             ("silent", b"pundewo ", b"nothing ", "does not say what it is"),
-            ("false", world.said.encode(), f"pundewo {world.version}, proved: 00".encode(), "this is not what the gate built: .*checksum")):
+            ("false", world.said.encode(), f"pundewo {world.version}, proved: 00".encode(),
+             "this is not what the gate built: .*checksum")):
         other = at / name
         shutil.copytree(world.library, other, symlinks=True)
         archive = other / "lib/libpundewo.a"
@@ -346,8 +350,8 @@ def bad_input(world: World) -> None:
         refused(says, [*dist, f"LIBRARY={other}", f"PROGRAMS={world.programs}"], at)
         if name == "changed":
             refused(says, [*install, f"LIBRARY={other}"], at)
-    refused("pundewo: no shared library at /nowhere", [sys.executable, "-c", "import build_wheel; build_wheel.build_wheel('.')"], at,
-            PYTHONPATH=str(HERE / "python"), PUNDEWO_SO="/nowhere", PYTHONDONTWRITEBYTECODE="1")
+    wheel_of_nothing: list[str | Path] = [sys.executable, "-B", "-c", "import build_wheel as b; b.build_wheel('.')"]
+    refused("pundewo: no shared library at /nowhere", wheel_of_nothing, at, PYTHONPATH=str(HERE / "python"), PUNDEWO_SO="/nowhere")
     left = [str(path) for path in at.rglob("*") if path.suffix in (".whl", ".deb", ".crate") or "installed" in path.parts]
     is_same("what the refused commands leave", str(left), "[]")
 
@@ -415,7 +419,8 @@ def test_all(library: Path, programs: Path, folder: Path) -> int:
 def main(words: list[str]) -> int:
     if len(words) == 2:
         alone = ["unshare", "--net"] if os.geteuid() == 0 else ["unshare", "--net", "--map-root-user"]
-        return subprocess.run([*alone, sys.executable, __file__, APART, *(os.path.abspath(word) for word in words)], check=False).returncode
+        inner = [sys.executable, __file__, APART, *(os.path.abspath(word) for word in words)]
+        return subprocess.run([*alone, *inner], check=False).returncode
     if len(words) != 3 or words[0] != APART:
         print("wanted: bindings/packages.py LIBRARY PROGRAMS", file=sys.stderr)
         return 2

@@ -24,12 +24,14 @@ class Small:
     def __init__(self, root: Path) -> None:
         self.root, self.built, self.archive = root, root / "built", root / "libpt_c.a"
         self.crates = {"pt_c": "11", "pt_run": "22", "toolchain": "33"}
-        for path, text in {
+        files = {
             "bindings/c/pundewo.h": '#define PUNDEWO_VERSION "1.2.3"\n', "bindings/c/version.c": "version\n",
-            "bindings/build.sh": "build\n", "CHANGELOG.md": NOT_RELEASED, "docs/proved-files.txt": "# head\n1.2.2 libpundewo.a 00\n",
-            "built/include/pundewo.h": "header\n", "built/lib/libpundewo.a": "archive\n", "built/lib/libpundewo.so.1.2.3": "shared\n",
-            "libpt_c.a": "inner\n", **{f"crates/{name}/out/{name}{by}": f"{name}\n" for name in proved.PROGRAMS for by in ("", ".by-rattle")},
-        }.items():
+            "bindings/build.sh": "build\n", "CHANGELOG.md": NOT_RELEASED,
+            "docs/proved-files.txt": "# head\n1.2.2 libpundewo.a 00\n", "built/include/pundewo.h": "header\n",
+            "built/lib/libpundewo.a": "archive\n", "built/lib/libpundewo.so.1.2.3": "shared\n", "libpt_c.a": "inner\n",
+            **{f"crates/{name}/out/{name}{by}": f"{name}\n" for name in proved.PROGRAMS for by in ("", ".by-rattle")},
+        }
+        for path, text in files.items():
             self.write(path, text)
         proved.ROOT, proved.KEPT, proved.NOTE = root, root / "out/proved", root / "out/passed"
         proved.LISTED = root / "docs/proved-files.txt"

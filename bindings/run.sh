@@ -223,7 +223,7 @@ echo "rust: the telephone exchange passed"
         for level in 3.9 "$(python3 -c 'import sys; print("%d.%d" % sys.version_info[:2])')"; do
             mypy --strict --cache-dir=/dev/null --python-version "$level" pundewo build_wheel.py examples tests ../bad_clients.py
             MYPYPATH=..:../../.ci:../../tools mypy --strict --cache-dir=/dev/null --python-version "$level" ../abi.py \
-                ../abi_tests.py ../proved.py ../dist.py ../packages.py
+                ../abi_tests.py ../proved.py ../proved_tests.py ../dist.py ../packages.py
         done
     fi
     if python3 -m pyflakes --version >/dev/null 2>&1; then

@@ -89,7 +89,8 @@ def write_wheel(folder: str, modules: dict[str, bytes], where: tuple[str, ...]) 
     """Writes the wheel with these files into the folder, and returns its name."""
     version = package_version()
     info = f"pundewo-{version}.dist-info"
-    wheel = "Wheel-Version: 1.0\nGenerator: pundewo\nRoot-Is-Purelib: false\n" + "".join(f"Tag: py3-none-{it}\n" for it in where)
+    tags = "".join(f"Tag: py3-none-{it}\n" for it in where)
+    wheel = f"Wheel-Version: 1.0\nGenerator: pundewo\nRoot-Is-Purelib: false\n{tags}"
     files = {**modules, f"{info}/METADATA": metadata(version).encode(), f"{info}/WHEEL": wheel.encode()}
     files[f"{info}/RECORD"] = record(files, f"{info}/RECORD")
     name = f"pundewo-{version}-py3-none-{'.'.join(where)}.whl"
