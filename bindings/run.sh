@@ -26,7 +26,7 @@ needs() { # TOOL WHAT-FOR HOW
 }
 needs "$rt" "the archive" "it is the toolchain's own command"
 needs cc "the C examples" "apt-get install gcc libc6-dev"
-needs cargo "the Rust crate" "apt-get install cargo, or https://rustup.rs (1.85 or later)"
+needs cargo "the Rust crate" "apt-get install cargo, or https://rustup.rs (1.85 or later; 1.88 for the packages)"
 needs python3 "the Python module" "apt-get install python3 (3.9 or later)"
 if [ "$mode" = --gate ] || [ "$mode" = --tools ]; then
     needs make "the packages" "apt-get install make"
