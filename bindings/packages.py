@@ -31,7 +31,7 @@ C_FLAGS = "-std=c11 -D_GNU_SOURCE -O2 -Wall -Wextra -Werror -pthread"
 NEEDED = {
     "cc": "gcc", "c++": "g++", "make": "make", "pkg-config": "pkg-config", "cargo": "cargo", "rustc": "rustc", "dpkg": "dpkg",
     "dpkg-deb": "dpkg", "dpkg-shlibdeps": "dpkg-dev", "unshare": "util-linux", "nm": "binutils", "readelf": "binutils",
-    "sha256sum": "coreutils", "git": "git", "tar": "tar", "gzip": "gzip",
+    "sha256sum": "coreutils", "git": "git", "tar": "tar", "gzip": "gzip", "python3": "python3",
 }
 # A program of C++ that asks for the version first, as the header says.
 PLUS = """\
