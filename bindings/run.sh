@@ -207,6 +207,26 @@ chat=$CARGO_TARGET_DIR/debug/examples
 timeout 300 "$here/bad_clients.py" "$chat/chat" 0 "$work/bad.history"
 echo "rust: the chat server passed"
 
+# The line server of tokio under its load, over Debian's crate of it: connections die in calls, servers crash, nothing is lost
+debian=/usr/share/cargo/registry
+if ls -d "$debian"/tokio-1.* >/dev/null 2>&1; then
+    (
+        cd "$here/rust/tokio"
+        offline=(--offline --config 'source.crates-io.replace-with="debian"' --config "source.debian.directory=\"$debian\"")
+        if cargo fmt --version >/dev/null 2>&1; then
+            cargo fmt --check
+        fi
+        if cargo clippy --version >/dev/null 2>&1; then
+            cargo clippy -q "${offline[@]}" -- -D warnings
+        fi
+        cargo build -q "${offline[@]}"
+    )
+    "$here/../.ci/bounded" 120 "$CARGO_TARGET_DIR/debug/pundewo_lines" 100 100
+    echo "rust: the line server of tokio passed"
+else
+    echo "bindings: no tokio: the line server is not tried (apt-get install librust-tokio-dev)"
+fi
+
 # The telephone exchange: lines crash in calls and are started again, each partner hears of it, and its history is legal
 "$here/../.ci/bounded" 120 "$chat/exchange" "$work/exchange.history" 200 2>"$work/panics" || { tail -n 20 "$work/panics"; exit 1; }
 "$here/../bin/pt_audit" "$work/exchange.history"

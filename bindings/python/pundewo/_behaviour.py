@@ -173,8 +173,18 @@ class Unanswered(CallFault):
         return type(self), ()
 
 
+class InboxFull(Exception):
+    """A message was not sent: as many as may wait do (`Runtime(inbox=..)`)."""
+
+    def __init__(self) -> None:
+        super().__init__("the message is not sent: the inbox of the run is full")
+
+    def __reduce__(self) -> tuple[Any, ...]:
+        return type(self), ()
+
+
 class RunOver(CallFault):
-    """The run is over, or ends and takes nothing in any more."""
+    """The run is over, halted or drains, or ends and takes nothing in any more."""
 
     def __init__(self) -> None:
         super().__init__("the run is over")

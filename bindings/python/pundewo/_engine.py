@@ -5,6 +5,7 @@ from __future__ import annotations
 import logging
 import traceback
 from collections import deque
+from functools import partial
 from threading import get_ident
 from time import monotonic
 from typing import Any, Callable, Deque, Optional
@@ -47,15 +48,15 @@ class Engine(Sending):
         for desk in self.desks:
             desk.keep_losses()
         self.every, self.sink, self.patience = every, sink, patience
-        # the thread that runs the processes, once there is one
+        # the thread that runs the processes, once there is one; whether it stopped at an exception
         self.thread: Optional[int] = None
+        self.halted = False
         self.seats: dict[int, Seat] = {}
-        self.inbox: Deque[Task] = deque()
         # what each desk's processes are told in this round: as the library wrote it, and what was read of that
         self._rows = [(CJob * MOST)() for _ in self.desks]
         self._jobs: list[Deque[tuple[int, Job]]] = [deque() for _ in self.desks]
         self._answers: list[list[bytes]] = [[] for _ in self.desks]
-        self._untold = self._taken = False
+        self._untold = self._taken = self.goes_on = False
         # the numbers of the desks whose crews have not begun again
         self._stale: list[int] = []
         self._gathered: Optional[Gathered] = None
@@ -80,6 +81,9 @@ class Engine(Sending):
         """Whether this is the thread of the run."""
         return self.thread == get_ident()
 
+    def is_inside(self) -> bool:
+        return self._inside and self.thread == get_ident()
+
     def is_between(self) -> bool:
         """Whether this is the thread of the run, which is in no round, and nothing that came before is to be done first."""
         return not self._inside and not self.inbox and self.thread == get_ident()
@@ -92,7 +96,11 @@ class Engine(Sending):
     def ask(self, to: Address, value: Any, done: Callable[[Answer], None]) -> Call:
         """A call from outside. Whoever makes it waits as long as it likes, and then takes `give_up`."""
         call = Call(done)
-        self.post(lambda: self._begin_ask(call, to, value))
+        if self.halted or self.drains:
+            self._resolve(Answer(call, None, RunOver()))
+        else:
+            self._outside.add(call)
+            self.post(lambda: self._begin_ask(call, to, value))
         return call
 
     def give_up(self, call: Call) -> None:
@@ -119,6 +127,41 @@ class Engine(Sending):
         if call.done is not None:
             call.done(answer)
 
+    def drain(self, limit: float) -> None:
+        """Takes nothing new in, and ends the run when all that waits is handled, or the time is over."""
+        if self.order != GO_ON or self.drains:
+            return
+        self.drains = True
+        self.tell_room(True)
+
+        def late() -> None:
+            if self.order == GO_ON:
+                self.drained = False
+                self.end(STOP)
+
+        self.set_alarm(limit, late)
+
+    def end_epoch(self) -> None:
+        """Goes on at the end of this round."""
+        self.goes_on = True
+
+    def _is_drained(self) -> bool:
+        """Whether all that waits is handled, after a round in which nothing was to be done, and no call is open."""
+        return not self.inbox and not self._outside and not any(seat.calls for seat in self.seats.values())
+
+    def halt(self, error: BaseException) -> None:
+        """The run stops at an exception, and those outside who wait for it are told so. It may go on."""
+        if self.order == OVER:
+            return
+        self.halted = True
+        if isinstance(error, Exception):
+            log.error("the run halted: %s", "".join(traceback.format_exception_only(type(error), error)).strip())
+        for call in list(self._outside):
+            self._resolve(Answer(call, None, RunOver()))
+            # (what was asked is asked all the same if the run goes on, and nothing comes of it)
+            self.inbox.append(partial(self.close, call))
+        self.tell_room(True)
+
     def end(self, order: int) -> None:
         """Has all processes exit, or be killed, now and from now on."""
         if order > self.order:
@@ -143,10 +186,18 @@ class Engine(Sending):
             for _ in range(dropped):
                 self._tell_dropped(self._dropped[0])
                 del self._dropped[0]
-            if any(desk.event_count() > self.every for desk in self.desks):
+            if self.goes_on or any(desk.event_count() > self.every for desk in self.desks):
+                self.goes_on = False
                 self._go_on()
                 busy = True
-            return busy or bool(self.inbox)
+            if self._turns:
+                self.tell_room()
+            busy |= bool(self.inbox)
+            if self.drains and self.order == GO_ON and not busy and self._is_drained():
+                self.drained = True
+                self.end(STOP)
+                busy = True
+            return busy
         finally:
             self._inside = False
 
@@ -171,6 +222,7 @@ class Engine(Sending):
     def abandon(self) -> None:
         """Ends the run as it is: nothing is handed out any more."""
         self.order = OVER
+        self.tell_room(True)
         for seat in list(self.seats.values()):
             self._leave(seat, KILL)
         for call in list(self._outside):
@@ -384,6 +436,9 @@ class Engine(Sending):
     def _leave(self, seat: Seat, why: Reason) -> None:
         """A process has exited: all that it had goes."""
         del self.seats[seat.tag], self.pids[seat.pid]
+        for name in seat.names:
+            if self.names.get(name) == seat.cx.me:
+                del self.names[name]
         if seat.behaviour._ends_children:
             # (those that it has not ended are told themselves)
             self._untold = True

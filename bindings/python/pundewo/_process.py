@@ -12,7 +12,7 @@ from . import Next as Does
 from ._abi import CAnswer, CPid
 from ._library import c_next
 from ._behaviour import (
-    GO_ON, MESSAGE, OVER, Alarm, Answer, Behaviour, Call, CallTimeout, Down, Event, Request, RunOver, seconds,
+    GO_ON, MESSAGE, OVER, Alarm, Answer, Behaviour, Call, CallTimeout, Down, Event, InboxFull, Request, RunOver, seconds,
 )
 from .values import ANY, NOPROC, SHUTDOWN, Pid, Reason, Ref, flag, number, of_type
 
@@ -45,9 +45,45 @@ class Address:
 
     def send(self, value: Any) -> bool:
         """Sends a message from any thread. What one thread sends comes in order. It returns False, and the message is
-        dropped, if the process is known to have exited. In a behaviour take `Context.send`."""
+        dropped, if the process is known to have exited, or if the run is over or drains. In a behaviour take `Context.send`.
+
+        If as many messages wait as may (`Runtime(inbox=..)`), it waits for room, but not on the thread of the run.
+        """
         engine = self._engine
-        if not self.is_alive() or engine.order == OVER:
+        if engine.most is None or engine.thread == get_ident() or self._is_closed() or engine.has_room():
+            return self._send(value)
+        turn = engine.take_turn()
+        try:
+            return turn.result() and self._send(value)
+        finally:
+            engine.leave_turn(turn)
+
+    def try_send(self, value: Any) -> bool:
+        """The same, but it never waits. InboxFull if as many messages wait as may, or others wait for room."""
+        if not self._is_closed() and not self._engine.has_room():
+            raise InboxFull
+        return self._send(value)
+
+    async def send_async(self, value: Any) -> bool:
+        """The same for an asyncio program of any thread, which waits for room."""
+        engine = self._engine
+        if self._is_closed() or engine.has_room():
+            return self._send(value)
+        turn = engine.take_turn()
+        try:
+            # (a task that is cancelled leaves the turn as it is)
+            return await asyncio.shield(asyncio.wrap_future(turn)) and self._send(value)
+        finally:
+            engine.leave_turn(turn)
+
+    def _is_closed(self) -> bool:
+        """Whether what is sent from outside is dropped."""
+        engine = self._engine
+        return self.pid not in engine.pids or engine.order == OVER or engine.drains and not engine.is_inside()
+
+    def _send(self, value: Any) -> bool:
+        engine = self._engine
+        if self.pid not in engine.pids or engine.order == OVER or engine.drains and not engine.is_inside():
             return False
         if engine.is_between():
             try:
@@ -116,7 +152,7 @@ WAITS = bytes_of("wait", pick=ANY)
 class Seat:
     """A process with its behaviour."""
 
-    __slots__ = ("pid", "tag", "behaviour", "cx", "calls", "texts", "does", "told", "crossing")
+    __slots__ = ("pid", "tag", "behaviour", "cx", "calls", "texts", "does", "told", "crossing", "names")
 
     def __init__(self, engine: Engine, address: Address, tag: int, behaviour: Behaviour, parent: Optional[Pid]):
         self.pid, self.tag, self.behaviour = address.pid, tag, behaviour
@@ -127,6 +163,8 @@ class Seat:
         # what it was to do when it was told something
         self.does = WAITS
         self.told = GO_ON
+        # the names that it was given
+        self.names: list[str] = []
         # its pid, as an answer to a crew begins with it
         self.crossing = bytes(address._crossing).ljust(CAnswer.next.offset, b"\0")
 
@@ -212,6 +250,18 @@ class Context:
         run's."""
         engine = self._here()
         return of_type("timer", timer, Timer)._engine is engine and engine.cancel_alarm(timer._alarm)
+
+    def waiting(self) -> int:
+        """How many items wait for this process."""
+        return len(self._here().desks[self.pid.shard].waiting(self.pid) or ())
+
+    def register(self, name: str, process: Optional[Address] = None) -> bool:
+        """Gives a process, or this one, a name, as `Runtime.register` does."""
+        return self._here().register(name, self.me if process is None else process)
+
+    def whereis(self, name: str) -> Optional[Address]:
+        """The process that has this name, as `Runtime.whereis`."""
+        return self._here().whereis(name)
 
     def spawn(self, behaviour: Behaviour, linked: bool = False) -> Address:
         """Spawns a child on the same desk, which is linked with this process from the first if `linked` is set.

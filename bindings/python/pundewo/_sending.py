@@ -2,10 +2,13 @@
 
 from __future__ import annotations
 
+import concurrent.futures
 import heapq
 import logging
+import threading
+from collections import deque
 from time import monotonic
-from typing import Any, Callable, Optional
+from typing import Any, Callable, Deque, Optional
 
 from . import Code, Desk, Fault
 from ._behaviour import (
@@ -19,6 +22,9 @@ from .values import NOPROC, U8, U32, Pid, Ref, of_type
 log = logging.getLogger("pundewo")
 
 Task = Callable[[], object]
+
+# The turn of one who waits for room: True if there is some, False if the run is over, halts, or drains.
+Turn = concurrent.futures.Future[bool]
 
 # After how many seconds a handler holds up the run: it is named to those whose time is over, and it is logged.
 HOLDS, SLOW = 0.1, 1.0
@@ -56,10 +62,63 @@ class Sending:
         self._warned = 0.0
         # what is sent next, as the library takes it
         self._body = CBody()
+        # what those outside have posted, and nobody has done yet
+        self.inbox: Deque[Task] = deque()
+        # the processes that have a name
+        self.names: dict[str, Address] = {}
+        # nothing new comes in, so that the run comes to its end: whether all was handled, once that is known
+        self.drains = False
+        self.drained: Optional[bool] = None
+        # how many messages may wait, who waits for room, and how many were told that there is some
+        self.most: Optional[int] = None
+        self.room = threading.Lock()
+        self._turns: Deque[Turn] = deque()
+        self._told = 0
 
     def post(self, task: Task) -> None:
         """Has the thread of the run do this, soon."""
         raise NotImplementedError
+
+    # Room for what comes from outside, on any thread
+
+    def waiting(self) -> int:
+        """How many messages nobody has taken yet. (with what else those outside want)"""
+        return len(self.payloads) + len(self.inbox)
+
+    def has_room(self) -> bool:
+        return self.most is None or self.waiting() + self._told + len(self._turns) < self.most
+
+    def take_turn(self) -> Turn:
+        """What is done when there is room, or the run takes nothing in any more. It is to be left."""
+        turn: Turn = concurrent.futures.Future()
+        with self.room:
+            if self.order == OVER or self.drains:
+                turn.set_result(False)
+            else:
+                self._turns.append(turn)
+        # (the room may be there since it was looked for)
+        self.ring()
+        return turn
+
+    def leave_turn(self, turn: Turn) -> None:
+        """The one who waited has sent its message, or does not want to any more."""
+        with self.room:
+            if turn in self._turns:
+                self._turns.remove(turn)
+            elif turn.done() and turn.result():
+                self._told -= 1
+        if self._turns:
+            self.ring()
+
+    def tell_room(self, shut: bool = False) -> None:
+        """Tells those who wait that there is room, the first one first, or that there will be none."""
+        while self._turns:
+            with self.room:
+                if not self._turns or not shut and self.most is not None and self.waiting() + self._told >= self.most:
+                    return
+                turn = self._turns.popleft()
+                self._told += not shut
+                turn.set_result(not shut)
 
     def carry(self, kind: int, sender: Address, to: Address, value: Any) -> bool:
         """Sends a value in the name of a process. It returns False, and the value is dropped, if the receiver is known to
@@ -77,6 +136,34 @@ class Sending:
             raise
         if not self._inside:
             self.ring()
+        return True
+
+    def is_inside(self) -> bool:
+        """Whether this is the thread of the run, in a round."""
+        raise NotImplementedError
+
+    # Names
+
+    def register(self, name: str, process: Address) -> bool:
+        """Gives a process a name; False if a live process has it, or this one has exited."""
+        of_type("name", name, str)
+        seat = self.pids.get(self.own("process", process).pid)
+        if seat is None or self.whereis(name) is not None:
+            return False
+        self.names[name] = process
+        seat.names.append(name)
+        return True
+
+    def whereis(self, name: str) -> Optional[Address]:
+        process = self.names.get(of_type("name", name, str))
+        return process if process is not None and process.is_alive() else None
+
+    def unregister(self, name: str) -> bool:
+        process = self.names.pop(of_type("name", name, str), None)
+        seat = None if process is None else self.pids.get(process.pid)
+        if seat is None:
+            return False
+        seat.names.remove(name)
         return True
 
     def is_porter(self, pid: Pid) -> bool:

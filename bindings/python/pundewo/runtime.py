@@ -44,7 +44,7 @@ from . import Config
 from ._archive import HistoryFile, Sink
 from ._behaviour import (
     ANSWER, CRASH, GO_ON, KILLS, MESSAGE, OVER, PROCEED, REQUEST, STOP, TIMEOUT, Answer, Behaviour, Call, CallFault,
-    CallTimeout, Down, Event, Exit, Holder, Message, Next, Request, RunOver, ServerDown, SpawnTimeout, Tick, Unanswered,
+    CallTimeout, Down, Event, Exit, Holder, InboxFull, Message, Next, Request, RunOver, ServerDown, SpawnTimeout, Tick, Unanswered,
     behaviour_of, held_up, seconds,
 )
 from ._engine import Engine
@@ -52,12 +52,12 @@ from ._process import Address, Context, Timer
 from ._supervisor import (
     BRUTAL_KILL, INFINITY, WHICH_CHILDREN, Child, DeleteChild, RestartChild, StartChild, Supervisor, TerminateChild,
 )
-from .values import NORMAL, U8, U64, Pid, Reason, flag, number, of_type
+from .values import NORMAL, SHUTDOWN, U8, U64, Pid, Reason, flag, number, of_type
 
 __all__ = [
     "ANSWER", "BRUTAL_KILL", "CRASH", "INFINITY", "MESSAGE", "PROCEED", "REQUEST", "TIMEOUT", "WHICH_CHILDREN", "Address",
     "Answer", "Behaviour", "Call", "CallFault", "CallTimeout", "Child", "Context", "DeleteChild", "Down", "Event", "Exit",
-    "HistoryFile", "Holder", "Mailbox", "Message", "Next", "NotEnded", "Request", "RestartChild", "RunOver", "Runtime",
+    "HistoryFile", "Holder", "InboxFull", "Mailbox", "Message", "Next", "NotEnded", "Request", "RestartChild", "RunOver", "Runtime",
     "ServerDown", "Sink", "SpawnTimeout", "StartChild", "Summary", "Supervisor", "TerminateChild", "Tick", "Timer",
     "Unanswered",
 ]
@@ -107,18 +107,21 @@ class Runtime:
     """A node whose processes run on one thread: that of an asyncio program (`async with`), or the one that calls `run`.
 
     `desks` is 1 to 64, and `slots` how many processes each desk has at most at a time. The run goes on once a journal has
-    more than `going_on_every` events. `archive` takes the history of each epoch. When the run is stopped, each process gets
+    more than `going_on_every` events. `inbox` is how many messages may wait before those outside wait for room: without it
+    there is no bound. `archive` takes the history of each epoch. When the run is stopped, each process gets
     the exit signal SHUTDOWN, and those that have not exited `patience` seconds later are killed.
     """
 
     def __init__(self, desks: int = 1, *, slots: int = 1023, lane: int = 64, going_on_every: int = 20_000,
-                 archive: Optional[Sink] = None, patience: float = 5.0):
+                 archive: Optional[Sink] = None, patience: float = 5.0, inbox: Optional[int] = None):
         if archive is not None and not callable(archive):
             raise TypeError(f"archive is {archive!r}, and must be callable with a History")
         desks, every = number("desks", desks, 0, U8), number("going_on_every", going_on_every, 1, U64)
+        most = None if inbox is None else number("inbox", inbox, 1, U64)
         # (each desk has one process more, which sends what comes from outside)
         config = Config(slots=number("slots", slots, 1, 65_535) + 1, lane=lane)
         self._engine = Engine(desks, config, every, archive, seconds("patience", patience))
+        self._engine.most = most
         self._lock = threading.RLock()
         self._over = threading.Event()
         self._task: Optional[asyncio.Task[None]] = None
@@ -140,11 +143,12 @@ class Runtime:
         behaviour_of(behaviour)
         limit = seconds("limit", limit)
         place = number("desk", self._next_desk if desk is None else desk, 0, count - 1)
+        is_inside = engine.is_inside()
         if desk is None:
             self._next_desk = (place + 1) % count
 
         def spawn() -> Address:
-            if engine.order != GO_ON:
+            if engine.order != GO_ON or engine.drains and not is_inside:
                 raise RunOver
             address = engine.spawn(behaviour, place)
             engine.touch()
@@ -209,6 +213,59 @@ class Runtime:
         """Has all processes exit, and then the run end. It may be called on any thread, and waits for nothing."""
         self._engine.post(lambda: self._engine.end(STOP))
 
+    def drain(self, limit: float = 30.0) -> None:
+        """Has the run take nothing new in, handle all that waits, and then end, as `stop` does: so after so many seconds at
+        the latest. It may be called on any thread, and waits for nothing.
+
+        Messages, calls and spawns from outside are refused from then on. What processes send each other is handled, and so is
+        an answer from outside. All is handled when nothing is to be done and no call is open; an alarm that is to come
+        later is not waited for. `is_drained` says whether all was.
+        """
+        limit = seconds("limit", limit)
+        self._engine.post(lambda: self._engine.drain(limit))
+
+    def is_drained(self) -> Optional[bool]:
+        """Whether all that waited was handled, as the run was drained; None if it was not, or not yet."""
+        return self._engine.drained
+
+    def exit(self, process: Address, reason: Reason = SHUTDOWN) -> None:
+        """Sends an exit signal from any thread: Erlang's `exit/2`. It is nothing to a process that has exited. KILL ends any
+        process."""
+        engine, pid = self._engine, self._engine.own("process", process).pid
+        of_type("reason", reason, Reason)
+        if engine.is_porter(pid):
+            raise ValueError(f"process is {pid}, which sends what comes from outside, and does not exit")
+
+        def signal() -> None:
+            if engine.order != OVER:
+                engine.desks[pid.shard].exit_signal(engine.porters[pid.shard].pid, pid, reason)
+                engine.touch()
+
+        engine.post(signal)
+
+    def go_on(self) -> None:
+        """Ends the epoch soon, from any thread: its history is handed out, and the journals are emptied. It waits for
+        nothing."""
+        self._engine.post(self._engine.end_epoch)
+
+    def register(self, name: str, process: Address) -> bool:
+        """Gives a process a name, from any thread: Erlang's `register`. It has it until it exits. False, and nothing changes,
+        if a live process has the name, or if this one has exited.
+
+        A child that registers itself as it starts (`Context.register`) has its name also when it is started again.
+        """
+        with self._engine.room:
+            return self._engine.register(name, process)
+
+    def whereis(self, name: str) -> Optional[Address]:
+        """The process that has this name, or None."""
+        return self._engine.whereis(name)
+
+    def unregister(self, name: str) -> bool:
+        """Takes a name from its process. False if no live process has it."""
+        with self._engine.room:
+            return self._engine.unregister(name)
+
     def wait(self, limit: Optional[float] = None) -> Summary:
         """Waits on another thread until the run is over. NotEnded if it is not after so many seconds, with the process whose
         handler is running then."""
@@ -221,7 +278,7 @@ class Runtime:
 
     def waiting(self) -> int:
         """How many messages nobody has taken yet. (with what else those outside want)"""
-        return len(self._engine.payloads) + len(self._engine.inbox)
+        return self._engine.waiting()
 
     def summary(self) -> Summary:
         """What the run was until now."""
@@ -258,6 +315,9 @@ class Runtime:
                         if not is_rung:
                             rung.wait(engine.rest_time())
                         is_rung = False
+        except BaseException as error:
+            engine.halt(error)
+            raise
         finally:
             engine.thread = None
 
@@ -268,6 +328,7 @@ class Runtime:
             if self._engine.thread is not None:
                 raise RuntimeError("this run is running")
             self._engine.thread, self._engine.ring = threading.get_ident(), ring
+            self._engine.halted = False
 
     def _is_done(self, forever: bool) -> bool:
         engine = self._engine
@@ -341,6 +402,9 @@ class Runtime:
                     if alarm is not None:
                         alarm.cancel()
                 rung.clear()
+        except BaseException as error:
+            engine.halt(error)
+            raise
         finally:
             if engine.order != OVER:
                 engine.abandon()

@@ -247,6 +247,7 @@ class Handlers(unittest.TestCase):
             gc.enable()
         self.assertEqual(gone, [1, 1, 1, 0])
 
+    @quiet
     def test_a_run_without_memory_halts_and_goes_on(self) -> None:
         got: list[Any] = []
 
@@ -358,6 +359,7 @@ class Epochs(unittest.TestCase):
             self.assertGreater(len(lines), 1200)
             audit(self, file)
 
+    @quiet
     def test_a_sink_that_fails_halts_the_run_and_loses_nothing(self) -> None:
         handed: list[list[int]] = []
         fails = [True]
@@ -386,6 +388,7 @@ class Epochs(unittest.TestCase):
         self.assertEqual(stamps, sorted(set(stamps)))
         self.assertEqual((summary.epochs, summary.archived), (len(handed), len(stamps)))
 
+    @quiet
     @in_asyncio
     async def test_a_sink_that_fails_under_asyncio_is_told(self) -> None:
         def sink(history: Any) -> None:
@@ -398,6 +401,7 @@ class Epochs(unittest.TestCase):
                     for number in range(20):
                         await echo.call(number)
 
+    @quiet
     @in_asyncio
     async def test_an_asyncio_program_waits_for_the_end(self) -> None:
         with self.assertRaises(RuntimeError):

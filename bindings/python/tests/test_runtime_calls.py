@@ -99,7 +99,7 @@ DESK, MAYBE_DESK, ANY_DESK = Ints(0, 1), Option(Ints(0, 1)), Option(Ints(0, 255)
 BEHAVIOUR, MAKE, NAME = Things(Echo, r.TIMEOUT), Callables(), Things(but=str)
 ANY_ADDRESS, ADDRESS = Things(p.Pid(0, 0, 1)), Things(p.Pid(0, 0, 1), elsewhere)
 TARGET, TIMER, REQUEST, RUN = Things(elsewhere), Things(7), Things(r.Call), Things(r.Runtime)
-SINK, PATH = Option(Callables()), Paths()
+SINK, PATH, BOUND, MAYBE_ADDRESS = Option(Callables()), Paths(), Option(Ints(1, 2**64 - 1)), Option(ADDRESS)
 STRATEGY, RESTART = Only("one_for_one", "one_for_all", "rest_for_one"), Only("permanent", "transient", "temporary")
 CHILD = {"make": MAKE, "name": NAME, "desk": ANY_DESK, "shutdown": Option(Ends())}
 CALL: dict[str, Domain] = {"to": ADDRESS, "value": VALUE, "limit": SECONDS}
@@ -108,19 +108,25 @@ CALL: dict[str, Domain] = {"to": ADDRESS, "value": VALUE, "limit": SECONDS}
 CALLS: dict[str, dict[str, dict[str, Domain]]] = {
     "Runtime": {
         "": {"desks": Ints(0, 255), "slots": Ints(1, 65_535), "lane": WORD, "going_on_every": Ints(1, 2**64 - 1), "archive": SINK,
-             "patience": SECONDS},
+             "patience": SECONDS, "inbox": BOUND},
         "spawn": {"behaviour": BEHAVIOUR, "desk": MAYBE_DESK, "limit": SECONDS}, "call": CALL,
         "mailbox": {"desk": MAYBE_DESK}, "wait": {"limit": MAYBE_SECONDS}, "run": {"forever": FLAG},
-        "stop": {}, "waiting": {}, "summary": {}, "close": {}, "ended": {},
+        "stop": {}, "waiting": {}, "summary": {}, "close": {}, "ended": {}, "drain": {"limit": SECONDS}, "is_drained": {}, "go_on": {},
+        "exit": {"process": ADDRESS, "reason": REASON}, "register": {"name": NAME, "process": ADDRESS},
+        "whereis": {"name": NAME}, "unregister": {"name": NAME},
     },
-    "Address": {"is_alive": {}, "send": {"value": VALUE}, "call": {"value": VALUE, "limit": SECONDS}},
+    "Address": {
+        "is_alive": {}, "send": {"value": VALUE}, "try_send": {"value": VALUE}, "send_async": {"value": VALUE},
+        "call": {"value": VALUE, "limit": SECONDS},
+    },
     "Context": {
         "send": {"to": ANY_ADDRESS, "value": VALUE}, "send_after": {"time": SECONDS, "to": ANY_ADDRESS, "value": VALUE},
         "cancel": {"timer": TIMER}, "spawn": {"behaviour": BEHAVIOUR, "linked": FLAG},
         "spawn_on": {"desk": DESK, "behaviour": BEHAVIOUR, "linked": FLAG}, "monitor": {"target": TARGET},
         "demonitor": {"monitor": REF}, "link": {"to": TARGET}, "unlink": {"to": TARGET},
         "exit": {"to": TARGET, "reason": REASON}, "trap": {"on": FLAG}, "call": CALL,
-        "reply": {"request": REQUEST, "value": VALUE}, "now": {},
+        "reply": {"request": REQUEST, "value": VALUE}, "now": {}, "waiting": {},
+        "register": {"name": NAME, "process": MAYBE_ADDRESS}, "whereis": {"name": NAME},
     },
     "Mailbox": {"": {"runtime": RUN, "desk": MAYBE_DESK}, "get": {"limit": MAYBE_SECONDS}, "monitor": {"target": ADDRESS},
                 "close": {}},
@@ -138,8 +144,8 @@ CALLS: dict[str, dict[str, dict[str, Domain]]] = {
     "HistoryFile": {"": {"path": PATH}}, "Request": {"reply": {"value": VALUE}}, "Answer": {"result": {}},
 }
 # What the run makes and a program reads, and what a program writes itself.
-READ = {"Call", "CallFault", "CallTimeout", "Child", "Down", "Exit", "Holder", "Message", "NotEnded", "RunOver", "ServerDown",
-        "SpawnTimeout", "Summary", "Tick", "Timer", "Unanswered"}
+READ = {"Call", "CallFault", "CallTimeout", "Child", "Down", "Exit", "Holder", "InboxFull", "Message", "NotEnded", "RunOver",
+        "ServerDown", "SpawnTimeout", "Summary", "Tick", "Timer", "Unanswered"}
 WRITTEN = {"Behaviour"}
 
 
@@ -196,7 +202,7 @@ class Case:
     def good(self, words: dict[str, Domain]) -> dict[str, Any]:
         values: dict[Domain, Any] = {
             FLAG: True, VALUE: 1, SECONDS: 1.0, MAYBE_SECONDS: 1.0, DESK: 1, MAYBE_DESK: 1, ANY_DESK: 1, BEHAVIOUR: Echo(),
-            MAKE: Echo, NAME: "name", ANY_ADDRESS: self.child, ADDRESS: self.child, TARGET: self.child, TIMER: self.timer,
+            MAKE: Echo, NAME: "name", ANY_ADDRESS: self.child, ADDRESS: self.child, MAYBE_ADDRESS: self.child, TARGET: self.child, TIMER: self.timer,
             REQUEST: self.request, RUN: self.run, SINK: self.file, PATH: self.file.path, REF: self.monitor,
             REASON: p.Reason("other", 3), PICK: p.ANY, WORD: 8}
         return {word: values[domain] if domain in values else domain.bounds()[-1] for word, domain in words.items()}
@@ -207,7 +213,7 @@ class Case:
         desks = [(desk.clock(), desk.event_count(), desk.pending(), desk.vacant()) for desk in engine.desks]
         return [desks, list(engine.seats), list(engine.pids), list(engine.payloads), list(engine._alarms), list(engine._times),
                 len(engine.inbox), engine._number, engine.order, self.run.summary(), self.run._next_desk, len(self.mailbox._waiting),
-                self.request._call is None, os.path.getsize(self.file.path)]
+                dict(engine.names), engine.drains, self.request._call is None, os.path.getsize(self.file.path)]
 
 
 class Calls(unittest.TestCase):
@@ -249,7 +255,8 @@ class Calls(unittest.TestCase):
             self.assertEqual(await case.other.call(3), ("echo", 3))
 
     def test_what_is_in_range_is_taken(self) -> None:
-        for field, domain in (("patience", SECONDS), ("slots", Ints(1, 65_535)), ("going_on_every", Ints(1, 2**64 - 1))):
+        for field, domain in (("patience", SECONDS), ("slots", Ints(1, 65_535)), ("going_on_every", Ints(1, 2**64 - 1)),
+                              ("inbox", BOUND)):
             for value in domain.bounds():
                 settings: dict[str, Any] = {field: value}
                 r.Runtime(**settings).close()

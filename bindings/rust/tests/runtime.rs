@@ -255,8 +255,9 @@ fn calls_from_outside_end_once() -> Result<(), Error> {
     assert_eq!(runtime.call(&server, LONG, |reply| Asked::Elsewhere(4, reply)), Ok(8));
     assert_eq!(runtime.call(&server, Duration::from_millis(20), Asked::Never), Err(CallFault::Timeout(None)));
     assert_eq!(runtime.call(&server, LONG, Asked::Drop), Err(CallFault::Dropped));
-    assert_eq!(runtime.call(&server, LONG, Asked::Crash), Err(CallFault::Dropped));
-    assert_eq!(runtime.call(&server, LONG, |reply| Asked::Double(21, reply)), Err(CallFault::Dropped));
+    assert_eq!(runtime.call(&server, LONG, Asked::Crash), Err(CallFault::Down(PANIC, Some("asked to".into()))));
+    let exited = CallFault::Down(Reason::Noproc, None);
+    assert_eq!(runtime.call(&server, LONG, |reply| Asked::Double(21, reply)), Err(exited));
     runtime.stop()?;
     Ok(())
 }
@@ -572,7 +573,8 @@ fn nothing_comes_in_once_a_run_is_over() -> Result<(), Error> {
     runtime.stop()?;
     assert!(!listener.send(7) && heard.recv().is_err());
     assert_eq!(handle.spawn(acts::<(), _>(|_, _| Next::DONE)).err(), Some(SpawnFault::Over));
-    assert_eq!(handle.call(&listener, LONG, |_: Reply<u8>| 7), Err(CallFault::Dropped));
+    let exited = CallFault::Down(Reason::Noproc, None);
+    assert_eq!(handle.call(&listener, LONG, |_: Reply<u8>| 7), Err(exited));
     assert_eq!(handle.exit(&listener, Reason::Kill), Ok(()));
     assert!(handle.is_over());
     Ok(())

@@ -25,11 +25,69 @@ pub trait Behaviour: Sized + Send + 'static {
     /// It is told this, and says what it does next.
     fn handle(&mut self, cx: &mut Context<'_, Self::Message>, event: Event<Self::Message>) -> Next;
 
+    /// How many messages may wait for it, and what happens if one more comes. It is asked once, as the process is spawned.
+    ///
+    /// ```
+    /// use pundewo::runtime::{Behaviour, Bound, Context, Event, Next, Runtime};
+    /// use std::time::Duration;
+    ///
+    /// /// Shows the newest of many pictures.
+    /// struct Screen {
+    ///     lost: u32,
+    /// }
+    ///
+    /// impl Behaviour for Screen {
+    ///     type Message = Vec<u8>;
+    ///
+    ///     fn handle(&mut self, _: &mut Context<'_, Vec<u8>>, event: Event<Vec<u8>>) -> Next {
+    ///         match event {
+    ///             Event::Message(picture) => assert_eq!(picture.len(), 640),
+    ///             Event::Lost => self.lost += 1,
+    ///             _ => {}
+    ///         }
+    ///         Next::Wait
+    ///     }
+    ///
+    ///     fn most_waiting(&self) -> Bound {
+    ///         Bound::DropOldest(8)
+    ///     }
+    /// }
+    ///
+    /// let runtime = Runtime::builder().desks(1).start()?;
+    /// let screen = runtime.spawn(Screen { lost: 0 })?;
+    /// for _ in 0..1_000 {
+    ///     assert!(screen.send(vec![0; 640]) && screen.waiting() <= 8);
+    /// }
+    /// assert_eq!(runtime.drain(Duration::from_secs(60))?.panics, 0);
+    /// # Ok::<(), Box<dyn std::error::Error>>(())
+    /// ```
+    fn most_waiting(&self) -> Bound {
+        Bound::None
+    }
+
     /// The process has exited, in whatever way, with this reason: that of [`Next::Stop`], [`PANIC`](super::PANIC), or that
     /// which the exit signal gave that ended it.
     fn ended(self, why: Reason) {
         let _ = why;
     }
+}
+
+/// How many messages may wait for a process, and what happens if one more comes: what [`Behaviour::most_waiting`] returns. Only
+/// messages count, from outside and from behaviours, and no other news.
+#[derive(Clone, Copy, Debug, Default, PartialEq, Eq, Hash)]
+#[non_exhaustive]
+pub enum Bound {
+    /// There is none.
+    #[default]
+    None,
+    /// So many wait, and one more is refused: [`Address::send`](super::Address::send) and
+    /// [`Context::send`](super::Context::send) return `false`, `try_send` fails with
+    /// [`SendFault::Full`](super::SendFault::Full), and a call with [`CallFault::Dropped`](super::CallFault::Dropped).
+    Refuse(usize),
+    /// So many wait, and the oldest is dropped for one more. The process gets [`Event::Lost`] in its place.
+    DropOldest(usize),
+    /// So many may wait, and with one more the process crashes, as if its handler had panicked.
+    Crash(usize),
 }
 
 /// What a process is told.
@@ -48,6 +106,8 @@ pub enum Event<M> {
     Timeout,
     /// It proceeds, as it said.
     Proceed,
+    /// A message was dropped, since too many waited: see [`Bound::DropOldest`].
+    Lost,
 }
 
 /// The one news of a monitor.

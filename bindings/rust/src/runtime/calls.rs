@@ -1,7 +1,8 @@
 //! Requests with answers.
 
 use super::ANSWER;
-use super::hub::Hub;
+use super::asked::{Asked, request_dropped};
+use super::hub::{Hub, Origin};
 use super::payloads::{Given, Slot};
 use super::timing::Key;
 use crate::{Fault, Pid, Reason, Ref};
@@ -11,20 +12,22 @@ use std::fmt;
 use std::marker::PhantomData;
 use std::sync::Arc;
 use std::sync::atomic::{AtomicI64, Ordering::Relaxed};
-use std::sync::mpsc::SyncSender;
 
 /// Why a call has no answer.
 #[derive(Clone, Debug, PartialEq, Eq, Hash)]
 #[non_exhaustive]
 pub enum CallFault {
-    /// The server exited for this reason, with the text of its panic if that is how it exited.
+    /// The server exited for this reason, with the text of its panic if that is how it exited. If it had exited before a call
+    /// from outside, the reason is [`Reason::Noproc`].
     Down(Reason, Option<Arc<str>>),
     /// There was no answer in time: the process whose handler was running on the server's desk then, if one was, and the
     /// name of the type of its behaviour. It may be the server. There is none to name if the server waits itself, or is on
     /// the desk of the process that asked.
     Timeout(Option<(Pid, &'static str)>),
-    /// The request was dropped unanswered: its [`Reply`] was, or the server had exited.
+    /// The request was dropped unanswered: its [`Reply`] was.
     Dropped,
+    /// The run is over, drains, or has halted: nobody answers. If a halted run goes on, what was asked is asked all the same.
+    Over,
     /// The address is of another run than the one that was to call. Nothing was asked.
     OtherRun,
 }
@@ -39,6 +42,7 @@ impl fmt::Display for CallFault {
             }
             CallFault::Timeout(None) => f.write_str("there was no answer in time"),
             CallFault::Dropped => f.write_str("the request was dropped unanswered"),
+            CallFault::Over => f.write_str("the run is over, or has halted"),
             CallFault::OtherRun => Fault::OtherRun.fmt(f),
         }
     }
@@ -116,7 +120,7 @@ pub struct Reply<R: Send + 'static> {
 
 enum To<R> {
     Process { slot: Arc<dyn Slot>, hub: Arc<Hub>, call: i64 },
-    Thread(SyncSender<R>),
+    Outside(Arc<Asked<R>>),
 }
 
 impl<R: Send + 'static> Reply<R> {
@@ -124,15 +128,15 @@ impl<R: Send + 'static> Reply<R> {
         Reply { to: Some(To::Process { slot, hub, call }) }
     }
 
-    pub(crate) fn to_thread(thread: SyncSender<R>) -> Reply<R> {
-        Reply { to: Some(To::Thread(thread)) }
+    pub(crate) fn to_outside(asked: Arc<Asked<R>>) -> Reply<R> {
+        Reply { to: Some(To::Outside(asked)) }
     }
 
     /// Answers from outside, from any thread. In a behaviour take [`Context::reply`](super::Context::reply): then the
     /// answer comes after all that the server has sent the client, and before the news of its exit.
     pub fn send(mut self, value: R) {
         if let Some((slot, hub, call)) = self.put(value) {
-            hub.post(slot.pid(), ANSWER, call);
+            hub.post(slot.pid(), ANSWER, call, Origin::Run);
         }
     }
 
@@ -143,8 +147,8 @@ impl<R: Send + 'static> Reply<R> {
                 let value: Box<dyn Any + Send> = Box::new(value);
                 slot.put_answer(call, Ok(value)).then_some((slot, hub, call))
             }
-            To::Thread(thread) => {
-                let _ = thread.send(value);
+            To::Outside(asked) => {
+                asked.end(Ok(value));
                 None
             }
         }
@@ -153,9 +157,12 @@ impl<R: Send + 'static> Reply<R> {
 
 impl<R: Send + 'static> Drop for Reply<R> {
     fn drop(&mut self) {
-        let Some(To::Process { slot, hub, call }) = self.to.take() else { return };
-        if slot.put_answer(call, Err(CallFault::Dropped)) {
-            hub.post(slot.pid(), ANSWER, call);
+        match self.to.take() {
+            Some(To::Process { slot, hub, call }) if slot.put_answer(call, Err(CallFault::Dropped)) => {
+                hub.post(slot.pid(), ANSWER, call, Origin::Run);
+            }
+            Some(To::Outside(asked)) => request_dropped(asked),
+            Some(To::Process { .. }) | None => {}
         }
     }
 }

@@ -3,8 +3,10 @@
 use super::address::Address;
 use super::behaviour::Behaviour;
 use super::calls::{Call, Calls, Open, Reply, fresh_number, number_of};
+use super::hub::Origin;
 use super::inbox::Task;
 use super::payloads::News;
+use super::room::Ticket;
 use super::target::Target;
 use super::timing::{Key, Timer};
 use super::worker::{Parent, Worker};
@@ -44,6 +46,12 @@ impl<M: Send + 'static> Context<'_, M> {
         self.me.pid()
     }
 
+    /// How many messages were sent to this process and it has not taken.
+    #[must_use]
+    pub fn waiting(&self) -> usize {
+        self.me.waiting()
+    }
+
     /// How many desks the node has. A process is on the one that its pid names.
     #[must_use]
     pub fn desks(&self) -> usize {
@@ -52,8 +60,8 @@ impl<M: Send + 'static> Context<'_, M> {
 
     /// Sends a message: Erlang's `!`. It comes after all that this process sent that one before.
     ///
-    /// It returns `false`, and the message is dropped, if the receiver is known to have exited. If it exits later, the
-    /// message is dropped then.
+    /// It returns `false`, and the message is dropped, if the receiver is known to have exited, or takes no more
+    /// ([`Bound::Refuse`](super::Bound::Refuse)). If it exits later, the message is dropped then.
     ///
     /// A process of another run gets it as from outside: see [`Address::send`]. So it is with [`send_after`](Context::send_after).
     pub fn send<N: Send + 'static>(&mut self, to: &Address<N>, message: N) -> bool {
@@ -102,7 +110,8 @@ impl<M: Send + 'static> Context<'_, M> {
         let (call, reply) = self.open(fresh_number(), desk, None, None);
         match self.worker.hub.places.get(usize::from(desk)) {
             Some(place) => {
-                place.post(Task::Do(Box::new(move |worker| reply.send(worker.spawn(Parent::Outside, behaviour)))));
+                let spawn = move |worker: &mut Worker| reply.send(worker.spawn(Parent::Outside, behaviour));
+                place.post(Task::Do(Box::new(spawn)), Origin::Run);
             }
             None => reply.send(Err(Fault::BadDesks)),
         }
@@ -199,7 +208,7 @@ impl<M: Send + 'static> Context<'_, M> {
         if Arc::ptr_eq(&hub, &self.me.hub) {
             self.worker.say(self.me.pid(), slot.pid(), ANSWER, call);
         } else {
-            hub.post(slot.pid(), ANSWER, call);
+            hub.post(slot.pid(), ANSWER, call, Origin::Run);
         }
     }
 
@@ -241,9 +250,11 @@ impl Worker {
         if !Arc::ptr_eq(&self.hub, &to.hub) {
             return to.send(message);
         }
-        let Ok(number) = to.mailbox.put(message) else { return false };
+        let Ok(number) = to.mailbox.put(message, Ticket::FREE) else { return false };
         let sent = self.say(from, to.pid(), MESSAGE, number);
-        if !sent {
+        if sent {
+            to.look_at_bound();
+        } else {
             to.mailbox.take(number);
         }
         sent

@@ -51,6 +51,13 @@ pub enum StopFault {
         /// history of the last epoch is lost.
         summary: Option<Summary>,
     },
+    /// As it drained, something was still to be handled when the time was over. It was stopped then.
+    NotDrained {
+        /// How many messages no process had taken.
+        waiting: usize,
+        /// What the run did.
+        summary: Summary,
+    },
     /// The run halted before.
     Halted(Box<Halted>),
     /// A thread of the runtime has panicked outside of all handlers, which is a fault of the runtime.
@@ -61,6 +68,9 @@ impl fmt::Display for StopFault {
     fn fmt(&self, f: &mut fmt::Formatter<'_>) -> fmt::Result {
         match self {
             StopFault::WouldNotEnd { pid, behaviour, .. } => write!(f, "{pid}, a {behaviour}, would not end"),
+            StopFault::NotDrained { waiting, .. } => {
+                write!(f, "not all was handled in time: {waiting} messages waited")
+            }
             StopFault::Halted(halted) => halted.fmt(f),
             StopFault::Lost => f.write_str("a thread of the runtime has panicked"),
         }

@@ -2,7 +2,8 @@
 
 use super::inbox::{Place, Task};
 use super::meeting::Meeting;
-use super::payloads::Slot;
+use super::payloads::{Slot, quietly};
+use super::report::{Report, Reporter};
 use super::supervisor::Supervisor;
 use crate::Pid;
 use std::any::type_name;
@@ -19,6 +20,17 @@ pub(crate) const STOP: u8 = 2;
 /// Each process exits: the exit signal `kill`.
 pub(crate) const KILL: u8 = 3;
 
+/// Who wants something of a desk's thread, by which an inbox takes it or not.
+#[derive(Clone, Copy, Debug, PartialEq, Eq)]
+pub(crate) enum Origin {
+    /// The run itself, or what it waits for, as an answer: it is taken until the run is over.
+    Run,
+    /// Somebody outside: it is not taken once the run drains.
+    Outside,
+    /// The same, and somebody waits for what comes of it: it is not taken either while the run halts.
+    Caller,
+}
+
 /// What all threads of a runtime share.
 pub(crate) struct Hub {
     /// The number of the run among all of the program.
@@ -33,10 +45,19 @@ pub(crate) struct Hub {
     pub(crate) panics: AtomicU64,
     next_desk: AtomicUsize,
     pub(crate) every: usize,
+    /// How many messages from outside a desk takes in that no process has taken: `usize::MAX` is no bound.
+    pub(crate) inbox_most: usize,
+    reporter: Option<Reporter>,
 }
 
 impl Hub {
-    pub(crate) fn new(desks: usize, every: usize, meeting: Meeting) -> Hub {
+    pub(crate) fn new(
+        desks: usize,
+        every: usize,
+        inbox_most: usize,
+        meeting: Meeting,
+        reporter: Option<Reporter>,
+    ) -> Hub {
         static RUNS: AtomicU64 = AtomicU64::new(0);
         Hub {
             run: RUNS.fetch_add(1, SeqCst),
@@ -49,6 +70,15 @@ impl Hub {
             panics: AtomicU64::new(0),
             next_desk: AtomicUsize::new(0),
             every,
+            inbox_most,
+            reporter,
+        }
+    }
+
+    /// Tells the program what has happened, if it wants to know.
+    pub(crate) fn report(&self, what: &Report<'_>) {
+        if let Some(reporter) = &self.reporter {
+            quietly(|| reporter(what));
         }
     }
 
@@ -77,9 +107,9 @@ impl Hub {
         self.places.get(usize::from(pid.shard)).and_then(|place| place.porter.get()) == Some(&pid)
     }
 
-    /// Sends a message from outside.
-    pub(crate) fn post(&self, to: Pid, kind: u32, num: i64) -> bool {
-        self.place(to).post(Task::Send { to, kind, num })
+    /// Sends a message in the name of a desk.
+    pub(crate) fn post(&self, to: Pid, kind: u32, num: i64, origin: Origin) -> bool {
+        self.place(to).post(Task::Send { to, kind, num }, origin)
     }
 
     pub(crate) fn slot(&self, pid: Pid) -> Option<Arc<dyn Slot>> {
@@ -127,6 +157,25 @@ impl Hub {
         if self.meeting.want() {
             self.ring_all();
         }
+    }
+
+    /// Nothing new comes in from here on.
+    pub(crate) fn drain(&self) {
+        self.places.iter().for_each(Place::drain);
+    }
+
+    /// Whether all desks rest, nothing is on its way, and no call is open.
+    pub(crate) fn is_quiet(&self) -> bool {
+        let rests = || self.places.iter().map(Place::quiet).collect::<Option<Vec<u64>>>();
+        let is_asked = || self.places.iter().flat_map(Place::slots).any(|slot| slot.is_asked());
+        // (a desk that rested at both looks, and as often before, has rested in between: so all did at the same time)
+        let before = rests();
+        before.is_some() && !is_asked() && before == rests()
+    }
+
+    /// How many messages no process has taken.
+    pub(crate) fn waiting(&self) -> usize {
+        self.places.iter().flat_map(Place::slots).map(|slot| slot.waiting()).sum()
     }
 
     /// How many epochs have ended. While a handler runs, none ends.

@@ -1,6 +1,9 @@
 //! The place of a desk's thread: an inbox with a bell, and the processes that live on the desk.
 
+use super::calls::CallFault;
+use super::hub::Origin;
 use super::payloads::{Slot, drop_quietly};
+use super::room::Room;
 use super::worker::Worker;
 use crate::Pid;
 use std::collections::{HashMap, VecDeque};
@@ -32,7 +35,23 @@ struct Inbox {
     halted: bool,
     /// Whether nobody ever will.
     closed: bool,
+    /// Whether nothing new comes in, so that the run comes to its end.
+    drains: bool,
+    /// How many calls of the desk's processes were open as the thread began to rest. (it is counted if nothing new comes in)
+    owed: usize,
+    /// How often the thread has rested.
+    rests: u64,
     tasks: VecDeque<Task>,
+}
+
+impl Inbox {
+    fn takes(&self, origin: Origin) -> bool {
+        match origin {
+            Origin::Run => !self.closed,
+            Origin::Outside => !self.closed && !self.drains,
+            Origin::Caller => !self.closed && !self.drains && !self.halted,
+        }
+    }
 }
 
 /// The place of a desk's thread.
@@ -40,6 +59,7 @@ struct Inbox {
 pub(crate) struct Place {
     inbox: Mutex<Inbox>,
     bell: Condvar,
+    pub(crate) room: Room,
     /// The live processes of the desk.
     live: Mutex<HashMap<Pid, Arc<dyn Slot>>>,
     /// Whether the desk waits for room in a lane.
@@ -55,11 +75,11 @@ pub(crate) fn locked<T>(of: &Mutex<T>) -> MutexGuard<'_, T> {
 }
 
 impl Place {
-    /// Puts a task into the inbox, and wakes the thread. It returns `false`, and the task is dropped, if the run is over
-    /// or, for one that somebody waits for, halts.
-    pub(crate) fn post(&self, task: Task) -> bool {
+    /// Puts a task into the inbox, and wakes the thread. It returns `false`, and the task is dropped, if the run takes in
+    /// nothing more of this origin.
+    pub(crate) fn post(&self, task: Task, origin: Origin) -> bool {
         let mut inbox = locked(&self.inbox);
-        if inbox.closed || inbox.halted && matches!(task, Task::Ask(_)) {
+        if !inbox.takes(origin) {
             drop(inbox);
             return false;
         }
@@ -97,27 +117,53 @@ impl Place {
     }
 
     /// Rests until somebody rings, for so long at most.
-    pub(crate) fn rest(&self, most: Option<Duration>) {
+    pub(crate) fn rest(&self, most: Option<Duration>, owed: usize) {
         let mut inbox = locked(&self.inbox);
         inbox.resting = true;
+        inbox.owed = owed;
         let quiet = |inbox: &mut Inbox| !inbox.rung;
         let mut inbox = match most {
             Some(most) => self.bell.wait_timeout_while(inbox, most, quiet).unwrap_or_else(PoisonError::into_inner).0,
             None => self.bell.wait_while(inbox, quiet).unwrap_or_else(PoisonError::into_inner),
         };
         inbox.resting = false;
+        inbox.rests += 1;
+    }
+
+    /// Takes in nothing new from here on.
+    pub(crate) fn drain(&self) {
+        let mut inbox = locked(&self.inbox);
+        inbox.drains = true;
+        self.wake(inbox);
+    }
+
+    pub(crate) fn drains(&self) -> bool {
+        locked(&self.inbox).drains
+    }
+
+    /// How often the thread has rested before, if it rests, nobody has rung, and no call of its processes is
+    /// open.
+    pub(crate) fn quiet(&self) -> Option<u64> {
+        let inbox = locked(&self.inbox);
+        let quiet = inbox.resting && !inbox.rung && inbox.tasks.is_empty() && inbox.owed == 0 && !self.waits_for_room();
+        quiet.then_some(inbox.rests)
     }
 
     /// The thread ends, or a new one begins: those who wait are told, and all other tasks stay.
     pub(crate) fn halt(&self, halted: bool) {
         let mut inbox = locked(&self.inbox);
         inbox.halted = halted;
+        inbox.drains &= halted;
         let tasks = std::mem::take(&mut inbox.tasks);
         let (asked, kept) = tasks.into_iter().partition(|task| halted && matches!(task, Task::Ask(_)));
         inbox.tasks = kept;
         drop(inbox);
         let asked: VecDeque<Task> = asked;
         asked.into_iter().for_each(drop_quietly);
+        self.room.shut(halted);
+        if halted {
+            self.slots().iter().for_each(|slot| slot.fail_calls(&CallFault::Over));
+        }
     }
 
     /// Takes no more tasks, and drops those that wait and all values of the live processes.
@@ -126,8 +172,9 @@ impl Place {
         inbox.closed = true;
         let tasks = std::mem::take(&mut inbox.tasks);
         drop(inbox);
+        self.room.shut(true);
         let live = std::mem::take(&mut *locked(&self.live));
-        live.values().for_each(|slot| slot.close());
+        live.values().for_each(|slot| slot.close(None));
         tasks.into_iter().for_each(drop_quietly);
     }
 

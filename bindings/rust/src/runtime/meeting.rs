@@ -4,10 +4,12 @@
 use super::archive::{Refusal, Sink};
 use super::hub::Hub;
 use super::inbox::locked;
+use super::promise::Promise;
+use super::report::Report;
 use crate::{Desk, Fault, Gathered, Settled, gather};
 use std::panic::{AssertUnwindSafe, catch_unwind};
 use std::sync::atomic::{AtomicBool, AtomicU64, Ordering::SeqCst};
-use std::sync::{Condvar, Mutex, PoisonError};
+use std::sync::{Arc, Condvar, Mutex, PoisonError};
 use std::time::Duration;
 
 /// Where the histories go, and what has gone there.
@@ -96,6 +98,8 @@ struct State {
     round: u64,
     fault: Option<Fault>,
     outcome: Option<Outcome>,
+    /// The tasks that wait until the run is over.
+    waiting: Vec<Arc<Promise<()>>>,
 }
 
 impl State {
@@ -122,7 +126,7 @@ impl Meeting {
         let book = Book::default();
         book.open(sink);
         let desks = (0..desks).map(|_| None).collect();
-        let state = State { desks, came: 0, round: 0, fault: None, outcome: None };
+        let state = State { desks, came: 0, round: 0, fault: None, outcome: None, waiting: Vec::new() };
         Meeting { book, wanted: AtomicBool::new(false), state: Mutex::new(state), changed: Condvar::new() }
     }
 
@@ -150,10 +154,16 @@ impl Meeting {
             // (the sink is the program's own: it runs while nothing is locked that it may ask for)
             drop(state);
             let resumed = self.go_on(hub, desks, fault);
+            if let Err(Outcome::Halted(stuck)) = &resumed {
+                hub.report(&Report::halt(&stuck.why));
+            }
             state = locked(&self.state);
             state.conclude(resumed);
             self.wanted.store(false, SeqCst);
             self.changed.notify_all();
+            drop(state);
+            self.tell_over();
+            state = locked(&self.state);
         }
         let waits = |state: &mut State| state.round == round && state.outcome.is_none();
         let mut state = self.changed.wait_while(state, waits).unwrap_or_else(PoisonError::into_inner);
@@ -178,6 +188,28 @@ impl Meeting {
         locked(&self.state).outcome.get_or_insert(Outcome::Lost);
         self.wanted.store(true, SeqCst);
         self.changed.notify_all();
+        self.tell_over();
+    }
+
+    /// What a task awaits until the run is over.
+    pub(crate) fn over(&self) -> Arc<Promise<()>> {
+        let over = Arc::new(Promise::new());
+        let mut state = locked(&self.state);
+        // (nobody waits for those that only this list has)
+        state.waiting.retain(|waiting| Arc::strong_count(waiting) > 1);
+        state.waiting.push(over.clone());
+        drop(state);
+        self.tell_over();
+        over
+    }
+
+    fn tell_over(&self) {
+        let mut state = locked(&self.state);
+        let waiting = if state.outcome.is_some() { std::mem::take(&mut state.waiting) } else { Vec::new() };
+        drop(state);
+        for over in waiting {
+            let _ = over.give(());
+        }
     }
 
     /// Waits until the run is over, for so long at most, and returns whether it is.

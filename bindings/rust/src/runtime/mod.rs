@@ -44,12 +44,17 @@
 //! kept beside it, with the receiver's others.
 //!
 //! In a history a message has the kind [`MESSAGE`], the answer of a call [`ANSWER`], and the end of a call's time
-//! [`OVER`]. Each desk has one process more, which sends what comes from outside: the first that was born on it.
+//! [`OVER`]; the process of a [`Mailbox`] is told by one of the kind [`MORE`] that it was read. Each desk has one process more, which sends what comes from outside: the first that was born on it.
 //!
 //! # Panics
 //!
 //! A handler that panics has crashed its process, and no other: see [`PANIC`]. The panic's text is beside the news of it:
 //! [`Down::panic`], [`Exit::panic`] and [`CallFault::Down`].
+//!
+//! # Tasks
+//!
+//! Tasks of whatever executor take part by futures of the standard library: [`Address::ask`], [`Handle::call_async`],
+//! [`Handle::spawn_async`], [`Address::send_async`], and a [`Mailbox`], which they are sent messages to.
 //!
 //! # Supervisors
 //!
@@ -61,10 +66,11 @@
 //! messages arrive in order and once, no wake-up of a crew is lost, and each exit is told once.
 //!
 //! Not proved, since nothing checks Rust, but tested: the threads and their rest, the values beside the table, timers,
-//! calls, supervisors, and how the threads meet. `unsafe` is not used here.
+//! calls, futures, supervisors, and how the threads meet. `unsafe` is not used here.
 
 mod address;
 mod archive;
+mod asked;
 mod behaviour;
 mod calls;
 mod child;
@@ -73,11 +79,17 @@ mod ending;
 mod hub;
 mod inbox;
 mod limit;
+mod mailbox;
 mod meeting;
 mod name;
 mod payloads;
 mod process;
+mod promise;
+mod report;
+mod room;
 mod run;
+mod sending;
+mod spawning;
 mod start;
 mod supervisor;
 mod target;
@@ -87,13 +99,18 @@ mod worker;
 pub use crate::{Pick, Pid, Reason, Ref};
 pub use address::Address;
 pub use archive::{HistoryFile, Refusal, Sink};
-pub use behaviour::{Behaviour, Down, Event, Exit, Next};
+pub use asked::Asking;
+pub use behaviour::{Behaviour, Bound, Down, Event, Exit, Next};
 pub use calls::{Answer, Call, CallFault, Reply};
 pub use child::{Child, ChildFault, ChildInfo, Restart, Shutdown, Started};
 pub use context::Context;
 pub use ending::{Halted, StopFault, Summary};
+pub use mailbox::Mailbox;
 pub use name::Name;
+pub use report::Report;
 pub use run::{Handle, Runtime, SpawnFault};
+pub use sending::{SendFault, Sending};
+pub use spawning::Spawning;
 pub use start::{Builder, StartFault};
 pub use supervisor::{Supervisor, ToSupervisor};
 pub use target::Target;
@@ -108,3 +125,5 @@ pub const MESSAGE: u32 = 1;
 pub const ANSWER: u32 = 2;
 /// The kind of the news that the time of a call is over.
 pub const OVER: u32 = 3;
+/// The kind of the news that a [`Mailbox`] was read.
+pub const MORE: u32 = 4;

@@ -6,8 +6,8 @@ use std::fmt;
 use std::sync::{Arc, Condvar, Mutex, PoisonError};
 use std::time::Duration;
 
-/// A name for a child of a supervisor, which leads to the child that runs now: a registered name of Erlang, with the type
-/// of the messages.
+/// A name for a process, as for a child of a supervisor, which leads to the one that runs now: a registered name of Erlang,
+/// with the type of the messages.
 ///
 /// A child that is started again is another process, with another address. Its name stays: the supervisor gives it to
 /// each process that it starts with it ([`Child::named`](super::Child::named)). A name may be cloned and go to any
@@ -57,6 +57,53 @@ impl<M: Send + 'static> Name<M> {
     /// `false`, and the message is dropped, if no process has the name.
     pub fn send(&self, message: M) -> bool {
         self.whereis().is_some_and(|address| address.send(message))
+    }
+
+    /// Gives a process the name: Erlang's `register`. It has it until it exits. It returns `false`, and nothing changes, if the
+    /// process has exited, or if a live process has the name.
+    ///
+    /// A child of a supervisor gets its name by [`Child::named`](super::Child::named), also as it is started again.
+    ///
+    /// ```
+    /// use pundewo::runtime::{Behaviour, Context, Event, Name, Next, Runtime};
+    ///
+    /// struct Clerk;
+    ///
+    /// impl Behaviour for Clerk {
+    ///     type Message = &'static str;
+    ///
+    ///     fn handle(&mut self, _: &mut Context<'_, &'static str>, _: Event<&'static str>) -> Next {
+    ///         Next::Wait
+    ///     }
+    /// }
+    ///
+    /// let runtime = Runtime::builder().desks(1).start()?;
+    /// let (first, second) = (runtime.spawn(Clerk)?, runtime.spawn(Clerk)?);
+    /// let clerk = Name::new("clerk");
+    /// assert!(clerk.register(&first) && !clerk.register(&second));
+    /// assert!(clerk.send("a letter") && clerk.whereis() == Some(first));
+    /// assert!(clerk.unregister() && clerk.register(&second) && clerk.whereis() == Some(second));
+    /// runtime.stop()?;
+    /// assert_eq!((clerk.whereis(), clerk.unregister()), (None, false));
+    /// # Ok::<(), Box<dyn std::error::Error>>(())
+    /// ```
+    pub fn register(&self, process: &Address<M>) -> bool {
+        let mut named = locked(&self.0.process);
+        let is_taken = named.as_ref().is_some_and(|it| it.mailbox.is_open());
+        if is_taken || !process.mailbox.is_open() {
+            return false;
+        }
+        let before = named.replace(process.clone());
+        drop(named);
+        self.0.given.notify_all();
+        drop(before);
+        true
+    }
+
+    /// Takes the name from the process that has it: Erlang's `unregister`. It returns `false` if no live process has it.
+    pub fn unregister(&self) -> bool {
+        let before = locked(&self.0.process).take();
+        before.is_some_and(|address| address.mailbox.is_open())
     }
 
     /// Gives a process the name.

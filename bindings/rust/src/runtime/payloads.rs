@@ -3,8 +3,13 @@
 //! A value is put before its letter is sent, and taken as the letter's item is. If the process exits, all of its values
 //! are dropped, and one that is put later comes back: a pid is never used again, so no letter can ask for them.
 
+use super::PANIC;
+use super::asked::{Fails, tell_dropped};
+use super::behaviour::Bound;
 use super::calls::CallFault;
-use crate::{Pid, Ref};
+use super::room::Ticket;
+use super::sending::SendFault;
+use crate::{Pid, Reason, Ref};
 use std::any::Any;
 use std::collections::HashMap;
 use std::panic::{AssertUnwindSafe, catch_unwind};
@@ -21,19 +26,41 @@ pub(crate) enum News {
 }
 
 /// The values of one process.
-pub(crate) struct Mailbox<M> {
+pub(crate) struct Values<M> {
     pid: Pid,
     name: &'static str,
+    pub(crate) bound: Bound,
     // `None` once the process has exited
     kept: Mutex<Option<Kept<M>>>,
 }
 
 struct Kept<M> {
     last: i64,
+    /// No message has a smaller number. (it is known only where the oldest is dropped)
+    oldest: i64,
     messages: HashMap<i64, M>,
+    /// The room that messages take in an inbox with a bound.
+    tickets: HashMap<i64, Ticket>,
+    /// The open calls from outside.
+    calls: HashMap<i64, Arc<dyn Fails>>,
+    /// The text of its own panic.
+    crash: Option<Arc<str>>,
     answers: HashMap<i64, Given>,
     /// The texts of panics, each with the epoch in which it was put.
     panics: HashMap<News, (u64, Arc<str>)>,
+}
+
+impl<M> Kept<M> {
+    /// Takes the oldest message out, with its room.
+    fn take_oldest(&mut self) -> Option<(M, Option<Ticket>)> {
+        while self.oldest < self.last {
+            self.oldest += 1;
+            if let Some(message) = self.messages.remove(&self.oldest) {
+                return Some((message, self.tickets.remove(&self.oldest)));
+            }
+        }
+        None
+    }
 }
 
 /// A mailbox, whatever its messages are.
@@ -47,14 +74,34 @@ pub(crate) trait Slot: Send + Sync {
     fn put_panic(&self, news: News, text: Arc<str>, epoch: u64);
     /// Drops the texts that were put before this epoch, beside all other news than these.
     fn keep_panics(&self, epoch: u64, of: &dyn Fn(&News) -> bool);
-    /// Drops all that is kept, since the process has exited.
-    fn close(&self);
+    /// How many messages it has not taken.
+    fn waiting(&self) -> usize;
+    /// Whether a call from outside is open.
+    fn is_asked(&self) -> bool;
+    /// A call from outside has ended.
+    fn forget_call(&self, number: i64);
+    /// The calls from outside fail, since the run halts.
+    fn fail_calls(&self, fault: &CallFault);
+    /// Its handler has panicked: the calls from outside fail with the text.
+    fn crashed(&self, text: &Arc<str>);
+    /// Drops all that is kept, since the process has exited for this reason, or `None` if the run is over. The calls from
+    /// outside fail.
+    fn close(&self, why: Option<Reason>);
 }
 
-impl<M> Mailbox<M> {
-    pub(crate) fn new(pid: Pid, name: &'static str) -> Mailbox<M> {
-        let kept = Kept { last: 0, messages: HashMap::new(), answers: HashMap::new(), panics: HashMap::new() };
-        Mailbox { pid, name, kept: Mutex::new(Some(kept)) }
+impl<M> Values<M> {
+    pub(crate) fn new(pid: Pid, name: &'static str, bound: Bound) -> Values<M> {
+        let kept = Kept {
+            last: 0,
+            oldest: 0,
+            messages: HashMap::new(),
+            tickets: HashMap::new(),
+            calls: HashMap::new(),
+            crash: None,
+            answers: HashMap::new(),
+            panics: HashMap::new(),
+        };
+        Values { pid, name, bound, kept: Mutex::new(Some(kept)) }
     }
 
     /// (nothing of the program's own runs under the lock: values are moved, and dropped outside of it)
@@ -62,15 +109,41 @@ impl<M> Mailbox<M> {
         self.kept.lock().unwrap_or_else(PoisonError::into_inner)
     }
 
-    /// Puts a message, and returns its number. The message comes back if the process has exited.
-    pub(crate) fn put(&self, message: M) -> Result<i64, M> {
+    /// Puts a message, and returns its number. The message comes back if the process has exited, or takes no more.
+    pub(crate) fn put(&self, message: M, ticket: Ticket) -> Result<i64, SendFault<M>> {
+        let mut state = self.lock();
+        let Some(kept) = &mut *state else { return Err(SendFault::Exited(message)) };
+        let oldest = match self.bound {
+            Bound::Refuse(most) if kept.messages.len() >= most => return Err(SendFault::Full(message)),
+            Bound::DropOldest(most) if kept.messages.len() >= most => kept.take_oldest(),
+            _ => None,
+        };
+        kept.last += 1;
+        let number = kept.last;
+        kept.messages.insert(number, message);
+        if !ticket.is_free() {
+            kept.tickets.insert(number, ticket);
+        }
+        drop(state);
+        drop(oldest.map(|(message, ticket)| (drop_quietly(message), ticket)));
+        Ok(number)
+    }
+
+    /// Whether more messages wait than may, by which the process is to crash.
+    pub(crate) fn is_beyond(&self) -> bool {
+        matches!(self.bound, Bound::Crash(most) if self.waiting_now() > most)
+    }
+
+    fn waiting_now(&self) -> usize {
+        self.lock().as_ref().map_or(0, |kept| kept.messages.len())
+    }
+
+    /// A call from outside begins. It returns `false` if the process has exited.
+    pub(crate) fn open_call(&self, number: i64, call: Arc<dyn Fails>) -> bool {
         match &mut *self.lock() {
-            Some(kept) => {
-                kept.last += 1;
-                kept.messages.insert(kept.last, message);
-                Ok(kept.last)
-            }
-            None => Err(message),
+            // (one that has crashed is still here until its exit is told)
+            Some(kept) if kept.crash.is_none() => kept.calls.insert(number, call).is_none(),
+            Some(_) | None => false,
         }
     }
 
@@ -80,7 +153,14 @@ impl<M> Mailbox<M> {
     }
 
     pub(crate) fn take(&self, number: i64) -> Option<M> {
-        self.lock().as_mut()?.messages.remove(&number)
+        let mut kept = self.lock();
+        let kept_now = kept.as_mut()?;
+        // (an inbox without a bound has no tickets)
+        let ticket = if kept_now.tickets.is_empty() { None } else { kept_now.tickets.remove(&number) };
+        let message = kept_now.messages.remove(&number);
+        drop(kept);
+        drop(ticket);
+        message
     }
 
     pub(crate) fn take_answer(&self, call: i64) -> Option<Given> {
@@ -92,7 +172,7 @@ impl<M> Mailbox<M> {
     }
 }
 
-impl<M: Send> Slot for Mailbox<M> {
+impl<M: Send> Slot for Values<M> {
     fn pid(&self) -> Pid {
         self.pid
     }
@@ -124,9 +204,36 @@ impl<M: Send> Slot for Mailbox<M> {
         }
     }
 
-    fn close(&self) {
+    fn waiting(&self) -> usize {
+        self.waiting_now()
+    }
+
+    fn is_asked(&self) -> bool {
+        self.lock().as_ref().is_some_and(|kept| !kept.calls.is_empty())
+    }
+
+    fn forget_call(&self, number: i64) {
+        let call = self.lock().as_mut().and_then(|kept| kept.calls.remove(&number));
+        drop(call);
+    }
+
+    fn fail_calls(&self, fault: &CallFault) {
+        let calls = self.lock().as_mut().map(|kept| std::mem::take(&mut kept.calls));
+        calls.into_iter().flatten().for_each(|(_, call)| call.fail(fault.clone()));
+    }
+
+    fn crashed(&self, text: &Arc<str>) {
+        if let Some(kept) = &mut *self.lock() {
+            kept.crash = Some(text.clone());
+        }
+        self.fail_calls(&CallFault::Down(PANIC, Some(text.clone())));
+    }
+
+    fn close(&self, why: Option<Reason>) {
         let kept = self.lock().take();
         if let Some(kept) = kept {
+            let fault = why.map_or(CallFault::Over, |why| CallFault::Down(why, kept.crash));
+            kept.calls.into_values().for_each(|call| call.fail(fault.clone()));
             kept.messages.into_values().for_each(drop_quietly);
             kept.answers.into_values().for_each(drop_quietly);
         }
@@ -140,6 +247,7 @@ pub(crate) fn quietly(work: impl FnOnce()) -> bool {
         Err(what) => {
             // (a value that a panic carried may panic as it is dropped)
             std::mem::forget(catch_unwind(AssertUnwindSafe(|| drop(what))));
+            tell_dropped();
             true
         }
     }

@@ -1,13 +1,13 @@
 //! A process with its behaviour, whatever the type of that is.
 
 use super::address::Address;
-use super::behaviour::{Behaviour, Down, Event, Exit};
+use super::behaviour::{Behaviour, Bound, Down, Event, Exit};
 use super::calls::{Answer, CallFault, Calls, number_of};
 use super::context::{Context, demonitor};
 use super::payloads::{News, Slot, quietly};
 use super::supervisor::is_supervisor;
 use super::worker::Worker;
-use super::{ANSWER, OVER};
+use super::{ANSWER, MORE, OVER};
 use crate::crew::{Next, What};
 use crate::{Body, Item, Pick, Pid, Reason, Ref};
 
@@ -19,6 +19,8 @@ pub(crate) trait Actor: Send {
     fn ended(self: Box<Self>, worker: &mut Worker, why: Reason);
     /// Whether it is a supervisor.
     fn supervises(&self) -> bool;
+    /// How many calls of it are open.
+    fn owed(&self) -> usize;
 }
 
 pub(crate) struct Process<B: Behaviour> {
@@ -47,7 +49,12 @@ impl<B: Behaviour> Process<B> {
                 let given = Err(CallFault::Timeout(self.holder(worker, number)));
                 self.close(worker, number).then_some(Event::Answer(Answer { number, given }))
             }
-            Item::User(_, Body { num, .. }) => self.me.mailbox.take(num).map(Event::Message),
+            // (a mailbox was read)
+            Item::User(_, Body { kind: MORE, .. }) => Some(Event::Proceed),
+            Item::User(_, Body { num, .. }) => match self.me.mailbox.take(num) {
+                Some(message) => Some(Event::Message(message)),
+                None => matches!(self.me.mailbox.bound, Bound::DropOldest(_)).then_some(Event::Lost),
+            },
             Item::Down(monitor, pid, reason) => Some(self.down(worker, monitor, pid, reason)),
             Item::Exit(pid, reason) => {
                 let panic = self.me.mailbox.take_panic(News::Exit(pid));
@@ -111,11 +118,15 @@ impl<B: Behaviour> Actor for Process<B> {
         for alarm in calls.into_values().filter_map(|open| open.alarm) {
             worker.alarms.cancel(alarm);
         }
-        me.mailbox.close();
+        me.mailbox.close(Some(why));
         quietly(|| behaviour.ended(why));
     }
 
     fn supervises(&self) -> bool {
         is_supervisor::<B>()
+    }
+
+    fn owed(&self) -> usize {
+        self.calls.len()
     }
 }

@@ -1,26 +1,32 @@
 //! A run, and what those outside do with it.
 
 use super::address::Address;
+use super::asked::Asking;
 use super::behaviour::Behaviour;
 use super::calls::{CallFault, Reply};
 use super::ending::{Halted, StopFault, Summary};
-use super::hub::{END, Hub, KILL, STOP};
+use super::hub::{END, Hub, KILL, Origin, STOP};
 use super::inbox::Task;
+use super::mailbox::{Mailbox, Reader};
 use super::meeting::{Outcome, Stuck};
+use super::spawning::Spawning;
 use super::start::{Builder, Closing, Threads, is_inside};
 use super::target::Target;
 use super::worker::{Parent, Worker};
 use crate::{Fault, Pid, Reason};
 use std::error::Error;
 use std::fmt;
+use std::future::poll_fn;
 use std::ops::Deref;
 use std::sync::Arc;
 use std::sync::atomic::{AtomicBool, Ordering::SeqCst};
 use std::sync::mpsc::{RecvTimeoutError, sync_channel};
-use std::time::Duration;
+use std::time::{Duration, Instant};
 
 /// How long [`Runtime::stop`] waits for all processes to exit.
 const PATIENCE: Duration = Duration::from_secs(5);
+/// How often [`Runtime::drain`] looks whether all is handled.
+const LOOK: Duration = Duration::from_millis(1);
 /// How long it waits for those that it has killed.
 const GRACE: Duration = Duration::from_secs(1);
 
@@ -143,6 +149,58 @@ impl Runtime {
         Err(StopFault::WouldNotEnd { pid, behaviour, summary: None })
     }
 
+    /// Takes nothing new in, waits until all that waits is handled, for so long at most, and then stops as
+    /// [`stop`](Runtime::stop) does.
+    ///
+    /// Messages, calls and spawns from outside are refused from now on. What behaviours send each other is handled, and an answer
+    /// from outside comes in. All is handled once all desks rest and no call is open, neither of a process nor of those
+    /// outside. A message that its process does not want ([`Next::Only`](super::Next::Only)) and a timer that is to go off
+    /// later are not waited for.
+    ///
+    /// ```
+    /// use pundewo::runtime::{Behaviour, Context, Event, Next, Runtime};
+    /// use std::sync::mpsc::channel;
+    /// use std::time::{Duration, Instant};
+    ///
+    /// struct Writes(std::sync::mpsc::Sender<u32>);
+    ///
+    /// impl Behaviour for Writes {
+    ///     type Message = u32;
+    ///
+    ///     fn handle(&mut self, _: &mut Context<'_, u32>, event: Event<u32>) -> Next {
+    ///         if let Event::Message(number) = event {
+    ///             self.0.send(number).expect("a receiver");
+    ///         }
+    ///         Next::Wait
+    ///     }
+    /// }
+    ///
+    /// let (give, written) = channel();
+    /// let runtime = Runtime::builder().desks(2).start()?;
+    /// let writes = runtime.spawn(Writes(give))?;
+    /// (0..10_000).for_each(|number| assert!(writes.send(number)));
+    /// runtime.drain(Duration::from_secs(60))?;
+    /// assert!(written.iter().eq(0..10_000));
+    /// # Ok::<(), Box<dyn std::error::Error>>(())
+    /// ```
+    ///
+    /// # Errors
+    ///
+    /// As [`stop`](Runtime::stop), and [`StopFault::NotDrained`] if something was still to be handled as the time was over.
+    pub fn drain(self, limit: Duration) -> Result<Summary, StopFault> {
+        let hub = self.hub.of().clone();
+        let until = Instant::now().checked_add(limit);
+        hub.drain();
+        let is_late = || until.is_some_and(|until| Instant::now() >= until);
+        let mut drained = hub.is_quiet();
+        while !drained && !is_late() && !hub.meeting.wait(Some(LOOK)) {
+            drained = hub.is_quiet();
+        }
+        let (drained, waiting) = (drained || hub.meeting.is_over(), hub.waiting());
+        let summary = self.stop()?;
+        if drained { Ok(summary) } else { Err(StopFault::NotDrained { waiting, summary }) }
+    }
+
     /// The run is over: what it had comes together.
     fn finish(&mut self) -> Result<Summary, StopFault> {
         let threads = std::mem::take(&mut self.threads);
@@ -209,11 +267,12 @@ impl Handle {
         // whoever sets it first says what comes of the request: the desk's thread, or this one as the time is over
         let (decided, is_decided) = (Arc::new(AtomicBool::new(false)), |by: &AtomicBool| by.swap(true, SeqCst));
         let by_desk = decided.clone();
-        place.post(Task::Ask(Box::new(move |worker| {
+        let spawn = move |worker: &mut Worker| {
             if !is_decided(&by_desk) {
                 let _ = give.send(worker.spawn(Parent::Outside, behaviour));
             }
-        })));
+        };
+        place.post(Task::Ask(Box::new(spawn)), Origin::Caller);
         let in_time = limit.map(|limit| get.recv_timeout(limit));
         let spawned = match in_time {
             Some(Ok(spawned)) => Ok(spawned),
@@ -225,30 +284,61 @@ impl Handle {
         spawned.map_err(|_| SpawnFault::Over)?.map_err(SpawnFault::Table)
     }
 
+    /// Spawns a process on one desk after the other, whose address a task awaits.
+    ///
+    /// Its fault is [`SpawnFault::Table`], or [`SpawnFault::Over`] if the run is over, drains, or halts.
+    pub fn spawn_async<B: Behaviour>(&self, behaviour: B) -> Spawning<B::Message> {
+        let (spawning, work) = Spawning::of(behaviour);
+        self.0.places[self.0.next_desk()].post(Task::Ask(Box::new(work)), Origin::Caller);
+        spawning
+    }
+
+    /// Spawns a process whose messages a task or a thread reads, as [`spawn`](Handle::spawn) does.
+    ///
+    /// # Errors
+    ///
+    /// As [`spawn`](Handle::spawn).
+    pub fn mailbox<M: Send + 'static>(&self) -> Result<Mailbox<M>, SpawnFault> {
+        let reader = Reader::new();
+        let mailbox = reader.of();
+        self.spawn(reader).map(mailbox)
+    }
+
+    /// The same for a task, which awaits it.
+    ///
+    /// # Errors
+    ///
+    /// As [`spawn_async`](Handle::spawn_async).
+    pub async fn mailbox_async<M: Send + 'static>(&self) -> Result<Mailbox<M>, SpawnFault> {
+        let reader = Reader::new();
+        let mailbox = reader.of();
+        self.spawn_async(reader).await.map(mailbox)
+    }
+
     /// Asks a server from outside, and waits for its answer: it gets the message that `ask` makes of a [`Reply`].
     ///
     /// A behaviour takes [`Context::call`](super::Context::call), which does not wait. If it waits here, its whole desk does.
     ///
     /// # Errors
     ///
-    /// [`CallFault::OtherRun`], if the server is of another run, and then nothing was asked; [`CallFault::Timeout`], if there
-    /// is no answer in time, with the process that holds up the server's desk; [`CallFault::Dropped`], if the server has
-    /// exited or has dropped the request.
+    /// [`CallFault::OtherRun`], if the server is of another run, and then nothing was asked; else as [`Asking::wait`].
     pub fn call<M: Send + 'static, R: Send + 'static>(
         &self,
         server: &Address<M>,
         limit: Duration,
         ask: impl FnOnce(Reply<R>) -> M,
     ) -> Result<R, CallFault> {
-        if !Arc::ptr_eq(&self.0, &server.hub) {
-            return Err(CallFault::OtherRun);
-        }
-        let (give, get) = sync_channel(1);
-        server.send(ask(Reply::to_thread(give)));
-        get.recv_timeout(limit).map_err(|fault| match fault {
-            RecvTimeoutError::Timeout => CallFault::Timeout(self.0.running(usize::from(server.pid().shard))),
-            RecvTimeoutError::Disconnected => CallFault::Dropped,
-        })
+        self.call_async(server, ask).wait(limit)
+    }
+
+    /// Asks a server from outside, as [`Address::ask`] does: a task awaits the answer. It refuses a server of another run with
+    /// [`CallFault::OtherRun`].
+    pub fn call_async<M: Send + 'static, R: Send + 'static>(
+        &self,
+        server: &Address<M>,
+        ask: impl FnOnce(Reply<R>) -> M,
+    ) -> Asking<R> {
+        if Arc::ptr_eq(&self.0, &server.hub) { server.ask(ask) } else { Asking::failed(server, CallFault::OtherRun) }
     }
 
     /// Sends an exit signal from outside: Erlang's `exit/2`. It is nothing to a process that has exited.
@@ -259,8 +349,20 @@ impl Handle {
     pub fn exit(&self, process: impl Into<Target>, reason: Reason) -> Result<(), Fault> {
         let pid = process.into().mortal_in(&self.0)?;
         let place = self.0.places.get(usize::from(pid.shard)).ok_or(Fault::Unknown)?;
-        place.post(Task::Do(Box::new(move |worker| worker.signal(pid, reason))));
+        place.post(Task::Do(Box::new(move |worker| worker.signal(pid, reason))), Origin::Run);
         Ok(())
+    }
+
+    /// How many messages no process has taken yet, from outside or from behaviours.
+    #[must_use]
+    pub fn waiting(&self) -> usize {
+        self.0.waiting()
+    }
+
+    /// What the run did until now.
+    #[must_use]
+    pub fn summary(&self) -> Summary {
+        Summary::of(&self.0)
     }
 
     /// How many epochs have ended.
@@ -281,6 +383,18 @@ impl Handle {
         if !self.is_over() {
             self.0.give(STOP);
         }
+    }
+
+    /// Waits until the run is over, for so long at most, and returns whether it is: by [`stop`](Handle::stop), since it has
+    /// halted, or since all processes have exited and somebody waits for that. A handler should not wait.
+    pub fn wait(&self, limit: Duration) -> bool {
+        self.0.meeting.wait(Some(limit))
+    }
+
+    /// The same for a task, which awaits it.
+    pub async fn over(&self) {
+        let over = self.0.meeting.over();
+        poll_fn(|cx| over.poll(cx)).await;
     }
 
     /// Ends the epoch now, as soon as each handler that runs has returned, and goes on.

@@ -3,6 +3,7 @@
 use super::archive::Sink;
 use super::hub::Hub;
 use super::meeting::Meeting;
+use super::report::{Report, Reporter};
 use super::run::Runtime;
 use super::worker::Worker;
 use crate::{Config, Fault, open};
@@ -20,7 +21,9 @@ pub struct Builder {
     desks: Option<usize>,
     config: Config,
     every: Option<usize>,
+    inbox: Option<usize>,
     sink: Option<Box<dyn Sink>>,
+    reporter: Option<Reporter>,
 }
 
 impl fmt::Debug for Builder {
@@ -65,6 +68,40 @@ impl Builder {
         self
     }
 
+    /// How many messages from outside each desk takes in that its processes have not taken yet: 1 at least. Without this there
+    /// is no bound.
+    ///
+    /// Beyond it [`Address::send`](super::Address::send) waits, [`Address::try_send`](super::Address::try_send) refuses, and
+    /// a call waits for as long as its time is. It bounds no message that a behaviour sends, no answer, and no exit signal.
+    #[must_use]
+    pub fn inbox(mut self, most: usize) -> Builder {
+        self.inbox = Some(most);
+        self
+    }
+
+    /// Has this closure told what happens in the run: a crash, and that it halts. It runs on the thread of a desk, which
+    /// waits for it. If it panics, nothing else changes.
+    ///
+    /// ```
+    /// use pundewo::History;
+    /// use pundewo::runtime::{Report, Runtime};
+    /// use std::sync::mpsc::channel;
+    ///
+    /// let (give, told) = channel();
+    /// let full = |_: &History| Err("the disk is full".into());
+    /// let tell = move |what: &Report<'_>| give.send(what.to_string()).expect("a receiver");
+    /// let runtime = Runtime::builder().desks(1).archive(full).report(tell).start()?;
+    /// runtime.go_on();
+    /// assert_eq!(told.recv()?, "the run halted: the disk is full");
+    /// assert!(runtime.stop().is_err());
+    /// # Ok::<(), Box<dyn std::error::Error>>(())
+    /// ```
+    #[must_use]
+    pub fn report(mut self, reporter: impl Fn(&Report<'_>) + Send + Sync + 'static) -> Builder {
+        self.reporter = Some(Box::new(reporter));
+        self
+    }
+
     /// Opens the node, and starts a thread for each desk.
     ///
     /// # Errors
@@ -73,7 +110,12 @@ impl Builder {
     pub fn start(self) -> Result<Runtime, StartFault> {
         let processors = || std::thread::available_parallelism().map_or(1, |count| count.get().min(64));
         let desks = open(self.desks.unwrap_or_else(processors), self.config)?;
-        let hub = Hub::new(desks.len(), self.every.unwrap_or(100_000), Meeting::new(desks.len(), self.sink));
+        let most = match self.inbox {
+            Some(0) => return Err(StartFault::BadInbox),
+            most => most.unwrap_or(usize::MAX),
+        };
+        let meeting = Meeting::new(desks.len(), self.sink);
+        let hub = Hub::new(desks.len(), self.every.unwrap_or(100_000), most, meeting, self.reporter);
         let hub = Closing(Some(Arc::new(hub)));
         let workers: Result<_, Fault> = desks.into_iter().map(|desk| Worker::new(hub.of(), desk)).collect();
         launch(hub, workers?).map_err(|(fault, ..)| StartFault::Thread(fault))
@@ -88,12 +130,15 @@ pub enum StartFault {
     Table(Fault),
     /// A thread was not started.
     Thread(io::Error),
+    /// An inbox would take nothing in.
+    BadInbox,
 }
 
 impl fmt::Display for StartFault {
     fn fmt(&self, f: &mut fmt::Formatter<'_>) -> fmt::Result {
         match self {
             StartFault::Table(fault) => write!(f, "the node is not opened: {fault}"),
+            StartFault::BadInbox => f.write_str("the bound of an inbox is 0"),
             StartFault::Thread(fault) => write!(f, "a thread is not started: {fault}"),
         }
     }
@@ -115,6 +160,11 @@ thread_local! {
 /// Whether this thread runs the handlers of this run.
 pub(crate) fn is_inside(hub: &Arc<Hub>) -> bool {
     INSIDE.get() == Arc::as_ptr(hub)
+}
+
+/// Whether this thread runs the handlers of some run.
+pub(crate) fn is_worker() -> bool {
+    !INSIDE.get().is_null()
 }
 
 /// What the threads share, which is closed as it is dropped: nothing comes in any more, and what was kept is dropped.
@@ -159,16 +209,18 @@ pub(crate) fn launch(hub: Closing, workers: Vec<Worker>) -> Result<Runtime, (io:
 
 /// Runs a worker. If it panics, which no handler makes it do, the others hear of it.
 fn watched(hub: &Hub, worker: Worker) -> Worker {
-    struct Watch<'a>(&'a Hub);
+    struct Watch<'a>(&'a Hub, u8);
     impl Drop for Watch<'_> {
         fn drop(&mut self) {
             if std::thread::panicking() {
                 self.0.meeting.lose();
                 self.0.ring_all();
+                self.0.places[usize::from(self.1)].halt(true);
+                self.0.report(&Report::Lost);
             }
         }
     }
-    let _watch = Watch(hub);
+    let _watch = Watch(hub, worker.number);
     INSIDE.set(hub);
     worker.run()
 }

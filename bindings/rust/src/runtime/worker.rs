@@ -2,11 +2,13 @@
 
 use super::PANIC;
 use super::address::Address;
+use super::asked::tell_dropped;
 use super::behaviour::Behaviour;
-use super::hub::{END, GO_ON, Hub, KILL};
+use super::hub::{END, GO_ON, Hub, KILL, Origin};
 use super::inbox::{Place, Task};
-use super::payloads::{News, quietly};
+use super::payloads::{News, drop_quietly, quietly};
 use super::process::{Actor, Process};
+use super::report::Report;
 use super::timing::Alarms;
 use crate::crew::{Crew, Job, Next, What};
 use crate::{Body, Desk, Fault, Item, Pid, Reason};
@@ -201,7 +203,14 @@ impl Worker {
         self.place().runs(Some(pid));
         match catch_unwind(AssertUnwindSafe(|| actor.told(self, what))) {
             Ok(next) => self.answers.push((pid, next)),
-            Err(what) => self.crash(pid, place, what),
+            Err(what) => {
+                let text = text_of(&*what).into();
+                if self.crash(pid, place, text).is_err() {
+                    self.answers.push((pid, Next::Stop(PANIC)));
+                }
+                drop_quietly(what);
+                tell_dropped();
+            }
         }
         self.place().runs(None);
         if let Some(seat) = &mut self.seats[place] {
@@ -223,14 +232,13 @@ impl Worker {
         actor.ended(self, why);
     }
 
-    /// A handler has panicked: its process exits at once, and those who hear of it find the text.
-    fn crash(&mut self, pid: Pid, place: usize, what: Box<dyn Any + Send>) {
+    /// A process crashes: it exits at once, and those who hear of it find the text. If that is refused, there is no memory.
+    fn crash(&mut self, pid: Pid, place: usize, text: Arc<str>) -> Result<(), Fault> {
         self.hub.panics.fetch_add(1, SeqCst);
         if let Some(seat) = &mut self.seats[place] {
             seat.crashed = true;
         }
-        let (text, epoch): (Arc<str>, u64) = (text_of(&*what).into(), self.hub.epochs());
-        quietly(|| drop(what));
+        let epoch = self.hub.epochs();
         let desk = self.desk.as_mut().expect("a desk, outside of a meeting");
         for (monitor, owner) in desk.watchers(pid).into_iter().flatten() {
             if let Some(slot) = self.hub.slot(owner) {
@@ -243,8 +251,24 @@ impl Worker {
             }
         }
         let exited = desk.exit(pid, PANIC);
-        if self.noted(exited).is_err() {
-            self.answers.push((pid, Next::Stop(PANIC)));
+        if let Some(slot) = self.hub.slot(pid) {
+            // (first, so that a request that the panic has dropped fails with its text)
+            slot.crashed(&text);
+            self.hub.report(&Report::Crash { pid, behaviour: slot.name(), text: &text });
+        }
+        self.noted(exited)
+    }
+
+    /// More messages wait for a process than may: it crashes, unless it has exited.
+    pub(crate) fn overflow(&mut self, pid: Pid) {
+        let is_seat = |seat: &Option<Seat>| seat.as_ref().is_some_and(|seat| seat.pid == pid && !seat.crashed);
+        let Some(place) = self.seats.iter().position(is_seat) else { return };
+        if self.desk().alive(pid) && self.crash(pid, place, "more messages wait than may".into()).is_err() {
+            // (without memory the run halts, and it crashes as the run goes on)
+            if let Some(seat) = &mut self.seats[place] {
+                seat.crashed = false;
+            }
+            self.place().post(Task::Do(Box::new(move |worker| worker.overflow(pid))), Origin::Run);
         }
     }
 
@@ -298,7 +322,7 @@ impl Worker {
 
     /// Spawns a process, perhaps as a child of one of this desk.
     pub(crate) fn spawn<B: Behaviour>(&mut self, parent: Parent, behaviour: B) -> Result<Address<B::Message>, Fault> {
-        let place = self.free.last().copied().unwrap_or(self.seats.len());
+        let (bound, place) = (behaviour.most_waiting(), self.free.last().copied().unwrap_or(self.seats.len()));
         let desk = self.desk.as_mut().expect("a desk, outside of a meeting");
         let spawned = match parent {
             Parent::Outside => self.crew.spawn(desk, place as u64, Next::Proceed),
@@ -306,7 +330,7 @@ impl Worker {
             Parent::Supervisor(pid) => self.crew.spawn_child(desk, pid, true, place as u64, Next::Proceed),
         };
         let pid = self.noted(spawned)?;
-        let address = Address::new(pid, std::any::type_name::<B>(), &self.hub);
+        let address = Address::new(pid, std::any::type_name::<B>(), bound, &self.hub);
         self.place().admit(address.mailbox.clone());
         self.hub.alive.fetch_add(1, SeqCst);
         self.hub.spawned.fetch_add(1, SeqCst);
@@ -381,7 +405,9 @@ impl Worker {
         }
         let times = [self.crew.next_time(), self.alarms.next()];
         let until = times.into_iter().flatten().min();
-        self.place().rest(until.map(|at| self.hub.until(at)));
+        let seats = || self.seats.iter().flatten().filter_map(|seat| seat.actor.as_ref());
+        let owed = if self.place().drains() { seats().map(|actor| actor.owed()).sum() } else { 0 };
+        self.place().rest(until.map(|at| self.hub.until(at)), owed);
         self.place().has_room();
     }
 }
