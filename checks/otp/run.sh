@@ -24,7 +24,7 @@
 #   saw ended ID PROCESS REASON
 #   saw failed ID                             a start failed
 #   saw answer NUMBER ANSWER                  the call with this number returned that
-#   saw boss REASON                           the supervisor exited
+#   saw boss REASON                           the supervisor exited, also as it began
 #   end TIME
 # A SPEC is its number, and the child's id, restart type, shutdown and kind. The kinds: plain; slow TIME REASON, which
 # traps exits and exits so much later; deaf, which traps exits and stays; failing N M, of which M starts fail behind the Nth.
@@ -33,8 +33,10 @@
 # - A temporary child keeps its place when it has exited. The driver deletes it before the next call.
 # - OTP's which_children has the last child in front. The escript turns its list round.
 # - OTP's count_children asks whether each process is alive. The driver counts no child whose exit is still unheard.
-# - A start that fails is tried again until it does not. Starts fail only as a child is started again, with no call waiting,
-#   below the limit, and under one_for_all only those of the first child.
+# - A child that a call added, and that did not start, keeps its place. The driver deletes it at once.
+# - Children that wait for another one whose start failed are to be started, and OTP's are not. The driver shows them so.
+#   Where starts fail under one_for_all and rest_for_one, no call starts, restarts or deletes a child, or ends one whose
+#   starts fail.
 # - OTP counts restarts by whole seconds. Restarts are less than a short span apart, just as much, or at least twice.
 # - Which orphan exits first behind its supervisor is chance. compare.py puts them in order.
 # - OTP allows no two children with one id, and none of these scenarios has them.

@@ -74,9 +74,14 @@ play([["scenario", Number, Strategy, Most, Span] | Lines], Slowness) ->
     Specs = [spec(Words, Slowness) || ["child" | Words] <- Children],
     Began = beginning(list_to_integer(Span)),
     First = {"0", stamp()},
-    {ok, Boss} = supervisor:start_link(?MODULE, {self(), Flags, Specs}),
+    Boss = start_boss({self(), Flags, Specs}),
     Play = #play{slowness = Slowness, began = Began, boss = Boss, steps = [First]},
     text(Number, play_steps(Steps, Play)).
+
+%% Starts the supervisor. It has exited again if one of its first children did not start.
+start_boss(Arguments) ->
+    _ = supervisor:start_link(?MODULE, Arguments),
+    receive {boss, Boss} -> Boss end.
 
 %% Waits until a scenario with this span may begin, and returns when that is. Those with a long span begin at any time, so
 %% that not all do the same at once.
@@ -115,6 +120,7 @@ reason(Word) -> list_to_atom(Word).
 
 %% The supervisor's own process calls this before it starts a child. From here on it is traced, and its children with it.
 init({Player, Flags, Specs}) ->
+    Player ! {boss, self()},
     erlang:trace(self(), true, [procs, send, set_on_spawn, strict_monotonic_timestamp, {tracer, Player}]),
     {ok, {Flags, Specs}}.
 
@@ -317,12 +323,14 @@ word(Atom) when is_atom(Atom) -> atom_to_list(Atom);
 word(Term) -> io_lib:format("~0p", [Term]).
 
 reason_text({other, Number}) -> ["other:", integer_to_list(Number)];
+reason_text({shutdown, {failed_to_start_child, _Id, _Fault}}) -> "shutdown";
 reason_text(Reason) -> word(Reason).
 
 %% An answer. OTP's which_children has the last child in front, so the list is turned round.
 answer(ok, _Numbers) -> "ok";
 answer({ok, Kid}, Numbers) -> words([ok, maps:get(Kid, Numbers)]);
 answer({error, {already_started, Kid}}, Numbers) -> words([already_started, maps:get(Kid, Numbers)]);
+answer({error, {Fault, _Child}}, _Numbers) -> word(Fault);
 answer({error, Fault}, _Numbers) -> word(Fault);
 answer([{specs, Specs}, {active, Active} | _], _Numbers) -> words([count, Specs, Active]);
 answer(Children, Numbers) when is_list(Children) ->

@@ -21,7 +21,7 @@ use Rattle.pt_crew.specs.Upholding.{child_by, children_by}
 use Rattle.pt_crew.proofs.Waking.{by_cases}
 use Rattle.pt_supervisor.specs.Children.{NoneLives}
 use Rattle.pt_supervisor.specs.Hearing.{Standing}
-use Rattle.pt_supervisor.specs.Keeping.{is_cut, all_events, IsTied, IsHeld, Family, tells_end, has_told, WereTold, all_children, IsPlaced, Remembers, AreAsked, IsWatched, bids_to, Holds, HoldsAs}
+use Rattle.pt_supervisor.specs.Keeping.{IsReady, is_cut, all_events, IsTied, IsHeld, Family, tells_end, has_told, WereTold, all_children, IsPlaced, Remembers, AreAsked, IsWatched, bids_to, Holds, HoldsAs}
 use Rattle.pt_supervisor.proofs.Tying.{or_left, or_right}
 use Rattle.pt_pauses.proofs.Stopping.{any_both, any_events, any_filter}
 
@@ -124,6 +124,7 @@ module _ (past : Past) (merged : List Stamped) (me : Pid) (d e : ShardState) (ba
           let k = h.0 (ap is_living (sym same) ∙ alive) in
           record {
             waits = k.waits;
+            ready = subst (IsReady next) (sym same) k.ready;
             remembers = remembers_then s k.remembers;
             traps = subst (λ (x : Phase). ((state_of x).traps ≡ true) ⊎ ((next ≡ Proceed) × NoneLives s.children)) (sym same) k.traps;
             family = family_then s same k.family;

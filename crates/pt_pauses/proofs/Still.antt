@@ -281,7 +281,7 @@ module _ {B : Type 0} (part : PartOf B) (laws : StillLaws) (past : Past) (c : Cr
         let w = holds.waits in
         let none = idle p (b, WaitUntil (Pick.DownOf ref) t) is in
         inr (w.0, is_ending (WaitUntil (Pick.DownOf ref) t) holds w.0 w.1 (Until ref t) ref w.2 refl none refl (λ from. (tt, trapped_then (WaitUntil (Pick.DownOf ref) t) holds w.0 w.1 (Until ref t) ref w.2 refl none refl from)))
-    outcome (WaitUntil Pick.Any t) holds is = absurd holds.waits
+    outcome (WaitUntil Pick.Any t) holds is = absurd (let bad : true ≡ false = sym holds.ready ∙ idle p (b, WaitUntil Pick.Any t) is in cc)
     outcome (WaitUntil (Pick.Kind k) t) holds is = absurd holds.waits
     outcome (WaitUntil (Pick.From f) t) holds is = absurd holds.waits
     outcome (WaitUntil (Pick.ExitOf f) t) holds is = absurd holds.waits

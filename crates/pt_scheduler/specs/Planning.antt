@@ -5,6 +5,7 @@ use Rattle.pt_shard.specs.declared.fault.Fault.{Fault}
 use Rattle.pt_crew.specs.declared.behaviour.Next.{Next}
 use Rattle.pt_crew.specs.declared.behaviour.Next.TheVariants.{Proceed}
 use Rattle.pt_supervisor.specs.declared.children.Child.{Child}
+use Rattle.pt_supervisor.specs.declared.trial.Trial.TheVariants.{First}
 use Rattle.pt_signal.specs.Values.{is_pid}
 use Rattle.pt_supervisor.specs.Hearing.{Standing}
 use Rattle.pt_supervisor.specs.Supervising.{StartsOf}
@@ -58,7 +59,14 @@ starts_post old boss place result new = (new ≡ old) × (result ≡ child_of_po
 
 -- a new supervisor
 abbrev pub child_as : ChildSpec → Child
-child_as spec = record { pid = None; restart = spec.restart; shutdown = spec.shutdown; wanted = true; id = spec.tag }
+child_as spec = record {
+  pid = None;
+  restart = spec.restart;
+  shutdown = spec.shutdown;
+  wanted = true;
+  id = spec.tag;
+  trial = First;
+}
 
 abbrev pub post_as : ChildSpec → Post
 post_as spec = record { tag = spec.tag; again = false }

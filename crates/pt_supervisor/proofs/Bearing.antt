@@ -12,8 +12,10 @@ use Rattle.pt_shard.specs.ShardState.{ShardState}
 use Rattle.pt_crew.specs.Births.{Bore, bore}
 use Rattle.pt_supervisor.specs.declared.children.Child.{Child}
 use Rattle.pt_supervisor.specs.declared.children.Shutdown.{Shutdown}
-use Rattle.pt_supervisor.specs.Children.{is_missing, last_alive}
-use Rattle.pt_supervisor.specs.Supervising.{StartsOf, Nursery, BearsAs, StartsAt, StartsOne, StartsFirst, StartsAll, SupervisorScene, nursery, SupervisorSettles, AdvancesAs, SupervisorHandles, after_attending}
+use Rattle.pt_supervisor.specs.declared.restart.Strategy.{Strategy}
+use Rattle.pt_supervisor.specs.Children.{last_alive}
+use Rattle.pt_supervisor.specs.Trying.{is_startable}
+use Rattle.pt_supervisor.specs.Supervising.{StartsOf, Nursery, BearsAs, TriesAt, StartsAt, StartsOne, StartsFirst, StartsUpTo, SupervisorScene, nursery, SupervisorSettles, AdvancesAs, SupervisorHandles, after_attending}
 use Rattle.pt_supervisor.specs.Keeping.{AllStarted, AllBegin, SupervisorBegins, BearsFrom, PartOf}
 
 module _ {S B : Type 0} (starts : StartsOf S B) (me : Pid) where
@@ -32,35 +34,33 @@ module _ {S B : Type 0} (starts : StartsOf S B) (me : Pid) where
   bore_from place b first was later d e old new (Ok p) s h = (record { pid = p; behaviour = b; next = first } ∷ [], h.1, ((was, place, later, s), tt))
   bore_from place b first was later d e old new (Err f) s h = from_none old new h.1
 
-  bears_from : (place : ℕ) (c : Child) (begins : Result (B × Next) Fault) (old new : Nursery S B) (answer : Bool) → starts old.start me place begins new.start → BearsAs me place c begins old answer new
-      → BearsFrom starts me old.born new.born
-  bears_from place c (Err f) old new answer s h = from_none old.born new.born h.3
-  bears_from place c (Ok (b, first)) old new answer s h = bore_from place b first old.start new.start old.desk new.desk old.born new.born h.0 s h.1
+  bears_from : (place : ℕ) (c : Child) (begins : Result (B × Next) Fault) (old new : Nursery S B) → starts old.start me place begins new.start → BearsAs me place c begins old new → BearsFrom starts me old.born new.born
+  bears_from place c (Err f) old new s h = from_none old.born new.born h.2
+  bears_from place c (Ok (b, first)) old new s h = bore_from place b first old.start new.start old.desk new.desk old.born new.born h.0 s h.1
 
-  missing_from : (missing : Bool) (place : ℕ) (c : Child) (old new : Nursery S B) (answer : Bool)
-      → MatchBool missing ((begins : Result (B × Next) Fault) × starts old.start me place begins new.start × BearsAs me place c begins old answer new) ((answer ≡ true) × (new ≡ old))
-      → BearsFrom starts me old.born new.born
-  missing_from true place c old new answer h = bears_from place c h.0 old new answer h.1 h.2
-  missing_from false place c old new answer h = from_none old.born new.born (ap (λ (n : Nursery S B). n.born) h.1)
+  due_from : (due : Bool) (place : ℕ) (c : Child) (old new : Nursery S B) → MatchBool due (TriesAt starts me place c old new) (new ≡ old) → BearsFrom starts me old.born new.born
+  due_from true place c old new h = bears_from place c h.0 old new h.1 h.2
+  due_from false place c old new h = from_none old.born new.born (ap (λ (n : Nursery S B). n.born) h)
 
-  at_from : (place : ℕ) (o : Option Child) (old new : Nursery S B) (answer : Bool) → StartsAt starts me place o old answer new → BearsFrom starts me old.born new.born
-  at_from place None old new answer h = absurd h
-  at_from place (Some c) old new answer h = missing_from (is_missing c) place c old new answer h
+  module _ (strategy : Strategy) where
+    at_from : (place : ℕ) (o : Option Child) (old new : Nursery S B) (answer : Bool) → StartsAt starts me strategy place o old answer new → BearsFrom starts me old.born new.born
+    at_from place None old new answer h = absurd h
+    at_from place (Some c) old new answer h = due_from (is_startable c) place c old new h.1
 
-  one_from : (place : ℕ) (old new : Nursery S B) (answer : Bool) → StartsOne starts me place old answer new → BearsFrom starts me old.born new.born
-  one_from place old new answer h = at_from place (slice_get old.children place) old new answer h
+    one_from : (place : ℕ) (old new : Nursery S B) (answer : Bool) → StartsOne starts me strategy place old answer new → BearsFrom starts me old.born new.born
+    one_from place old new answer h = at_from place (slice_get old.children place) old new answer h
 
-  first_from : (n : ℕ) (old new : Nursery S B) → StartsFirst starts me n old new → BearsFrom starts me old.born new.born
-  first_from zero old new h = from_none old.born new.born (ap (λ (x : Nursery S B). x.born) h)
-  first_from (suc n) old new h = from_then old.born h.0.born new.born (first_from n old h.0 h.1) (one_from n h.0 new true h.2)
+    first_from : (n : ℕ) (old new : Nursery S B) → StartsFirst starts me strategy n old new → BearsFrom starts me old.born new.born
+    first_from zero old new h = from_none old.born new.born (ap (λ (x : Nursery S B). x.born) h)
+    first_from (suc n) old new h = from_then old.born h.0.born new.born (first_from n old h.0 h.1) (one_from n h.0 new true h.2)
 
-  all_from : (count : ℕ) (old new : Nursery S B) (answer : Bool) → StartsAll starts me count old answer new → BearsFrom starts me old.born new.born
-  all_from count old new true h = first_from count old new h
-  all_from count old new false h = from_then old.born h.2.born new.born (first_from h.0 old h.2 h.3) (one_from h.0 h.2 new false h.4)
+    all_from : (count : ℕ) (old new : Nursery S B) (through : Bool) → StartsUpTo starts me strategy count old through new → BearsFrom starts me old.born new.born
+    all_from count old new true h = first_from count old new h
+    all_from count old new false h = from_then old.born h.2.born new.born (first_from h.0 old h.2 h.3) (one_from h.0 h.2 new false h.4)
 
   settles_from : (stopping : Option Reason) (old : SupervisorScene S B) (next : Next) (new : SupervisorScene S B) → SupervisorSettles starts me stopping old next new → BearsFrom starts me old.born new.born
   settles_from (Some r) old next new h = from_none old.born new.born (ap (λ (x : SupervisorScene S B). x.born) h.1)
-  settles_from None old next new h = all_from (length old.standing.children) (nursery old) (nursery new) h.0 h.1
+  settles_from None old next new h = all_from old.standing.strategy (length old.standing.children) (nursery old) (nursery new) h.1.0 h.1.1
 
   advances_from : (now : ℕ) (last : Option (Pid × Shutdown)) (old : SupervisorScene S B) (next : Next) (new : SupervisorScene S B) → AdvancesAs starts me now last old next new → BearsFrom starts me old.born new.born
   advances_from now (Some (p, shutdown)) old next new h = from_none old.born new.born h.2

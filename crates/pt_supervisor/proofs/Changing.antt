@@ -6,11 +6,14 @@ use Rattle.pt_signal.specs.declared.pid.Pid.{Pid}
 use Rattle.pt_supervisor.specs.declared.children.Child.{Child}
 use Rattle.pt_supervisor.specs.declared.seen.ChildState.TheVariants.{Undefined}
 use Rattle.pt_supervisor.specs.Children.{NoneLives}
-use Rattle.pt_supervisor.specs.Hearing.{Standing}
+use Rattle.pt_signal.specs.declared.reason.Reason.{Reason}
+use Rattle.pt_supervisor.specs.declared.trial.Trial.TheVariants.{Again, Asked}
+use Rattle.pt_supervisor.specs.Hearing.{Standing, started_again, to_try, tried_again, tried_child, tried_where}
 use Rattle.pt_supervisor.specs.Keeping.{HoldsChildren, HoldsWhere, IsPlaced, child_at, pid_of_child, was_started}
 use Rattle.pt_supervisor.specs.Calling.{wanted_in, with_last_child, with_wanted, without_child}
 use Rattle.pt_supervisor.specs.Seen.{state_of_child}
-use Rattle.pt_supervisor.proofs.Families.{none_at, set_at, set_beside, set_same_at}
+use Rattle.pt_supervisor.proofs.Wanting.{again_asked, again_count, again_get, again_kept}
+use Rattle.pt_supervisor.proofs.Families.{again_stop, child_is, none_at, set_at, set_beside, set_same_at}
 
 -- the same children live, each in one place
 pub record SameLive (old new : List Child) : Type 0 where
@@ -48,7 +51,7 @@ pub holds_same : (s t : Standing) → t ≡ s → HoldsWhere s t
 holds_same s t is past next me d h = subst (λ (x : Standing). HoldsChildren past x next me d) (sym is) h
 
 -- one child becomes another with the same process
-set_live : (xs : List Child) (place : ℕ) (c v : Child) → slice_get xs place ≡ Some c → v.pid ≡ c.pid → SameLive xs (slice_set xs place v)
+pub set_live : (xs : List Child) (place : ℕ) (c v : Child) → slice_get xs place ≡ Some c → v.pid ≡ c.pid → SameLive xs (slice_set xs place v)
 set_live xs place c v at pid = record {
   from = λ j. j;
   sub = λ j q is. elim (cases_eq j place) [
@@ -62,12 +65,64 @@ set_live xs place c v at pid = record {
   ];
 }
 
-same_live : (xs : List Child) → SameLive xs xs
+pub same_live : (xs : List Child) → SameLive xs xs
 same_live xs = record { from = λ j. j; sub = λ j q is. is; apart = λ i j e. e; kept = λ j q is. (j, is) }
+
+live_then : (xs ys zs : List Child) → SameLive xs ys → SameLive ys zs → SameLive xs zs
+live_then xs ys zs a b = record {
+  from = λ j. a.from (b.from j);
+  sub = λ j q is. a.sub (b.from j) q (b.sub j q is);
+  apart = λ i j e. b.apart i j (a.apart (b.from i) (b.from j) e);
+  kept = λ j q is. let k = a.kept j q is in b.kept k.0 q k.1;
+}
+
+-- a restart
+again_live : (again : Bool) (now place id : ℕ) (reason : Reason) (s : Standing) → SameLive s.children (started_again again now place id reason s).children
+again_live again now place id reason s = record {
+  from = λ j. j;
+  sub = λ j q is.
+      let x = child_is (started_again again now place id reason s).children j q is in
+      let k = again_get again now place id reason s j x.0 x.1 in
+      ap pid_of_child k.1 ∙ (sym k.2.pid ∙ x.2);
+  apart = λ i j e. e;
+  kept = λ j q is.
+      let x = child_is s.children j q is in
+      let k = again_kept again now place id reason s j x.0 x.1 in
+      (j, ap pid_of_child k.1 ∙ (k.2.pid ∙ x.2));
+}
+
+-- a child that is tried again
+pub record SameTried (s t : Standing) : Type 0 where
+  pub live : SameLive s.children t.children
+  pub stop : t.stopping ≡ None → s.stopping ≡ None
+  pub asked : t.asked ≡ s.asked
+  pub count : t.started ≡ s.started
+
+tried_same : (now place : ℕ) (o : Option Child) (s : Standing) → slice_get s.children place ≡ o → SameTried s (tried_child now place o s)
+tried_same now place None s at = record { live = same_live s.children; stop = λ h. h; asked = refl; count = refl }
+tried_same now place (Some c) s at = record {
+  live = live_then s.children (slice_set s.children place v) (started_again true now place c.id Reason.Noproc t).children (set_live s.children place c v at refl) (again_live true now place c.id Reason.Noproc t);
+  stop = λ h. again_stop true now place c.id Reason.Noproc t h;
+  asked = again_asked true now place c.id Reason.Noproc t;
+  count = again_count true now place c.id Reason.Noproc t;
+}
+  where
+    v : Child
+    v = record c { trial = Again }
+
+    t : Standing
+    t = record s { children = slice_set s.children place v }
+
+where_same : (o : Option ℕ) (now : ℕ) (s : Standing) → SameTried s (tried_where o now s)
+where_same None now s = record { live = same_live s.children; stop = λ h. h; asked = refl; count = refl }
+where_same (Some place) now s = tried_same now place (slice_get s.children place) s refl
+
+pub again_same : (now : ℕ) (s : Standing) → SameTried s (tried_again now s)
+again_same now s = where_same (to_try s) now s
 
 wanted_live : (wanted : Bool) (place : ℕ) (o : Option Child) (xs : List Child) → slice_get xs place ≡ o → SameLive xs (wanted_in wanted place o xs)
 wanted_live wanted place None xs at = same_live xs
-wanted_live wanted place (Some c) xs at = set_live xs place c (record c { wanted = wanted }) at refl
+wanted_live wanted place (Some c) xs at = set_live xs place c (record c { wanted = wanted; trial = Asked }) at refl
 
 pub with_wanted_holds : (wanted : Bool) (place : ℕ) (s t : Standing) → t ≡ with_wanted wanted place s → HoldsWhere s t
 with_wanted_holds wanted place s t is =
@@ -91,7 +146,7 @@ more_live xs c none = record { from = λ j. j; sub = λ j q is. more_sub xs c j 
 
 pub more_holds : (c : Child) (s t : Standing) → t ≡ with_last_child c s → HoldsWhere s t
 more_holds c s t is =
-    subst (HoldsWhere s) (sym is) (holds_where s (with_last_child c s) (more_live s.children (record c { pid = None; wanted = true }) refl) refl refl refl)
+    subst (HoldsWhere s) (sym is) (holds_where s (with_last_child c s) (more_live s.children (record c { pid = None; wanted = true; trial = Asked }) refl) refl refl refl)
 
 -- one child less ---------------------------------------------------------------------------------------------------
 

@@ -27,12 +27,15 @@ use Rattle.pt_supervisor.specs.declared.asked.Stage.TheVariants.{Watched, Waitin
 use Rattle.pt_supervisor.specs.declared.asked.Stage.TheVariants as far
 use Rattle.pt_supervisor.specs.declared.children.Child.{Child}
 use Rattle.pt_supervisor.specs.declared.children.Shutdown.{Shutdown}
-use Rattle.pt_supervisor.specs.Children.{is_missing, last_alive}
+use Rattle.pt_supervisor.specs.declared.restart.Strategy.{Strategy}
+use Rattle.pt_supervisor.specs.Children.{last_alive}
+use Rattle.pt_supervisor.specs.Trying.{is_startable}
 use Rattle.pt_supervisor.specs.Ending.{bids, gone_in, stage_of, stage_told}
-use Rattle.pt_supervisor.specs.Hearing.{Standing, at_stage, monitor_closed, gone_heard, heard, heard_gone}
+use Rattle.pt_supervisor.specs.Hearing.{Standing, at_stage, monitor_closed, gone_heard, gone_on, heard, heard_gone}
 use Rattle.pt_supervisor.specs.Limits.{moment}
-use Rattle.pt_supervisor.specs.Supervising.{CountsBirths, counted_with, EndsChild, TellsToEnd, WatchesChild, after_watching, StartsOf, Nursery, BearsAs, StartsAt, StartsOne, StartsFirst, StartsAll, SupervisorScene, nursery, SupervisorSettles, AdvancesAs, SupervisorAttends, SupervisorHandles, with_one, after_attending}
+use Rattle.pt_supervisor.specs.Supervising.{CountsBirths, counted_with, EndsChild, TellsToEnd, WatchesChild, after_watching, StartsOf, Nursery, BearsAs, TriesAt, StartsAt, StartsOne, StartsFirst, StartsUpTo, SupervisorScene, nursery, SupervisorSettles, AdvancesAs, SupervisorAttends, SupervisorHandles, with_one, after_attending}
 use Rattle.pt_supervisor.proofs.Families.{ToldAs, WatchedAs, heard_count, told_as, watched_as}
+use Rattle.pt_supervisor.proofs.Changing.{again_same}
 use Rattle.pt_supervisor.proofs.Tending.{ends_rest, not_born}
 
 more_then : (xs ys : List Pid) (n : ℕ) → counted_with (xs ++ ys) n ≡ counted_with xs (counted_with ys n)
@@ -71,30 +74,30 @@ module _ (me : Pid) where
     }
     bore_counts b first d e wait waiting (Err f) old h = counts_is old d old e (not_born me b first f d e h.0) refl
 
-    bears_counts : (place : ℕ) (c : Child) (begins : Result (B × Next) Fault) (old new : Nursery S B) (answer : Bool) → BearsAs me place c begins old answer new → Counts old new
-    bears_counts place c (Err f) old new answer h = counts_is old.started old.desk new.started new.desk h.2 h.4
-    bears_counts place c (Ok (b, first)) old new answer h =
-        subst (λ (n : ℕ). CountsBirths me old.started old.desk n new.desk) (sym h.4) (bore_counts b first old.desk new.desk old.born new.born h.0 old.started h.1)
+    bears_counts : (place : ℕ) (c : Child) (begins : Result (B × Next) Fault) (old new : Nursery S B) → BearsAs me place c begins old new → Counts old new
+    bears_counts place c (Err f) old new h = counts_is old.started old.desk new.started new.desk h.1 h.3
+    bears_counts place c (Ok (b, first)) old new h =
+        subst (λ (n : ℕ). CountsBirths me old.started old.desk n new.desk) (sym h.3) (bore_counts b first old.desk new.desk old.born new.born h.0 old.started h.1)
 
-    missing_counts : (missing : Bool) (place : ℕ) (c : Child) (old new : Nursery S B) (answer : Bool)
-        → MatchBool missing ((begins : Result (B × Next) Fault) × starts old.start me place begins new.start × BearsAs me place c begins old answer new) ((answer ≡ true) × (new ≡ old)) → Counts old new
-    missing_counts true place c old new answer h = bears_counts place c h.0 old new answer h.2
-    missing_counts false place c old new answer h = same_counts old new h.1
+    due_counts : (due : Bool) (place : ℕ) (c : Child) (old new : Nursery S B) → MatchBool due (TriesAt starts me place c old new) (new ≡ old) → Counts old new
+    due_counts true place c old new h = bears_counts place c h.0 old new h.2
+    due_counts false place c old new h = same_counts old new h
 
-    at_counts : (place : ℕ) (o : Option Child) (old new : Nursery S B) (answer : Bool) → StartsAt starts me place o old answer new → Counts old new
-    at_counts place None old new answer h = absurd h
-    at_counts place (Some c) old new answer h = missing_counts (is_missing c) place c old new answer h
+    module _ (strategy : Strategy) where
+      at_counts : (place : ℕ) (o : Option Child) (old new : Nursery S B) (answer : Bool) → StartsAt starts me strategy place o old answer new → Counts old new
+      at_counts place None old new answer h = absurd h
+      at_counts place (Some c) old new answer h = due_counts (is_startable c) place c old new h.1
 
-    one_counts : (place : ℕ) (old new : Nursery S B) (answer : Bool) → StartsOne starts me place old answer new → Counts old new
-    one_counts place old new answer h = at_counts place (slice_get old.children place) old new answer h
+      one_counts : (place : ℕ) (old new : Nursery S B) (answer : Bool) → StartsOne starts me strategy place old answer new → Counts old new
+      one_counts place old new answer h = at_counts place (slice_get old.children place) old new answer h
 
-    first_counts : (n : ℕ) (old new : Nursery S B) → StartsFirst starts me n old new → Counts old new
-    first_counts zero old new h = same_counts old new h
-    first_counts (suc n) old new h = counts_then old.started old.desk h.0.started h.0.desk new.started new.desk (first_counts n old h.0 h.1) (one_counts n h.0 new true h.2)
+      first_counts : (n : ℕ) (old new : Nursery S B) → StartsFirst starts me strategy n old new → Counts old new
+      first_counts zero old new h = same_counts old new h
+      first_counts (suc n) old new h = counts_then old.started old.desk h.0.started h.0.desk new.started new.desk (first_counts n old h.0 h.1) (one_counts n h.0 new true h.2)
 
-    all_counts : (count : ℕ) (old new : Nursery S B) (answer : Bool) → StartsAll starts me count old answer new → Counts old new
-    all_counts count old new true h = first_counts count old new h
-    all_counts count old new false h = counts_then old.started old.desk h.2.started h.2.desk new.started new.desk (first_counts h.0 old h.2 h.3) (one_counts h.0 h.2 new false h.4)
+      all_counts : (count : ℕ) (old new : Nursery S B) (through : Bool) → StartsUpTo starts me strategy count old through new → Counts old new
+      all_counts count old new true h = first_counts count old new h
+      all_counts count old new false h = counts_then old.started old.desk h.2.started h.2.desk new.started new.desk (first_counts h.0 old h.2 h.3) (one_counts h.0 h.2 new false h.4)
 
   -- one that is ended -----------------------------------------------------------------------------------
 
@@ -163,8 +166,8 @@ module _ (me : Pid) where
   found_count now s None = refl
   found_count now s (Some p) = heard_count now p Reason.Noproc (record s { asked = None })
 
-  if_found : (answer : Bool) (now : ℕ) (s : Standing) → (cond answer (gone_heard now s) s).started ≡ s.started
-  if_found true now s = found_count now s (gone_in s.asked)
+  if_found : (answer : Bool) (now : ℕ) (s : Standing) → (cond answer (gone_on now s) s).started ≡ s.started
+  if_found true now s = (again_same now (gone_heard now s)).count ∙ found_count now s (gone_in s.asked)
   if_found false now s = refl
 
   heard_counts : (s m n : Standing) (d e : DeskState) → m ≡ n → n.started ≡ s.started → e ≡ d → CountsBirths me s.started d.shard m.started e.shard
@@ -193,7 +196,7 @@ module _ (me : Pid) where
 
     settles_counts : (stopping : Option Reason) (old : SupervisorScene S B) (next : Next) (new : SupervisorScene S B) → SupervisorSettles starts me stopping old next new → SceneCounts old new
     settles_counts (Some r) old next new h = scene_same old new h.1
-    settles_counts None old next new h = all_counts starts (length old.standing.children) (nursery old) (nursery new) h.0 h.1
+    settles_counts None old next new h = all_counts starts old.standing.strategy (length old.standing.children) (nursery old) (nursery new) h.1.0 h.1.1
 
     advances_counts : (now : ℕ) (last : Option (Pid × Shutdown)) (old : SupervisorScene S B) (next : Next) (new : SupervisorScene S B) → AdvancesAs starts me now last old next new → SceneCounts old new
     advances_counts now (Some (p, shutdown)) old next new h =

@@ -22,7 +22,9 @@ use Rattle.pt_supervisor.specs.declared.children.Shutdown.TheVariants.{Infinity,
 use Rattle.pt_supervisor.specs.Children.{last_alive}
 use Rattle.pt_supervisor.specs.Ending.{bids, stage_of, stage_told, next_at_stage}
 use Rattle.pt_supervisor.specs.Hearing.{Standing, at_stage}
+use Rattle.pt_events.specs.History.{Phase}
 use Rattle.pt_supervisor.specs.Supervising.{EndsChild, Supervises, TellsToEnd, after_watching}
+use Rattle.pt_supervisor.specs.Keeping.{IsReady}
 
 -- the one that it ends, as far as it has come
 pub stage_at : (asked : Option Asked) (p : Pid) (stage : Stage) → stage_of asked p ≡ Some stage → asked ≡ Some (record { pid = p; stage = stage })
@@ -80,3 +82,39 @@ module _ (me p : Pid) where
     ends_supervise now (Some (Waiting m)) is h = tells_supervise (bids shutdown) (stage_told shutdown m now) s d next t e (by_shutdown shutdown m now s last) h
     ends_supervise now (Some (Until m at)) is h = over_supervises (nat_lt now at) m at (stage_at s.asked p (Until m at) is) h
     ends_supervise now (Some (Killed m)) is h = kill_supervises m h
+
+-- as it ends a child it never waits for any item
+stage_ready : (stage : Stage) (f : Phase) → IsReady (next_at_stage stage) f
+stage_ready Gone f = tt
+stage_ready (Watched m) f = tt
+stage_ready (Waiting m) f = tt
+stage_ready (Until m at) f = tt
+stage_ready (Killed m) f = tt
+
+ready_if : (ok : Bool) (stage : Stage) (next : Next) (f : Phase) → next ≡ cond ok (next_at_stage stage) Proceed → IsReady next f
+ready_if true stage next f is = subst (λ (n : Next). IsReady n f) (sym is) (stage_ready stage f)
+ready_if false stage next f is = subst (λ (n : Next). IsReady n f) (sym is) tt
+
+pub proceed_ready : (next : Next) (f : Phase) → next ≡ Proceed → IsReady next f
+proceed_ready next f is = subst (λ (n : Next). IsReady n f) (sym is) tt
+
+module _ (me p : Pid) (shutdown : Shutdown) (now : ℕ) (next : Next) (f : Phase) where
+  tells_ready : (reason : Reason) (stage : Stage) (s : Standing) (d : DeskState) (t : Standing) (e : DeskState) → TellsToEnd me p reason stage s d next t e → IsReady next f
+  tells_ready reason stage s d t e h = ready_if (is_ok h.result) stage next f h.next_is
+
+  after_ready : (result : Result Ref CallFault) (s : Standing) (mid : DeskState) (t : Standing) (e : DeskState) → after_watching me now p shutdown result s mid next t e → IsReady next f
+  after_ready (Ok m) s mid t e h = tells_ready (bids shutdown) (stage_told shutdown m now) (at_stage p (Watched m) s) mid t e h
+  after_ready (Err c) s mid t e h = proceed_ready next f h.0
+
+  over_ready : (early : Bool) (m : Ref) (at : ℕ) (s : Standing) (d : DeskState) (t : Standing) (e : DeskState)
+      → MatchBool early ((next ≡ WaitUntil (Pick.DownOf m) at) × (t ≡ s) × (e ≡ d)) (TellsToEnd me p Reason.Kill (Killed m) s d next t e) → IsReady next f
+  over_ready true m at s d t e h = subst (λ (n : Next). IsReady n f) (sym h.0) tt
+  over_ready false m at s d t e h = tells_ready Reason.Kill (Killed m) s d t e h
+
+  pub ends_ready : (stage : Option Stage) (s : Standing) (d : DeskState) (t : Standing) (e : DeskState) → EndsChild me now p shutdown stage s d next t e → IsReady next f
+  ends_ready None s d t e h = after_ready h.result s h.mid t e h.goes
+  ends_ready (Some Gone) s d t e h = after_ready h.result s h.mid t e h.goes
+  ends_ready (Some (Watched m)) s d t e h = tells_ready (bids shutdown) (stage_told shutdown m now) s d t e h
+  ends_ready (Some (Waiting m)) s d t e h = tells_ready (bids shutdown) (stage_told shutdown m now) s d t e h
+  ends_ready (Some (Until m at)) s d t e h = over_ready (nat_lt now at) m at s d t e h
+  ends_ready (Some (Killed m)) s d t e h = tells_ready Reason.Kill (Killed m) s d t e h

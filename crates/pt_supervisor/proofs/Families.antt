@@ -39,6 +39,7 @@ use Rattle.pt_crew.proofs.Waking.{by_cases}
 use Rattle.pt_crew.proofs.Upholding.{later_is, later_same, later_then, later_after, born_then, phase_same, phase_is, alone_is, alone_then, alone_event, acts_is, acts_then, same_pid_sym, living_born}
 use Rattle.pt_supervisor.specs.declared.children.Child.{Child}
 use Rattle.pt_supervisor.specs.Children.{NoneLives}
+use Rattle.pt_supervisor.specs.Trying.{started_child}
 use Rattle.pt_supervisor.specs.Hearing.{Standing, gone, heard, heard_at, lost, restarted_child, started_again, stopped, wanted_again}
 use Rattle.pt_supervisor.specs.Limits.{allows}
 use Rattle.pt_supervisor.specs.Keeping.{pid_of_child, child_at, is_end_of, is_cut, has_cut, all_events, IsTied, IsHeld, Family, tells_end, has_told, WereTold, all_children, was_started, IsPlaced, Remembers}
@@ -87,7 +88,7 @@ restarted_stop : (allowed : Bool) (now place id : ℕ) (reason : Reason) (s : St
 restarted_stop true now place id reason s h = h
 restarted_stop false now place id reason s h = absurd (cc)
 
-again_stop : (again : Bool) (now place id : ℕ) (reason : Reason) (s : Standing) → (started_again again now place id reason s).stopping ≡ None → s.stopping ≡ None
+pub again_stop : (again : Bool) (now place id : ℕ) (reason : Reason) (s : Standing) → (started_again again now place id reason s).stopping ≡ None → s.stopping ≡ None
 again_stop true now place id reason s h = restarted_stop (allows now s.span s.most s.times) now place id reason s h
 again_stop false now place id reason s h = h
 
@@ -492,7 +493,7 @@ module _ (me p : Pid) (d e : ShardState) (i : LinkId) (unborn_is : is_unborn (ph
       ∙ ap (λ (b : Bool). (cond b (p ∷ []) [] ++ children_by me d.journal) ++ flat_map (child_by me) past) (same_pid_refl me)
 
   pub born_kept : (past : Past) (children : List Child) (started top place : ℕ) (c : Child) → slice_get children place ≡ Some c → c.pid ≡ None → Kept past children started None me d
-      → Kept past (slice_set children place (record c { pid = Some p })) (min (started + 1) top) None me e
+      → Kept past (slice_set children place (started_child p c)) (min (started + 1) top) None me e
   born_kept past children started top place c at missing k = record {
     remembers = λ were q was. remembered were q (one_taken started top q p (all_children past me d)
         (ap (λ (qs : List Pid). list_any (same_pid q) (take (min (started + 1) top) qs)) (sym (one_more past)) ∙ was));
@@ -523,7 +524,7 @@ module _ (me p : Pid) (d e : ShardState) (i : LinkId) (unborn_is : is_unborn (ph
   }
     where
       v : Child
-      v = record c { pid = Some p }
+      v = started_child p c
 
       t : ProcessState
       t = record (k.state) { links = enter p i k.state.links }

@@ -1,5 +1,5 @@
 -- A supervisor upholds that its children are held.
-use Rattle.std.proofs.Common.{◌≡◌, ◌⊎◌, inl, inr, ℕ, zero, suc, ◌-◌, ◌^◌, Bool, true, false, cond, not, ◌&&◌, List, [], ◌∷◌, length, take, slice_get, Option, Some, None, is_some, Result, Ok, Err, refl, sym, ap, subst, ◌∙◌}
+use Rattle.std.proofs.Common.{◌≡◌, ◌⊎◌, inl, inr, ℕ, zero, suc, ◌-◌, ◌^◌, Bool, true, false, cond, ◌&&◌, List, [], ◌∷◌, length, take, slice_get, slice_set, Option, Some, None, is_some, Result, Ok, Err, refl, sym, ap, subst, ◌∙◌}
 use Rattle.std.specs.Prelude.{MatchBool, is_ok, nat_lt}
 use Rattle.std.specs.List.{find, list_any}
 use Rattle.pt_signal.specs.declared.pid.Pid.{Pid}
@@ -24,7 +24,8 @@ use Rattle.pt_shard.specs.Known.{knows}
 use Rattle.pt_shard.specs.Calls.{Calls, BearsChild, new_link}
 use Rattle.pt_desk.specs.DeskState.{DeskState}
 use Rattle.pt_crew.specs.declared.behaviour.Next.{Next}
-use Rattle.pt_crew.specs.declared.behaviour.Next.TheVariants.{WaitUntil, Proceed, Stop}
+use Rattle.pt_workers.specs.Waking.{need_not_wait}
+use Rattle.pt_crew.specs.declared.behaviour.Next.TheVariants.{Wait, WaitUntil, Proceed, Running, Stop}
 use Rattle.pt_crew.specs.declared.births.Role.{Role}
 use Rattle.pt_crew.specs.Births.{Bore}
 use Rattle.pt_crew.specs.Waking.{pick_of}
@@ -41,18 +42,45 @@ use Rattle.pt_supervisor.specs.declared.asked.Stage.TheVariants.{Watched, Waitin
 use Rattle.pt_supervisor.specs.declared.asked.Stage.TheVariants as far
 use Rattle.pt_supervisor.specs.declared.children.Child.{Child}
 use Rattle.pt_supervisor.specs.declared.children.Shutdown.{Shutdown}
-use Rattle.pt_supervisor.specs.Children.{NoneLives, is_missing, last_alive}
-use Rattle.pt_supervisor.specs.Ending.{bids, gone_at, gone_in, is_ref, monitor_of, stage_of, stage_told}
+use Rattle.pt_supervisor.specs.declared.restart.Strategy.{Strategy}
+use Rattle.pt_supervisor.specs.Children.{NoneLives, last_alive}
+use Rattle.pt_supervisor.specs.Trying.{is_startable, unstarted_child}
+use Rattle.pt_supervisor.specs.Ending.{bids, gone_at, gone_in, is_ref, monitor_of, next_behind, next_tried, stage_of, stage_told}
 use Rattle.pt_supervisor.specs.Limits.{moment}
-use Rattle.pt_supervisor.specs.Hearing.{Standing, at_stage, monitor_closed, gone_heard, heard, heard_gone}
-use Rattle.pt_supervisor.specs.Supervising.{EndsChild, TellsToEnd, WatchesChild, after_watching, StartsOf, Nursery, BearsAs, StartsAt, StartsOne, StartsFirst, StartsAll, SupervisorScene, nursery, SupervisorSettles, AdvancesAs, SupervisorAttends, SupervisorHandles, Supervises, with_pid, with_one, after_attending}
-use Rattle.pt_supervisor.specs.Keeping.{is_end_of, is_cut, has_cut, all_events, IsTied, IsHeld, Family, all_children, was_started, has_told, IsPlaced, Remembers, AreAsked, IsWatched, Holds, HoldsChildren, ChangesBefore, ChangesAfter, Tends, PartOf, HoldsAs, Keeps, SupervisorBegins, AllBegin, ActsAs, SuperviseAs}
-use Rattle.pt_supervisor.proofs.Tying.{or_left, stays_in, tied_by, is_unlink, handled_tied, handled_traps}
+use Rattle.pt_supervisor.specs.Hearing.{Standing, at_stage, monitor_closed, gone_heard, gone_on, heard, heard_gone, tried_again}
+use Rattle.pt_supervisor.specs.Supervising.{EndsChild, TellsToEnd, WatchesChild, after_watching, StartsOf, Nursery, BearsAs, TriesAt, StartsAt, StartsOne, StartsFirst, StartsUpTo, SupervisorScene, nursery, settled, SupervisorSettles, AdvancesAs, SupervisorAttends, SupervisorHandles, Supervises, with_pid, with_one, after_attending}
+use Rattle.pt_supervisor.specs.Keeping.{IsReady, is_end_of, is_cut, has_cut, all_events, IsTied, IsHeld, Family, all_children, was_started, has_told, IsPlaced, Remembers, AreAsked, IsWatched, Holds, HoldsChildren, ChangesBefore, ChangesAfter, Tends, PartOf, HoldsAs, Keeps, SupervisorBegins, AllBegin, ActsAs, SuperviseAs}
+use Rattle.pt_supervisor.proofs.Wanting.{first_rest}
+use Rattle.pt_supervisor.proofs.Starting.{due_missing, missing_bare, unstarted_pid}
+use Rattle.pt_supervisor.proofs.Ending.{ends_ready, proceed_ready}
+use Rattle.pt_supervisor.proofs.Changing.{SameLive, again_same, same_live, set_live}
+use Rattle.pt_supervisor.proofs.Tying.{or_left, stays_in, tied_by, is_unlink, handled_ready, handled_tied, handled_traps}
 use Rattle.pt_supervisor.proofs.Telling.{found_any, waits_told}
 use Rattle.pt_supervisor.proofs.Families.{none_at, Less, less_heard, heard_asked, Goes, goes_is, goes_then, goes_event, cut_later, remembers_step, remembers_less, Kept, family_step, kept_is, own_phase, told_as, told_goes, told_kept, watched_as, watched_goes, watched_kept, born_goes, born_kept}
 use Rattle.pt_supervisor.proofs.Asking.{asked_step, asks_is, asks_step, ends_asks, handled_watched, unless_is, watched_by}
 
 -- births ---------------------------------------------------------------------------------------
+
+-- the same children live, and it stops where it did, or stops now
+kept_alike : (past : Past) (me : Pid) (e : ShardState) (xs ys : List Child) (started : ℕ) (o p : Option Reason) → SameLive xs ys → (p ≡ None → o ≡ None) → Kept past xs started o me e → Kept past ys started p me e
+kept_alike past me e xs ys started o p same stop k = record {
+  state = k.state;
+  living_is = k.living_is;
+  traps = k.traps;
+  family = record {
+    born = λ place q is. k.family.born (same.from place) q (same.sub place q is);
+    apart = λ i j q a b. same.apart i j (k.family.apart (same.from i) (same.from j) q (same.sub i q a) (same.sub j q b));
+    held = λ none place q is. k.family.held (stop none) (same.from place) q (same.sub place q is);
+  };
+  remembers = λ were q was. elim (k.remembers were q was) [
+    | inl placed ↦ inl (same.kept placed.0 q placed.1)
+    | inr told ↦ inr told
+  ];
+}
+
+kept_set : (past : Past) (me : Pid) (e : ShardState) (children : List Child) (started place : ℕ) (c v : Child) → slice_get children place ≡ Some c → v.pid ≡ c.pid → Kept past children started None me e
+    → Kept past (slice_set children place v) started None me e
+kept_set past me e children started place c v at pid k = kept_alike past me e children (slice_set children place v) started None None (set_live children place c v at pid) (λ h. h) k
 
 module _ {B : Type 0} (me : Pid) (b : B) (first : Next) where
   pub not_born : (f : Fault) (d e : ShardState) → BearsChild me true d (Err f) e ⊎ ((f ≡ Memory) × (e ≡ d)) → e ≡ d
@@ -68,95 +96,91 @@ module _ {B : Type 0} (me : Pid) (b : B) (first : Next) where
   bore_goes d e wait waiting (Ok p) h = born_goes me p d e (new_link d) h.2 (ap (λ (x : ShardState). x.start) h.0.1.2) (ap (λ (x : ShardState). x.journal) h.0.1.2)
   bore_goes d e wait waiting (Err f) h = goes_is me d e (not_born f d e h.0)
 
-  bore_kept : (past : Past) (d e : ShardState) (wait waiting : List (Role B)) (result : Result Pid Fault) (children : List Child) (started place : ℕ) (c : Child) → slice_get children place ≡ Some c → c.pid ≡ None
-      → Bore me true b first d wait result e waiting → Kept past children started None me d → Kept past (with_pid place c result children) (with_one result started) None me e
-  bore_kept past d e wait waiting (Ok p) children started place c at missing h k =
+  bore_kept : (past : Past) (d e : ShardState) (wait waiting : List (Role B)) (result : Result Pid Fault) (children : List Child) (started place clock : ℕ) (c : Child) → slice_get children place ≡ Some c → c.pid ≡ None
+      → Bore me true b first d wait result e waiting → Kept past children started None me d → Kept past (with_pid clock place c result children) (with_one result started) None me e
+  bore_kept past d e wait waiting (Ok p) children started place clock c at missing h k =
       born_kept me p d e (new_link d) h.2 (ap (λ (x : ShardState). x.start) h.0.1.2) (ap (λ (x : ShardState). x.journal) h.0.1.2) past children started (2 ^ 64 - 1) place c at missing k
-  bore_kept past d e wait waiting (Err f) children started place c at missing h k = kept_is past children started None me d e (not_born f d e h.0) k
+  bore_kept past d e wait waiting (Err f) children started place clock c at missing h k =
+      kept_set past me e children started place c (unstarted_child clock f c) at (unstarted_pid clock f c) (kept_is past children started None me d e (not_born f d e h.0) k)
 
 abbrev KeptIn : {S B : Type 0} → Past → Pid → Nursery S B → Type 0
 KeptIn past me n = Kept past n.children n.started None me n.desk
 
--- one that is missing has no pid
-no_pid : (c : Child) → is_missing c ≡ true → c.pid ≡ None
-no_pid c missing = go c.wanted c.pid missing
-  where
-    go : (wanted : Bool) (pid : Option Pid) → (wanted && not (is_some pid)) ≡ true → pid ≡ None
-    go true None h = refl
-    go true (Some p) h = absurd (cc)
-    go false pid h = absurd (cc)
-
 module _ {S B : Type 0} (starts : StartsOf S B) (me : Pid) where
-  bears_goes : (place : ℕ) (c : Child) (begins : Result (B × Next) Fault) (old new : Nursery S B) (answer : Bool) → BearsAs me place c begins old answer new → Goes me old.desk new.desk
-  bears_goes place c (Err f) old new answer h = goes_is me old.desk new.desk h.2
-  bears_goes place c (Ok (b, first)) old new answer h = bore_goes me b first old.desk new.desk old.born new.born h.0 h.1
+  bears_goes : (place : ℕ) (c : Child) (begins : Result (B × Next) Fault) (old new : Nursery S B) → BearsAs me place c begins old new → Goes me old.desk new.desk
+  bears_goes place c (Err f) old new h = goes_is me old.desk new.desk h.1
+  bears_goes place c (Ok (b, first)) old new h = bore_goes me b first old.desk new.desk old.born new.born h.0 h.1
 
-  bears_kept : (past : Past) (place : ℕ) (c : Child) (begins : Result (B × Next) Fault) (old new : Nursery S B) (answer : Bool) → slice_get old.children place ≡ Some c → c.pid ≡ None → BearsAs me place c begins old answer new
+  bears_kept : (past : Past) (place : ℕ) (c : Child) (begins : Result (B × Next) Fault) (old new : Nursery S B) → slice_get old.children place ≡ Some c → c.pid ≡ None → BearsAs me place c begins old new
       → KeptIn past me old → KeptIn past me new
-  bears_kept past place c (Err f) old new answer at missing h k =
-      subst (λ (n : ℕ). Kept past new.children n None me new.desk) (sym h.4)
-      (subst (λ (xs : List Child). Kept past xs old.started None me new.desk) (sym h.1) (kept_is past old.children old.started None me old.desk new.desk h.2 k))
-  bears_kept past place c (Ok (b, first)) old new answer at missing h k =
-      subst (λ (n : ℕ). Kept past new.children n None me new.desk) (sym h.4)
-      (subst (λ (xs : List Child). Kept past xs (with_one h.0 old.started) None me new.desk) (sym h.3)
-      (bore_kept me b first past old.desk new.desk old.born new.born h.0 old.children old.started place c at missing h.1 k))
+  bears_kept past place c (Err f) old new at missing h k =
+      subst (λ (n : ℕ). Kept past new.children n None me new.desk) (sym h.3)
+      (subst (λ (xs : List Child). Kept past xs old.started None me new.desk) (sym h.0)
+      (kept_set past me new.desk old.children old.started place c (unstarted_child old.desk.clock f c) at (unstarted_pid old.desk.clock f c) (kept_is past old.children old.started None me old.desk new.desk h.1 k)))
+  bears_kept past place c (Ok (b, first)) old new at missing h k =
+      subst (λ (n : ℕ). Kept past new.children n None me new.desk) (sym h.3)
+      (subst (λ (xs : List Child). Kept past xs (with_one h.0 old.started) None me new.desk) (sym h.2)
+      (bore_kept me b first past old.desk new.desk old.born new.born h.0 old.children old.started place new.desk.clock c at missing h.1 k))
 
-  missing_goes : (missing : Bool) (place : ℕ) (c : Child) (old new : Nursery S B) (answer : Bool)
-      → MatchBool missing ((begins : Result (B × Next) Fault) × starts old.start me place begins new.start × BearsAs me place c begins old answer new) ((answer ≡ true) × (new ≡ old)) → Goes me old.desk new.desk
-  missing_goes true place c old new answer h = bears_goes place c h.0 old new answer h.2
-  missing_goes false place c old new answer h = goes_is me old.desk new.desk (ap (λ (n : Nursery S B). n.desk) h.1)
+  due_goes : (due : Bool) (place : ℕ) (c : Child) (old new : Nursery S B) → MatchBool due (TriesAt starts me place c old new) (new ≡ old) → Goes me old.desk new.desk
+  due_goes true place c old new h = bears_goes place c h.0 old new h.2
+  due_goes false place c old new h = goes_is me old.desk new.desk (ap (λ (n : Nursery S B). n.desk) h)
 
-  missing_kept : (past : Past) (missing : Bool) (place : ℕ) (c : Child) (old new : Nursery S B) (answer : Bool) → slice_get old.children place ≡ Some c → is_missing c ≡ missing
-      → MatchBool missing ((begins : Result (B × Next) Fault) × starts old.start me place begins new.start × BearsAs me place c begins old answer new) ((answer ≡ true) × (new ≡ old))
+  due_kept : (past : Past) (due : Bool) (place : ℕ) (c : Child) (old new : Nursery S B) → slice_get old.children place ≡ Some c → is_startable c ≡ due → MatchBool due (TriesAt starts me place c old new) (new ≡ old)
       → KeptIn past me old → KeptIn past me new
-  missing_kept past true place c old new answer at missing h k = bears_kept past place c h.0 old new answer at (no_pid c missing) h.2 k
-  missing_kept past false place c old new answer at missing h k = subst (KeptIn past me) (sym h.1) k
+  due_kept past true place c old new at due h k = bears_kept past place c h.0 old new at (missing_bare c (due_missing c due)) h.2 k
+  due_kept past false place c old new at due h k = subst (KeptIn past me) (sym h) k
 
-  at_goes : (place : ℕ) (o : Option Child) (old new : Nursery S B) (answer : Bool) → StartsAt starts me place o old answer new → Goes me old.desk new.desk
-  at_goes place None old new answer h = absurd h
-  at_goes place (Some c) old new answer h = missing_goes (is_missing c) place c old new answer h
+  module _ (strategy : Strategy) where
+    at_goes : (place : ℕ) (o : Option Child) (old new : Nursery S B) (answer : Bool) → StartsAt starts me strategy place o old answer new → Goes me old.desk new.desk
+    at_goes place None old new answer h = absurd h
+    at_goes place (Some c) old new answer h = due_goes (is_startable c) place c old new h.1
 
-  at_kept : (past : Past) (place : ℕ) (o : Option Child) (old new : Nursery S B) (answer : Bool) → slice_get old.children place ≡ o → StartsAt starts me place o old answer new → KeptIn past me old → KeptIn past me new
-  at_kept past place None old new answer at h k = absurd h
-  at_kept past place (Some c) old new answer at h k = missing_kept past (is_missing c) place c old new answer at refl h k
+    at_kept : (past : Past) (place : ℕ) (o : Option Child) (old new : Nursery S B) (answer : Bool) → slice_get old.children place ≡ o → StartsAt starts me strategy place o old answer new → KeptIn past me old → KeptIn past me new
+    at_kept past place None old new answer at h k = absurd h
+    at_kept past place (Some c) old new answer at h k = due_kept past (is_startable c) place c old new at refl h.1 k
 
-  one_goes : (place : ℕ) (old new : Nursery S B) (answer : Bool) → StartsOne starts me place old answer new → Goes me old.desk new.desk
-  one_goes place old new answer h = at_goes place (slice_get old.children place) old new answer h
+    one_goes : (place : ℕ) (old new : Nursery S B) (answer : Bool) → StartsOne starts me strategy place old answer new → Goes me old.desk new.desk
+    one_goes place old new answer h = at_goes place (slice_get old.children place) old new answer h
 
-  one_kept : (past : Past) (place : ℕ) (old new : Nursery S B) (answer : Bool) → StartsOne starts me place old answer new → KeptIn past me old → KeptIn past me new
-  one_kept past place old new answer h k = at_kept past place (slice_get old.children place) old new answer refl h k
+    one_kept : (past : Past) (place : ℕ) (old new : Nursery S B) (answer : Bool) → StartsOne starts me strategy place old answer new → KeptIn past me old → KeptIn past me new
+    one_kept past place old new answer h k = at_kept past place (slice_get old.children place) old new answer refl h k
 
-  first_goes : (n : ℕ) (old new : Nursery S B) → StartsFirst starts me n old new → Goes me old.desk new.desk
-  first_goes zero old new h = goes_is me old.desk new.desk (ap (λ (x : Nursery S B). x.desk) h)
-  first_goes (suc n) old new h = goes_then me old.desk h.0.desk new.desk (first_goes n old h.0 h.1) (one_goes n h.0 new true h.2)
+    first_goes : (n : ℕ) (old new : Nursery S B) → StartsFirst starts me strategy n old new → Goes me old.desk new.desk
+    first_goes zero old new h = goes_is me old.desk new.desk (ap (λ (x : Nursery S B). x.desk) h)
+    first_goes (suc n) old new h = goes_then me old.desk h.0.desk new.desk (first_goes n old h.0 h.1) (one_goes n h.0 new true h.2)
 
-  first_kept : (past : Past) (n : ℕ) (old new : Nursery S B) → StartsFirst starts me n old new → KeptIn past me old → KeptIn past me new
-  first_kept past zero old new h k = subst (KeptIn past me) (sym h) k
-  first_kept past (suc n) old new h k = one_kept past n h.0 new true h.2 (first_kept past n old h.0 h.1 k)
+    first_kept : (past : Past) (n : ℕ) (old new : Nursery S B) → StartsFirst starts me strategy n old new → KeptIn past me old → KeptIn past me new
+    first_kept past zero old new h k = subst (KeptIn past me) (sym h) k
+    first_kept past (suc n) old new h k = one_kept past n h.0 new true h.2 (first_kept past n old h.0 h.1 k)
 
-  all_goes : (count : ℕ) (old new : Nursery S B) (answer : Bool) → StartsAll starts me count old answer new → Goes me old.desk new.desk
-  all_goes count old new true h = first_goes count old new h
-  all_goes count old new false h = goes_then me old.desk h.2.desk new.desk (first_goes h.0 old h.2 h.3) (one_goes h.0 h.2 new false h.4)
+    all_goes : (count : ℕ) (old new : Nursery S B) (through : Bool) → StartsUpTo starts me strategy count old through new → Goes me old.desk new.desk
+    all_goes count old new true h = first_goes count old new h
+    all_goes count old new false h = goes_then me old.desk h.2.desk new.desk (first_goes h.0 old h.2 h.3) (one_goes h.0 h.2 new false h.4)
 
-  all_kept : (past : Past) (count : ℕ) (old new : Nursery S B) (answer : Bool) → StartsAll starts me count old answer new → KeptIn past me old → KeptIn past me new
-  all_kept past count old new true h k = first_kept past count old new h k
-  all_kept past count old new false h k = one_kept past h.0 h.2 new false h.4 (first_kept past h.0 old h.2 h.3 k)
+    all_kept : (past : Past) (count : ℕ) (old new : Nursery S B) (through : Bool) → StartsUpTo starts me strategy count old through new → KeptIn past me old → KeptIn past me new
+    all_kept past count old new true h k = first_kept past count old new h k
+    all_kept past count old new false h k = one_kept past h.0 h.2 new false h.4 (first_kept past h.0 old h.2 h.3 k)
 
 -- what it does once it has heard --------------------------------------------------------------------
 
 abbrev KeptAt : {S B : Type 0} → Past → Pid → SupervisorScene S B → Type 0
 KeptAt past me s = Kept past s.standing.children s.standing.started s.standing.stopping me s.desk.shard
 
+settled_asked : (answer : Bool) (s : Standing) → (settled answer s).asked ≡ s.asked
+settled_asked true s = refl
+settled_asked false s = (first_rest s).1
+
 module _ {S B : Type 0} (starts : StartsOf S B) (me : Pid) where
   settles_goes : (stopping : Option Reason) (old : SupervisorScene S B) (next : Next) (new : SupervisorScene S B) → SupervisorSettles starts me stopping old next new → Goes me old.desk.shard new.desk.shard
   settles_goes (Some r) old next new h = goes_is me old.desk.shard new.desk.shard (ap (λ (x : SupervisorScene S B). x.desk.shard) h.1)
-  settles_goes None old next new h = all_goes starts me (length old.standing.children) (nursery old) (nursery new) h.0 h.1
+  settles_goes None old next new h = all_goes starts me old.standing.strategy (length old.standing.children) (nursery old) (nursery new) h.1.0 h.1.1
 
   settles_kept : (past : Past) (stopping : Option Reason) (old : SupervisorScene S B) (next : Next) (new : SupervisorScene S B) → old.standing.stopping ≡ stopping → SupervisorSettles starts me stopping old next new → KeptAt past me old → KeptAt past me new
   settles_kept past (Some r) old next new is h k = subst (KeptAt past me) (sym h.1) k
   settles_kept past None old next new is h k =
-      subst (λ (o : Option Reason). Kept past new.standing.children new.standing.started o me new.desk.shard) (sym (ap (λ (s : Standing). s.stopping) h.3 ∙ is))
-      (all_kept starts me past (length old.standing.children) (nursery old) (nursery new) h.0 h.1
+      kept_alike past me new.desk.shard new.standing.children new.standing.children new.standing.started None new.standing.stopping (same_live new.standing.children) (λ none. refl)
+      (all_kept starts me old.standing.strategy past (length old.standing.children) (nursery old) (nursery new) h.1.0 h.1.1
       (subst (λ (o : Option Reason). Kept past old.standing.children old.standing.started o me old.desk.shard) is k))
 
   tells_goes : (p : Pid) (reason : Reason) (stage : Stage) (s : Standing) (d : DeskState) (next : Next) (t : Standing) (e : DeskState) → TellsToEnd me p reason stage s d next t e → Goes me d.shard e.shard
@@ -274,7 +298,29 @@ module _ {S B : Type 0} (starts : StartsOf S B) (me : Pid) where
   settles_asks : (past : Past) (stopping : Option Reason) (old : SupervisorScene S B) (next : Next) (new : SupervisorScene S B) → SupervisorSettles starts me stopping old next new
       → AreAsked past old.standing.children old.standing.asked me old.desk.shard → AreAsked past new.standing.children new.standing.asked me new.desk.shard
   settles_asks past (Some r) old next new h asks = subst (λ (x : SupervisorScene S B). AreAsked past x.standing.children x.standing.asked me x.desk.shard) (sym h.1) asks
-  settles_asks past None old next new h asks = λ a is placed. absurd (let bad : None ≡ Some a = sym (ap (λ (s : Standing). s.asked) h.3) ∙ is in cc)
+  settles_asks past None old next new h asks = λ a is placed. absurd (let bad : None ≡ Some a = sym (ap (λ (s : Standing). s.asked) h.3 ∙ settled_asked h.0 _) ∙ is in cc)
+
+  -- where it takes an item, or goes on without one, there is one
+  behind_ready : (items : List Item) (st : ProcessState) → st.waiting ≡ items → IsReady (next_behind items) (living st)
+  behind_ready [] st is = tt
+  behind_ready (i ∷ items) st is = subst (λ (xs : List Item). is_some (find (fits Pick.Any) xs) ≡ true) (sym is) refl
+
+  tried_ready : (f : Phase) → IsReady (next_tried f) f
+  tried_ready unborn = tt
+  tried_ready (living st) = behind_ready st.waiting st refl
+  tried_ready (ended r st) = tt
+
+  settles_ready : (stopping : Option Reason) (old : SupervisorScene S B) (next : Next) (new : SupervisorScene S B) → SupervisorSettles starts me stopping old next new → IsReady next (phase_of new.desk.shard me)
+  settles_ready (Some r) old next new h = subst (λ (n : Next). IsReady n (phase_of new.desk.shard me)) (sym h.0) tt
+  settles_ready None old next new h = subst (λ (n : Next). IsReady n (phase_of new.desk.shard me)) (sym h.2) (go h.0)
+    where
+      go : (answer : Bool) → IsReady (cond answer (Wait Pick.Any) (next_tried (phase_of new.desk.shard me))) (phase_of new.desk.shard me)
+      go true = tt
+      go false = tried_ready (phase_of new.desk.shard me)
+
+  advances_ready : (now : ℕ) (last : Option (Pid × Shutdown)) (old : SupervisorScene S B) (next : Next) (new : SupervisorScene S B) → AdvancesAs starts me now last old next new → IsReady next (phase_of new.desk.shard me)
+  advances_ready now (Some (p, shutdown)) old next new h = ends_ready me p shutdown now next (phase_of new.desk.shard me) (stage_of old.standing.asked p) old.standing old.desk new.standing new.desk h.0
+  advances_ready now None old next new h = settles_ready old.standing.stopping old next new h
 
   advances_asks : (past : Past) (now : ℕ) (last : Option (Pid × Shutdown)) (old : SupervisorScene S B) (next : Next) (new : SupervisorScene S B) → AdvancesAs starts me now last old next new → KeptAt past me old
       → AreAsked past old.standing.children old.standing.asked me old.desk.shard → AreAsked past new.standing.children new.standing.asked me new.desk.shard
@@ -379,15 +425,16 @@ refused_holds : (past : Past) (s m : Standing) (me : Pid) (before : Next) (was d
 refused_holds past s m me before was d e same is as_is h =
     subst (λ (x : Standing). Holds past x Proceed me e) (sym same) (subst (Holds past s Proceed me) (sym (as_is ∙ is)) (record {
       waits = tt;
+      ready = tt;
       remembers = h.remembers;
       traps = goes_again (state_in was me).traps before s.children h.traps;
       family = h.family;
       asks = h.asks;
     }))
 
-refused_attends : (past : Past) (s m : Standing) (me : Pid) (now : ℕ) (before : Next) (was d e : ShardState) (answer : Bool) → answer ≡ false → m ≡ cond answer (gone_heard now s) s → d ≡ was → e ≡ d → HoldsChildren past s before me was → Attended past answer m me e
+refused_attends : (past : Past) (s m : Standing) (me : Pid) (now : ℕ) (before : Next) (was d e : ShardState) (answer : Bool) → answer ≡ false → m ≡ cond answer (gone_on now s) s → d ≡ was → e ≡ d → HoldsChildren past s before me was → Attended past answer m me e
 refused_attends past s m me now before was d e answer off same is as_is h =
-    subst (λ (a : Bool). Attended past a m me e) (sym off) (refused_holds past s m me before was d e (same ∙ ap (λ (b : Bool). cond b (gone_heard now s) s) off) is as_is h)
+    subst (λ (a : Bool). Attended past a m me e) (sym off) (refused_holds past s m me before was d e (same ∙ ap (λ (b : Bool). cond b (gone_on now s) s) off) is as_is h)
 
 -- it hears of the end of the one that it found to have ended
 kept_less : (past : Past) (me : Pid) (item : Item) (s m : Standing) (e : ShardState) → Less item s m → ((q : Pid) → IsPlaced s.children q → is_end_of q item ≡ true → has_told me q (all_events past e) ≡ true)
@@ -433,11 +480,23 @@ found_with past me now s e (Some p) is k = (
         let q_is : q ≡ a.0.pid = same_pid_is q p same ∙ sym a.3 in
         subst (λ (x : Pid). has_told me x (all_events past e) ≡ true) (sym q_is) ((k.1 a.0 a.1 (subst (λ (x : Pid). IsPlaced s.children x) q_is placed)).gone a.2)
 
-flag_attends : (past : Past) (me : Pid) (now : ℕ) (s m : Standing) (before : Next) (was d e : ShardState) (on answer : Bool) (result : Result Bool Fault) → Calls me (Some (Flag me true)) on d result e → answer ≡ is_ok result → m ≡ cond answer (gone_heard now s) s
+-- it tries a child again
+tried_with : (past : Past) (me : Pid) (now : ℕ) (s : Standing) (e : ShardState) → KeptWith past s me e → KeptWith past (tried_again now s) me e
+tried_with past me now s e k =
+    let same = again_same now s in (
+      subst (λ (n : ℕ). Kept past (tried_again now s).children n (tried_again now s).stopping me e) (sym same.count)
+          (kept_alike past me e s.children (tried_again now s).children s.started s.stopping (tried_again now s).stopping same.live same.stop k.0),
+      λ a is placed. k.1 a (sym same.asked ∙ is) (same.live.from placed.0, same.live.sub placed.0 a.pid placed.1),
+    )
+
+on_with : (past : Past) (me : Pid) (now : ℕ) (s : Standing) (e : ShardState) → KeptWith past s me e → KeptWith past (gone_on now s) me e
+on_with past me now s e k = tried_with past me now (gone_heard now s) e (found_with past me now s e (gone_in s.asked) refl k)
+
+flag_attends : (past : Past) (me : Pid) (now : ℕ) (s m : Standing) (before : Next) (was d e : ShardState) (on answer : Bool) (result : Result Bool Fault) → Calls me (Some (Flag me true)) on d result e → answer ≡ is_ok result → m ≡ cond answer (gone_on now s) s
     → ItemIsTaken me before None was d → HoldsChildren past s before me was → Attended past answer m me e
 flag_attends past me now s m before was d e on answer (Ok x) c ok same taken h =
     subst (λ (a : Bool). Attended past a m me e) (sym ok)
-    (subst (λ (x : Standing). KeptWith past x me e) (sym (same ∙ ap (λ (b : Bool). cond b (gone_heard now s) s) ok)) (found_with past me now s e (gone_in s.asked) refl (kept, asks)))
+    (subst (λ (x : Standing). KeptWith past x me e) (sym (same ∙ ap (λ (b : Bool). cond b (gone_on now s) s) ok)) (on_with past me now s e (kept, asks)))
   where
     st : (s : ProcessState) × (phase_of d me ≡ living s)
     st = living_of (phase_of d me) c.0
@@ -520,13 +579,14 @@ module _ {S B : Type 0} (starts : StartsOf S B) (me : Pid) where
   then_goes now true mid next new h = advances_goes starts me now (last_alive mid.standing.children mid.standing.ending (length mid.standing.children)) mid next new h
   then_goes now false mid next new h = goes_is me mid.desk.shard new.desk.shard (ap (λ (x : SupervisorScene S B). x.desk.shard) h.1)
 
-  kept_holds : (past : Past) (s : Standing) (next : Next) (e : ShardState) → Supervises next s → KeptWith past s me e → Holds past s next me e
-  kept_holds past s next e waits k = record { waits = waits; remembers = k.0.remembers; traps = inl (subst (λ (f : Phase). (state_of f).traps ≡ true) (sym k.0.living_is) k.0.traps); family = k.0.family; asks = k.1 }
+  kept_holds : (past : Past) (s : Standing) (next : Next) (e : ShardState) → Supervises next s → IsReady next (phase_of e me) → KeptWith past s me e → Holds past s next me e
+  kept_holds past s next e waits ready k = record { waits = waits; ready = ready; remembers = k.0.remembers; traps = inl (subst (λ (f : Phase). (state_of f).traps ≡ true) (sym k.0.living_is) k.0.traps); family = k.0.family; asks = k.1 }
 
   then_holds : (past : Past) (now : ℕ) (answer : Bool) (mid : SupervisorScene S B) (next : Next) (new : SupervisorScene S B) → after_attending starts me now answer mid next new → Supervises next new.standing → Attended past answer mid.standing me mid.desk.shard
       → Holds past new.standing next me new.desk.shard
   then_holds past now true mid next new h waits k =
-      kept_holds past new.standing next new.desk.shard waits (
+      kept_holds past new.standing next new.desk.shard waits
+      (advances_ready starts me now (last_alive mid.standing.children mid.standing.ending (length mid.standing.children)) mid next new h) (
         advances_kept starts me past now (last_alive mid.standing.children mid.standing.ending (length mid.standing.children)) mid next new h k.0,
         advances_asks starts me past now (last_alive mid.standing.children mid.standing.ending (length mid.standing.children)) mid next new h k.0 k.1,
       )
@@ -559,6 +619,7 @@ changes_after me item s d next new t e tends changes = record {
       let k = changes past next me e (holds_children past new next me e (tends.keeps past before was taken born h)) in
       record {
         waits = tt;
+        ready = tt;
         remembers = k.remembers;
         traps = goes_again (state_in e me).traps next t.children k.traps;
         family = k.family;
@@ -623,8 +684,21 @@ module _ (past : Past) (s : Standing) (next : Next) (me : Pid) (d : ShardState) 
   came_asks = asks_step past s.children s.asked me d (handled l d) (later_handled l d) (λ m q w.
       subst (λ (f : Phase). IsWatched (state_of f) m q) (sym now) (handled_watched m q me st.0 l.from l.signal (subst (λ (f : Phase). IsWatched (state_of f) m q) st.1 w))) holds.asks
 
+  came_ready : (n : Next) → IsReady n (phase_of d me) → IsReady n (phase_of (handled l d) me)
+  came_ready (WaitUntil Pick.Any at) ready =
+      subst (λ (f : Phase). need_not_wait Pick.Any f ≡ true) (sym now) (handled_ready me st.0 l.from l.signal (subst (λ (f : Phase). need_not_wait Pick.Any f ≡ true) st.1 ready))
+  came_ready (WaitUntil (Pick.DownOf m) at) ready = tt
+  came_ready (WaitUntil (Pick.Kind k) at) ready = tt
+  came_ready (WaitUntil (Pick.From f) at) ready = tt
+  came_ready (WaitUntil (Pick.ExitOf f) at) ready = tt
+  came_ready (WaitUntil (Pick.AliveOf a) at) ready = tt
+  came_ready (Wait k) ready = tt
+  came_ready Proceed ready = tt
+  came_ready Running ready = tt
+  came_ready (Stop r) ready = tt
+
   came_holds : Holds past s next me (handled l d)
-  came_holds = record { waits = holds.waits; remembers = came_remembers past s me d l holds.remembers; traps = traps_still holds.traps; family = came_family holds.traps; asks = came_asks }
+  came_holds = record { waits = holds.waits; ready = came_ready next holds.ready; remembers = came_remembers past s me d l holds.remembers; traps = traps_still holds.traps; family = came_family holds.traps; asks = came_asks }
 
 -- the relation is upheld ------------------------------------------------------------------------------------------
 
@@ -643,6 +717,7 @@ same_holds past (Some s) next me d e h later same = (λ alive. holds (h.0 (sym (
     holds : Holds past s next me d → Holds past s next me e
     holds k = record {
       waits = k.waits;
+      ready = subst (IsReady next) (sym same.0) k.ready;
       remembers = remembers;
       traps = subst (λ (f : Phase). ((state_of f).traps ≡ true) ⊎ ((next ≡ Proceed) × NoneLives s.children)) (sym same.0) k.traps;
       family = family_step past s.children s.stopping me d e later (λ q tied. inl (subst (λ (f : Phase). IsTied (state_of f) q) (sym same.0) tied)) k.family;
@@ -675,6 +750,7 @@ begins past None next me d h = tt
 begins past (Some s) next me d h = (
   λ alive. record {
     waits = waits;
+    ready = proceed_ready next (phase_of d me) h.0;
     remembers = remembers;
     traps = inr (h.0, h.1);
     family = record {

@@ -11,7 +11,8 @@ use Rattle.pt_signal.specs.declared.item.Item.TheVariants.{User}
 use Rattle.pt_signal.specs.declared.reason.Reason.{Reason}
 use Rattle.pt_signal.specs.declared.signal.Signal.{Signal}
 use Rattle.pt_signal.specs.declared.signal.Signal.TheVariants.{Message, Link, Unlink, LinkExit, Monitor, Demonitor, AliveAsk, AliveSay}
-use Rattle.pt_signal.specs.Values.{same_pid, same_ref, without_first}
+use Rattle.pt_signal.specs.declared.item.Pick.{Pick}
+use Rattle.pt_signal.specs.Values.{fits, same_pid, same_ref, without_first}
 use Rattle.pt_signal.specs.Process.{ProcessState, Verdict, drops, queues, ends, verdict, held, enter, cut, handle, obey, link_exit, down, holds_any}
 use Rattle.pt_signal.proofs.Same.{same_pid_is}
 use Rattle.pt_laws.proofs.linking.Entries.{held-enter, held-enter-other, held-cut-other, held-removed-other}
@@ -132,3 +133,36 @@ handled_traps me s a (Demonitor m) = refl
 handled_traps me s a (Signal.Down m r) = down_traps (lookup (same_ref m) s.watching) s a m r
 handled_traps me s a (AliveAsk m) = refl
 handled_traps me s a (AliveSay m y) = refl
+
+-- what came takes no item away
+abbrev pub HasItem : ProcessState → Type 0
+HasItem s = is_some (find (fits Pick.Any) s.waiting) ≡ true
+
+any_more : (items more : List Item) → is_some (find (fits Pick.Any) items) ≡ true → is_some (find (fits Pick.Any) (items ++ more)) ≡ true
+any_more [] more h = absurd (cc)
+any_more (i ∷ items) more h = refl
+
+obeyed_ready : (v : Verdict) (s : ProcessState) → HasItem s → HasItem (obey v s).state
+obeyed_ready drops s h = h
+obeyed_ready (queues item) s h = any_more s.waiting (item ∷ []) h
+obeyed_ready (ends r) s h = h
+
+link_exit_ready : (known : Bool) (me : Pid) (s : ProcessState) (from : Pid) (r : Reason) → HasItem s → HasItem (link_exit known me s from r).state
+link_exit_ready false me s from r h = h
+link_exit_ready true me s from r h = obeyed_ready (verdict true s.traps (same_pid from me) from r) (record s { links = remove_entry (same_pid from) s.links }) h
+
+down_ready : (o : Option Pid) (s : ProcessState) (from : Pid) (m : Ref) (r : Reason) → HasItem s → HasItem (down o s from m r).state
+down_ready None s from m r h = h
+down_ready (Some t) s from m r h = any_more s.waiting (Item.Down m from r ∷ []) h
+
+pub handled_ready : (me : Pid) (s : ProcessState) (a : Pid) (x : Signal) → HasItem s → HasItem (handle me s a x).state
+handled_ready me s a (Message b) h = any_more s.waiting (User a b ∷ []) h
+handled_ready me s a (Link i) h = h
+handled_ready me s a (Unlink ids) h = h
+handled_ready me s a (Signal.Exit r) h = obeyed_ready (verdict false s.traps (same_pid a me) a r) s h
+handled_ready me s a (LinkExit ids r) h = link_exit_ready (holds_any (held s.links a) ids) me s a r h
+handled_ready me s a (Monitor m) h = h
+handled_ready me s a (Demonitor m) h = h
+handled_ready me s a (Signal.Down m r) h = down_ready (lookup (same_ref m) s.watching) s a m r h
+handled_ready me s a (AliveAsk m) h = h
+handled_ready me s a (AliveSay m y) h = any_more s.waiting (Item.Alive m a y ∷ []) h

@@ -9,11 +9,13 @@ use Rattle.pt_signal.specs.declared.reason.Reason.{Reason}
 use Rattle.pt_supervisor.specs.declared.children.Child.{Child}
 use Rattle.pt_supervisor.specs.declared.restart.Restart.{Restart}
 use Rattle.pt_supervisor.specs.Restarts.{ends_from}
-use Rattle.pt_supervisor.specs.Children.{PermanentAreWanted, is_missing, is_temporary, revived, revived_child, revive_in}
+use Rattle.pt_supervisor.specs.Children.{IsWanted, PermanentAreWanted, is_missing, is_temporary, revived, revived_child, revive_in}
 use Rattle.pt_signal.specs.Values.{is_pid}
 use Rattle.pt_supervisor.specs.Ending.{gone_in}
 use Rattle.pt_supervisor.specs.Limits.{allows}
-use Rattle.pt_supervisor.specs.Hearing.{Standing, gone_heard, gone, heard, heard_at, heard_gone, lives_again, lost, wanted_again, restarted_child, started_again, stopped}
+use Rattle.pt_supervisor.specs.declared.trial.Trial.TheVariants.{Again}
+use Rattle.pt_supervisor.specs.Trying.{has_failed_first}
+use Rattle.pt_supervisor.specs.Hearing.{Standing, first_heeded, gone_heard, gone_on, gone, heard, heard_at, heard_gone, heeded_at, heeded_in, lives_again, lost, wanted_again, restarted_child, started_again, stopped, to_try, tried_again, tried_child, tried_where}
 use Rattle.pt_crew.proofs.Waking.{by_cases}
 
 pub set_same : (xs : List Child) (i : ℕ) (v : Child) → i < length xs → slice_get (slice_set xs i v) i ≡ Some v
@@ -34,13 +36,13 @@ same_child c d e = cc
 
 -- one child becomes another one, which is to live where the first one is
 pub kept_wanted : (children : List Child) (place : ℕ) (c v : Child) → slice_get children place ≡ Some c → v.restart ≡ c.restart
-    → (c.restart ≡ Restart.Permanent → c.wanted ≡ true → v.wanted ≡ true) → PermanentAreWanted children → PermanentAreWanted (slice_set children place v)
+    → (c.restart ≡ Restart.Permanent → IsWanted c → IsWanted v) → PermanentAreWanted children → PermanentAreWanted (slice_set children place v)
 kept_wanted children place c v at same wants k j x here is = elim (cases_eq j place) [
   | inl e ↦ (
       let there : slice_get (slice_set children place v) place ≡ Some x = ap (slice_get (slice_set children place v)) (sym e) ∙ here in
       let same_x : v ≡ x = same_child v x (sym (set_same children place v (slice_get_within children place c at)) ∙ there) in
       let permanent : c.restart ≡ Restart.Permanent = sym same ∙ (ap (λ (y : Child). y.restart) same_x ∙ is) in
-      sym (ap (λ (y : Child). y.wanted) same_x) ∙ wants permanent (k place c at permanent)
+      subst IsWanted same_x (wants permanent (k place c at permanent))
       )
   | inr apart ↦ k j x (set_other children place j v x apart here) is
 ]
@@ -59,7 +61,7 @@ permanent_again false restart reason is = ap (λ (r : Restart). lives_again fals
 pub record Kin (c x : Child) : Type 0 where
   pub pid : x.pid ≡ c.pid
   pub restart : x.restart ≡ c.restart
-  pub wants : c.wanted ≡ true → x.wanted ≡ true
+  pub wants : IsWanted c → IsWanted x
 
 kin_same : (c : Child) → Kin c c
 kin_same c = record { pid = refl; restart = refl; wants = λ w. w }
@@ -68,7 +70,7 @@ kin_then : (c d x : Child) → Kin c d → Kin d x → Kin c x
 kin_then c d x a b = record { pid = b.pid ∙ a.pid; restart = b.restart ∙ a.restart; wants = λ w. b.wants (a.wants w) }
 
 kin_revived : (c : Child) → Kin c (revived_child c)
-kin_revived c = record { pid = refl; restart = refl; wants = λ w. ap (λ (b : Bool). b || not (is_temporary c.restart)) w }
+kin_revived c = record { pid = refl; restart = refl; wants = λ w. (ap (λ (b : Bool). b || not (is_temporary c.restart)) w.0, refl) }
 
 one_get : (xs : List Child) (n j : ℕ) (x : Child) (o : Option Child) → slice_get xs n ≡ o → slice_get (revive_in o n xs) j ≡ Some x → (c : Child) × (slice_get xs j ≡ Some c) × Kin c x
 one_get xs n j x None there at = (x, at, kin_same x)
@@ -172,7 +174,7 @@ lost_keeps now reason place (Some c) s at k =
     let bidden = nat_le s.ending place in
     let v = gone bidden reason c in
     again_wants (not bidden && wanted_again bidden reason c) now place c.id reason (record s { children = slice_set s.children place v })
-    (kept_wanted s.children place c v at refl (λ is w. and_both c.wanted (lives_again bidden c.restart reason) w (permanent_again bidden c.restart reason is)) k)
+    (kept_wanted s.children place c v at refl (λ is w. (and_both c.wanted (lives_again bidden c.restart reason) w.0 (permanent_again bidden c.restart reason is), w.1)) k)
 
 at_keeps : (at : Option ℕ) (now : ℕ) (reason : Reason) (s : Standing) → PermanentAreWanted s.children → PermanentAreWanted (heard_at at now reason s).children
 at_keeps None now reason s k = k
@@ -194,6 +196,38 @@ gone_keeps (Some p) now s k = heard_keeps now p Reason.Noproc (record s { asked 
 
 pub found_keeps : (now : ℕ) (s : Standing) → PermanentAreWanted s.children → PermanentAreWanted (gone_heard now s).children
 found_keeps now s k = gone_keeps (gone_in s.asked) now s k
+
+-- a child is tried again
+tried_keeps : (now place : ℕ) (o : Option Child) (s : Standing) → slice_get s.children place ≡ o → PermanentAreWanted s.children → PermanentAreWanted (tried_child now place o s).children
+tried_keeps now place None s at k = k
+tried_keeps now place (Some c) s at k =
+    let v = record c { trial = Again } in
+    again_wants true now place c.id Reason.Noproc (record s { children = slice_set s.children place v }) (kept_wanted s.children place c v at refl (λ is w. (w.0, refl)) k)
+
+where_keeps : (o : Option ℕ) (now : ℕ) (s : Standing) → PermanentAreWanted s.children → PermanentAreWanted (tried_where o now s).children
+where_keeps None now s k = k
+where_keeps (Some place) now s k = tried_keeps now place (slice_get s.children place) s refl k
+
+pub again_keeps : (now : ℕ) (s : Standing) → PermanentAreWanted s.children → PermanentAreWanted (tried_again now s).children
+again_keeps now s k = where_keeps (to_try s) now s k
+
+pub on_keeps : (now : ℕ) (s : Standing) → PermanentAreWanted s.children → PermanentAreWanted (gone_on now s).children
+on_keeps now s k = again_keeps now (gone_heard now s) (found_keeps now s k)
+
+-- where it gives up its children stay, and whom it ends
+abbrev pub SameRest : Standing → Standing → Type 0
+SameRest s t = (t.children ≡ s.children) × (t.asked ≡ s.asked) × (t.started ≡ s.started)
+
+heeded_rest : (place : ℕ) (o : Option Child) (s : Standing) → SameRest s (heeded_in place o s)
+heeded_rest place None s = (refl, refl, refl)
+heeded_rest place (Some c) s = (refl, refl, refl)
+
+at_rest : (o : Option ℕ) (s : Standing) → SameRest s (heeded_at o s)
+at_rest None s = (refl, refl, refl)
+at_rest (Some place) s = heeded_rest place (slice_get s.children place) s
+
+pub first_rest : (s : Standing) → SameRest s (first_heeded s)
+first_rest s = at_rest (position (λ (c : Child). has_failed_first c.trial) s.children) s
 
 -- one that is to live and is not missing lives
 lives_if : (wanted pid : Bool) → wanted ≡ true → (wanted && not pid) ≡ false → pid ≡ true

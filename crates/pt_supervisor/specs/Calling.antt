@@ -5,6 +5,7 @@ use Rattle.pt_supervisor.specs.declared.child_fault.ChildFault.{ChildFault}
 use Rattle.pt_supervisor.specs.declared.children.Child.{Child}
 use Rattle.pt_supervisor.specs.declared.seen.ChildState.{ChildState}
 use Rattle.pt_supervisor.specs.declared.seen.ChildState.TheVariants.{Running, Restarting, Undefined}
+use Rattle.pt_supervisor.specs.declared.trial.Trial.TheVariants.{Asked}
 use Rattle.pt_supervisor.specs.Hearing.{Standing}
 use Rattle.pt_supervisor.specs.Seen.{state_of_child}
 
@@ -12,10 +13,10 @@ use Rattle.pt_supervisor.specs.Seen.{state_of_child}
 abbrev pub place_of_id : ℕ → List Child → Option ℕ
 place_of_id id children = position (λ c. c.id == id) children
 
--- the child at a place is wanted from now on, or is not
+-- the child at a place is wanted from now on, or is not, as a call asked for
 abbrev pub wanted_in : Bool → ℕ → Option Child → List Child → List Child
 wanted_in wanted place None children = children
-wanted_in wanted place (Some c) children = slice_set children place (record c { wanted = wanted })
+wanted_in wanted place (Some c) children = slice_set children place (record c { wanted = wanted; trial = Asked })
 
 abbrev pub with_wanted : Bool → ℕ → Standing → Standing
 with_wanted wanted place s = record s {
@@ -55,7 +56,7 @@ present_fault Undefined = ChildFault.AlreadyPresent
 
 -- the supervisor has one more child, behind the others, which it is to start
 abbrev pub with_last_child : Child → Standing → Standing
-with_last_child c s = record s { children = s.children ++ record c { pid = None; wanted = true } ∷ [] }
+with_last_child c s = record s { children = s.children ++ record c { pid = None; wanted = true; trial = Asked } ∷ [] }
 
 abbrev pub FindsPresent : Option Child → Standing → Result ℕ ChildFault → Standing → Type 0
 FindsPresent None s result t = ⊥

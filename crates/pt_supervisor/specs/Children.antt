@@ -3,11 +3,12 @@ use Rattle.std.specs.Prelude.{◌≡◌, ℕ, zero, suc, ◌<◌, ◌&&◌, ◌|
 use Rattle.std.specs.Prelude.{Option, Some, None, slice_get, slice_set}
 use Rattle.std.specs.Option.{option_map}
 use Rattle.pt_signal.specs.declared.pid.Pid.{Pid}
-use Rattle.pt_signal.specs.Values.{same_pid}
 use Rattle.pt_supervisor.specs.declared.children.Child.{Child}
 use Rattle.pt_supervisor.specs.declared.restart.Restart.{Restart}
 use Rattle.pt_supervisor.specs.declared.restart.Restart.TheVariants.{Permanent, Transient, Temporary}
 use Rattle.pt_supervisor.specs.declared.children.Shutdown.{Shutdown}
+use Rattle.pt_supervisor.specs.declared.trial.Trial.{Trial}
+use Rattle.pt_supervisor.specs.declared.trial.Trial.TheVariants.{Asked, Again}
 
 -- it is to live, and does not
 abbrev pub is_missing : Child → Bool
@@ -46,10 +47,19 @@ abbrev pub NoneUnwanted : List Child → Type 0
 NoneUnwanted children =
     (place : ℕ) (c : Child) → slice_get children place ≡ Some c → c.wanted ≡ false → c.pid ≡ None
 
--- each permanent child is to live
+-- a call asked for its next start
+abbrev pub is_by_call : Trial → Bool
+is_by_call Asked = true
+is_by_call _ = false
+
+-- it is to live, and not only if the start succeeds that a call asked for
+abbrev pub IsWanted : Child → Type 0
+IsWanted c = (c.wanted ≡ true) × (is_by_call c.trial ≡ false)
+
+-- each permanent child is to live so
 abbrev pub PermanentAreWanted : List Child → Type 0
 PermanentAreWanted children =
-    (place : ℕ) (c : Child) → slice_get children place ≡ Some c → c.restart ≡ Restart.Permanent → c.wanted ≡ true
+    (place : ℕ) (c : Child) → slice_get children place ≡ Some c → c.restart ≡ Restart.Permanent → IsWanted c
 
 abbrev pub is_temporary : Restart → Bool
 is_temporary Permanent = false
@@ -58,7 +68,7 @@ is_temporary Temporary = true
 
 -- a child is to live again, unless it is temporary
 abbrev pub revived_child : Child → Child
-revived_child c = record c { wanted = c.wanted || not (is_temporary c.restart) }
+revived_child c = record c { wanted = c.wanted || not (is_temporary c.restart); trial = Again }
 
 abbrev pub revive_in : Option Child → ℕ → List Child → List Child
 revive_in None place children = children

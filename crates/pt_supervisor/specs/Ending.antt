@@ -1,5 +1,5 @@
 -- How far a supervisor has come in ending a child.
-use Rattle.std.specs.Prelude.{ℕ, ◌+◌, ◌-◌, ◌^◌, min, cond, Bool, true, false, Option, Some, None}
+use Rattle.std.specs.Prelude.{ℕ, ◌+◌, ◌-◌, ◌^◌, min, cond, Bool, true, false, List, [], ◌∷◌, Option, Some, None}
 use Rattle.pt_signal.specs.declared.pid.Pid.{Pid}
 use Rattle.pt_signal.specs.declared.ids.Ref.{Ref}
 use Rattle.pt_signal.specs.declared.item.Item.{Item}
@@ -7,6 +7,7 @@ use Rattle.pt_signal.specs.declared.item.Item.TheVariants.{Exit, Down}
 use Rattle.pt_signal.specs.declared.item.Pick.{Pick}
 use Rattle.pt_signal.specs.declared.reason.Reason.{Reason}
 use Rattle.pt_signal.specs.Values.{same_pid, same_ref}
+use Rattle.pt_events.specs.History.{Phase, living}
 use Rattle.pt_shard.specs.declared.fault.Fault.TheVariants.{NoProc}
 use Rattle.pt_crew.specs.declared.behaviour.Next.{Next}
 use Rattle.pt_crew.specs.declared.behaviour.Next.TheVariants.{Wait, WaitUntil, Proceed}
@@ -88,3 +89,12 @@ child_end_heard None asked = gone_in asked
 abbrev pub is_noproc : CallFault → Bool
 is_noproc (CallFault.Refused NoProc) = true
 is_noproc _ = false
+
+-- What it does next where some children are not started: it takes the first item that is there, or goes on without one.
+abbrev pub next_behind : List Item → Next
+next_behind [] = Proceed
+next_behind (i ∷ items) = WaitUntil Pick.Any 0
+
+abbrev pub next_tried : Phase → Next
+next_tried (living s) = next_behind s.waiting
+next_tried _ = Proceed

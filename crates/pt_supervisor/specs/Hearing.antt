@@ -1,5 +1,5 @@
 -- What a supervisor knows, and what it makes of an end of which it hears.
-use Rattle.std.specs.Prelude.{ℕ, nat_le, cond, Bool, true, false, ◌&&◌, not, List, length, Option, Some, None}
+use Rattle.std.specs.Prelude.{ℕ, nat_le, nat_lt, is_some, cond, Bool, true, false, ◌&&◌, not, List, length, Option, Some, None}
 use Rattle.std.specs.Prelude.{position, slice_get, slice_set}
 use Rattle.pt_signal.specs.declared.pid.Pid.{Pid}
 use Rattle.pt_signal.specs.declared.ids.Ref.{Ref}
@@ -14,7 +14,9 @@ use Rattle.pt_supervisor.specs.declared.restart.Strategy.{Strategy}
 use Rattle.pt_supervisor.specs.declared.supervisor.Supervisor.{Supervisor}
 use Rattle.pt_supervisor.specs.Restarts.{starts_again, ends_from}
 use Rattle.pt_supervisor.specs.Limits.{recent, allows, counted_restarts, gave_up_over}
-use Rattle.pt_supervisor.specs.Children.{is_temporary, revived}
+use Rattle.pt_supervisor.specs.Children.{is_temporary, last_alive, revived}
+use Rattle.pt_supervisor.specs.Trying.{first_failed, has_failed_first}
+use Rattle.pt_supervisor.specs.declared.trial.Trial.TheVariants.{Again}
 use Rattle.pt_signal.specs.Values.{is_pid}
 use Rattle.pt_supervisor.specs.Ending.{gone_in, unless_by}
 
@@ -102,6 +104,13 @@ wanted_again bidden reason c = c.wanted && lives_again bidden c.restart reason
 abbrev pub gone : Bool → Reason → Child → Child
 gone bidden reason c = record c { pid = None; wanted = wanted_again bidden reason c }
 
+-- It gives up, since the child with this id in this place is not started again, with this reason: all its children are to
+-- end, and then it with `shutdown`.
+abbrev pub gave_up_at : ℕ → ℕ → Reason → Standing → Standing
+gave_up_at place id reason s = stopped Reason.Shutdown (record s {
+  gave_up = Some (gave_up_over id place reason s.times s.span s.timed);
+})
+
 -- One more restart, for the child at a place, if it is allowed: those whom the strategy names are ended first, and each
 -- of them is to live again unless it is temporary. Else the supervisor gives up, since the child with this id exited there
 -- with this reason.
@@ -111,10 +120,7 @@ restarted_child true now place id reason s = record s {
   times = counted_restarts true now (recent now s.span s.times);
   ending = ends_from s.strategy place (length s.children);
 }
-restarted_child false now place id reason s = stopped Reason.Shutdown (record s {
-  times = recent now s.span s.times;
-  gave_up = Some (gave_up_over id place reason (recent now s.span s.times) s.span s.timed);
-})
+restarted_child false now place id reason s = gave_up_at place id reason (record s { times = recent now s.span s.times })
 
 -- one that its supervisor ended, or that is not to live again, makes no restart of its own
 abbrev pub started_again : Bool → ℕ → ℕ → ℕ → Reason → Standing → Standing
@@ -146,3 +152,43 @@ heard_gone (Some p) now s = heard now p Reason.Noproc (record s { asked = None }
 
 abbrev pub gone_heard : ℕ → Standing → Standing
 gone_heard now s = heard_gone (gone_in s.asked) now s
+
+-- The place of the child that it may try to start again: that whose start failed first, where none is to end before.
+abbrev pub place_below : ℕ → Option (ℕ × ℕ) → Option ℕ
+place_below ending None = None
+place_below ending (Some (place, at)) = cond (nat_lt place ending) (Some place) None
+
+abbrev pub to_try : Standing → Option ℕ
+to_try s =
+    cond (is_some (last_alive s.children s.ending (length s.children))) None
+    (place_below s.ending (first_failed s.children (length s.children)))
+
+-- That child is tried again. It counts as a restart, as if the child had ended: so those whom the strategy names end before.
+abbrev pub tried_child : ℕ → ℕ → Option Child → Standing → Standing
+tried_child now place None s = s
+tried_child now place (Some c) s =
+    started_again true now place c.id Reason.Noproc
+    (record s { children = slice_set s.children place (record c { trial = Again }) })
+
+abbrev pub tried_where : Option ℕ → ℕ → Standing → Standing
+tried_where None now s = s
+tried_where (Some place) now s = tried_child now place (slice_get s.children place) s
+
+abbrev pub tried_again : ℕ → Standing → Standing
+tried_again now s = tried_where (to_try s) now s
+
+-- It goes on without an item: it hears of the end of the child that it found to have ended, and tries a child again.
+abbrev pub gone_on : ℕ → Standing → Standing
+gone_on now s = tried_again now (gone_heard now s)
+
+-- where the first start of a child has failed, it gives up
+abbrev pub heeded_in : ℕ → Option Child → Standing → Standing
+heeded_in place None s = s
+heeded_in place (Some c) s = gave_up_at place c.id Reason.Noproc s
+
+abbrev pub heeded_at : Option ℕ → Standing → Standing
+heeded_at None s = s
+heeded_at (Some place) s = heeded_in place (slice_get s.children place) s
+
+abbrev pub first_heeded : Standing → Standing
+first_heeded s = heeded_at (position (λ c. has_failed_first c.trial) s.children) s

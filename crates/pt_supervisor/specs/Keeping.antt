@@ -8,6 +8,7 @@ use Rattle.std.specs.Prelude.{◌⊎◌, take, slice_get}
 use Rattle.pt_signal.specs.declared.pid.Pid.{Pid}
 use Rattle.pt_signal.specs.declared.ids.Ref.{Ref}
 use Rattle.pt_signal.specs.declared.item.Item.{Item}
+use Rattle.pt_signal.specs.declared.item.Pick.{Pick}
 use Rattle.pt_signal.specs.declared.reason.Reason.{Reason}
 use Rattle.pt_signal.specs.declared.signal.Signal.{Signal}
 use Rattle.pt_signal.specs.declared.signal.Signal.TheVariants.{Unlink, LinkExit}
@@ -15,12 +16,13 @@ use Rattle.pt_signal.specs.Values.{same_pid}
 use Rattle.pt_signal.specs.Process.{ProcessState, held}
 use Rattle.pt_events.specs.declared.event.Event.{Event}
 use Rattle.pt_events.specs.declared.event.Event.TheVariants.{Said, Came, Refused}
-use Rattle.pt_events.specs.History.{Past, Start, at_start, is_unborn, state_of}
+use Rattle.pt_events.specs.History.{Past, Phase, Start, at_start, is_unborn, state_of}
 use Rattle.pt_events.specs.Journal.{events}
 use Rattle.pt_shard.specs.ShardState.{ShardState, phase_of, state_in, lives}
 use Rattle.pt_laws.specs.Watch.{is_down_item, is_open}
+use Rattle.pt_workers.specs.Waking.{need_not_wait}
 use Rattle.pt_crew.specs.declared.behaviour.Next.{Next}
-use Rattle.pt_crew.specs.declared.behaviour.Next.TheVariants.{Proceed}
+use Rattle.pt_crew.specs.declared.behaviour.Next.TheVariants.{Proceed, WaitUntil}
 use Rattle.pt_crew.specs.declared.births.Role.{Role}
 use Rattle.pt_crew.specs.declared.crew.Crew.{Crew}
 use Rattle.pt_crew.specs.Visiting.{Answers}
@@ -29,7 +31,6 @@ use Rattle.pt_crew.specs.Waking.{has_work}
 use Rattle.pt_crew.specs.Crews.{roles}
 use Rattle.pt_supervisor.specs.declared.asked.Asked.{Asked}
 use Rattle.pt_supervisor.specs.declared.children.Child.{Child}
-use Rattle.pt_supervisor.specs.declared.children.Shutdown.{Shutdown}
 use Rattle.pt_supervisor.specs.Children.{NoneLives}
 use Rattle.pt_supervisor.specs.Ending.{gone_at, monitor_of, told_in}
 use Rattle.pt_supervisor.specs.Hearing.{Standing}
@@ -144,9 +145,15 @@ abbrev pub AreAsked : Past → List Child → Option Asked → Pid → ShardStat
 AreAsked past children asked me d =
     (a : Asked) → asked ≡ Some a → IsPlaced children a.pid → IsAsked past a me d
 
+-- one that takes an item, or goes on without one where there is none, has one to take
+abbrev pub IsReady : Next → Phase → Type 0
+IsReady (WaitUntil Pick.Any at) f = need_not_wait Pick.Any f ≡ true
+IsReady _ f = ⊤
+
 -- what a supervisor upholds while it lives: it traps exits, unless it has not begun
 pub record Holds (past : Past) (s : Standing) (next : Next) (me : Pid) (d : ShardState) : Type 0 where
   pub waits : Supervises next s
+  pub ready : IsReady next (phase_of d me)
   pub remembers : Remembers past s.children s.started me d
   pub traps : ((state_in d me).traps ≡ true) ⊎ ((next ≡ Proceed) × NoneLives s.children)
   pub family : Family past s.children s.stopping me d

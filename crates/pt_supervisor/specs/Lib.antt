@@ -3,6 +3,7 @@ pub mod Restarts
 pub mod Limits
 pub mod Ending
 pub mod Children
+pub mod Trying
 pub mod Seen
 pub mod Hearing
 pub mod Calling

@@ -1,6 +1,7 @@
 -- What a supervisor does with an item, and what it does next.
 use Rattle.std.specs.Prelude.{◌≡◌, ◌⊎◌, ℕ, zero, suc, ◌+◌, ◌-◌, ◌^◌, min, ◌<◌, nat_lt, cond, Bool, true, false, List, length}
-use Rattle.std.specs.Prelude.{[], ◌∷◌, ◌++◌, Option, Some, None, MatchBool, Result, Ok, Err, is_ok, is_some, slice_get, slice_set}
+use Rattle.std.specs.List.{list_all}
+use Rattle.std.specs.Prelude.{◌&&◌, not, [], ◌∷◌, ◌++◌, Option, Some, None, MatchBool, Result, Ok, Err, is_ok, is_some, slice_get, slice_set}
 use Rattle.pt_signal.specs.declared.pid.Pid.{Pid}
 use Rattle.pt_signal.specs.declared.ids.Ref.{Ref}
 use Rattle.pt_signal.specs.declared.item.Item.{Item}
@@ -10,7 +11,7 @@ use Rattle.pt_signal.specs.declared.reason.Reason.{Reason}
 use Rattle.pt_signal.specs.declared.signal.Signal.{Signal}
 use Rattle.pt_events.specs.declared.event.Event.TheVariants.{Said, Flag}
 use Rattle.pt_shard.specs.declared.fault.Fault.{Fault}
-use Rattle.pt_shard.specs.ShardState.{ShardState, state_in}
+use Rattle.pt_shard.specs.ShardState.{ShardState, phase_of, state_in}
 use Rattle.pt_shard.specs.Known.{knows}
 use Rattle.pt_shard.specs.Calls.{Calls}
 use Rattle.pt_desk.specs.DeskState.{DeskState}
@@ -29,10 +30,12 @@ use Rattle.pt_supervisor.specs.declared.children.Shutdown.{Shutdown}
 use Rattle.pt_supervisor.specs.declared.restart.Restart.{Restart}
 use Rattle.pt_supervisor.specs.Children.{AreStarted, NoneLives, NoneUnwanted, PermanentAreWanted}
 use Rattle.pt_supervisor.specs.Children.{is_missing, last_alive}
-use Rattle.pt_supervisor.specs.Ending.{bids, is_noproc, stage_of, stage_told, next_at_stage}
+use Rattle.pt_supervisor.specs.Ending.{bids, is_noproc, stage_of, stage_told, next_at_stage, next_tried}
 use Rattle.pt_supervisor.specs.declared.supervisor.Supervisor.{Supervisor}
 use Rattle.pt_supervisor.specs.Limits.{moment}
-use Rattle.pt_supervisor.specs.Hearing.{Standing, at_stage, monitor_closed, gone_heard, heard, program_of, standing}
+use Rattle.pt_supervisor.specs.declared.restart.Strategy.{Strategy}
+use Rattle.pt_supervisor.specs.Trying.{goes_past, is_startable, started_child, unstarted_child}
+use Rattle.pt_supervisor.specs.Hearing.{Standing, at_stage, first_heeded, gone_on, heard, monitor_closed, program_of, standing}
 
 -- the program's `Start`: it before, the supervisor, the place, what it answers, and it afterwards
 abbrev pub StartsOf : Type 0 → Type 0 → Type 1
@@ -48,10 +51,10 @@ pub record Nursery (S B : Type 0) : Type 0 where
   -- who was born and waits to enter the crew
   pub born : List (Role B)
 
--- the child c at a place has the pid that was born, if one was
-abbrev pub with_pid : ℕ → Child → Result Pid Fault → List Child → List Child
-with_pid place c (Ok p) children = slice_set children place (record c { pid = Some p })
-with_pid place c (Err f) children = children
+-- the child c at a place was started as the one that was born, or not, while the desk's clock was so far
+abbrev pub with_pid : ℕ → ℕ → Child → Result Pid Fault → List Child → List Child
+with_pid clock place c (Ok p) children = slice_set children place (started_child p c)
+with_pid clock place c (Err f) children = slice_set children place (unstarted_child clock f c)
 
 -- and one more was started
 abbrev pub with_one : Result Pid Fault → ℕ → ℕ
@@ -60,46 +63,55 @@ with_one (Err f) n = n
 
 -- What the program answers as the child c is to be started: its behaviour, with which it is born, linked with its
 -- supervisor, if the desk does not refuse that; or a refusal of its own.
-abbrev pub BearsAs : {S B : Type 0} → Pid → ℕ → Child → Result (B × Next) Fault → Nursery S B → Bool → Nursery S B
+abbrev pub BearsAs : {S B : Type 0} → Pid → ℕ → Child → Result (B × Next) Fault → Nursery S B → Nursery S B → Type 0
+BearsAs me place c (Err f) old new =
+    (new.children ≡ slice_set old.children place (unstarted_child old.desk.clock f c)) × (new.desk ≡ old.desk)
+    × (new.born ≡ old.born) × (new.started ≡ old.started)
+BearsAs me place c (Ok (b, first)) old new =
+    (born : Result Pid Fault) × Bore me true b first old.desk old.born born new.desk new.born
+    × (new.children ≡ with_pid new.desk.clock place c born old.children) × (new.started ≡ with_one born old.started)
+
+-- the child at a place is started, or is not
+abbrev pub TriesAt : {S B : Type 0} → StartsOf S B → Pid → ℕ → Child → Nursery S B → Nursery S B → Type 0
+TriesAt {S} {B} starts me place c old new =
+    (begins : Result (B × Next) Fault) × starts old.start me place begins new.start × BearsAs me place c begins old new
+
+-- so it is if it is due; whether those behind it are started
+abbrev pub StartsAt : {S B : Type 0} → StartsOf S B → Pid → Strategy → ℕ → Option Child → Nursery S B → Bool → Nursery S B
     → Type 0
-BearsAs me place c (Err f) old answer new =
-    (answer ≡ false) × (new.children ≡ old.children) × (new.desk ≡ old.desk) × (new.born ≡ old.born)
-    × (new.started ≡ old.started)
-BearsAs me place c (Ok (b, first)) old answer new =
-    (born : Result Pid Fault) × Bore me true b first old.desk old.born born new.desk new.born × (answer ≡ is_ok born)
-    × (new.children ≡ with_pid place c born old.children) × (new.started ≡ with_one born old.started)
+StartsAt starts me strategy place None old answer new = ⊥
+StartsAt {S} {B} starts me strategy place (Some c) old answer new =
+    (answer ≡ goes_past strategy (slice_get new.children place))
+    × MatchBool (is_startable c) (TriesAt starts me place c old new) (new ≡ old)
 
--- the child at a place is started, if it is missing; whether nothing was refused
-abbrev pub StartsAt : {S B : Type 0} → StartsOf S B → Pid → ℕ → Option Child → Nursery S B → Bool → Nursery S B
-    → Type 0
-StartsAt starts me place None old answer new = ⊥
-StartsAt {S} {B} starts me place (Some c) old answer new =
-    MatchBool (is_missing c)
-    ((begins : Result (B × Next) Fault) × starts old.start me place begins new.start
-    × BearsAs me place c begins old answer new) ((answer ≡ true) × (new ≡ old))
+abbrev pub StartsOne : {S B : Type 0} → StartsOf S B → Pid → Strategy → ℕ → Nursery S B → Bool → Nursery S B → Type 0
+StartsOne starts me strategy place old answer new =
+    StartsAt starts me strategy place (slice_get old.children place) old answer new
 
-abbrev pub StartsOne : {S B : Type 0} → StartsOf S B → Pid → ℕ → Nursery S B → Bool → Nursery S B → Type 0
-StartsOne starts me place old answer new = StartsAt starts me place (slice_get old.children place) old answer new
-
--- at most the child at a place is changed; and it is not missing where nothing was refused
-pub record SetsAt (place : ℕ) (answer : Bool) (old new : List Child) : Type 0 where
+-- at most the child at a place is changed
+pub record SetsAt (place : ℕ) (old new : List Child) : Type 0 where
   pub count : length new ≡ length old
-  pub others : (j : ℕ) → (j ≡ place → ⊥) → slice_get new j ≡ slice_get old j
-  pub started : answer ≡ true → (c : Child) → slice_get new place ≡ Some c → is_missing c ≡ false
   pub permanent : PermanentAreWanted old → PermanentAreWanted new
+  pub unwanted : NoneUnwanted old → NoneUnwanted new
 
--- those at the first places, in order, and nothing was refused
-abbrev pub StartsFirst : {S B : Type 0} → StartsOf S B → Pid → ℕ → Nursery S B → Nursery S B → Type 0
-StartsFirst starts me zero old new = new ≡ old
-StartsFirst {S} {B} starts me (suc n) old new =
-    (mid : Nursery S B) × StartsFirst starts me n old mid × StartsOne starts me n mid true new
+-- those at the first places, in order, and none of them has the others wait
+abbrev pub StartsFirst : {S B : Type 0} → StartsOf S B → Pid → Strategy → ℕ → Nursery S B → Nursery S B → Type 0
+StartsFirst starts me strategy zero old new = new ≡ old
+StartsFirst {S} {B} starts me strategy (suc n) old new =
+    (mid : Nursery S B) × StartsFirst starts me strategy n old mid × StartsOne starts me strategy n mid true new
 
--- so many children, in order, up to the first one that is refused
-abbrev pub StartsAll : {S B : Type 0} → StartsOf S B → Pid → ℕ → Nursery S B → Bool → Nursery S B → Type 0
-StartsAll starts me count old true new = StartsFirst starts me count old new
-StartsAll {S} {B} starts me count old false new =
-    (place : ℕ) × (place < count) × (mid : Nursery S B) × StartsFirst starts me place old mid
-    × StartsOne starts me place mid false new
+-- so many children, in order, up to the first one that has the others wait
+abbrev pub StartsUpTo : {S B : Type 0} → StartsOf S B → Pid → Strategy → ℕ → Nursery S B → Bool → Nursery S B → Type 0
+StartsUpTo starts me strategy count old true new = StartsFirst starts me strategy count old new
+StartsUpTo {S} {B} starts me strategy count old false new =
+    (place : ℕ) × (place < count) × (mid : Nursery S B) × StartsFirst starts me strategy place old mid
+    × StartsOne starts me strategy place mid false new
+
+-- whether none is missing afterwards
+abbrev pub StartsAll : {S B : Type 0} → StartsOf S B → Pid → Strategy → ℕ → Nursery S B → Bool → Nursery S B → Type 0
+StartsAll starts me strategy count old answer new =
+    (through : Bool) × StartsUpTo starts me strategy count old through new
+    × (answer ≡ (through && list_all (λ c. not (is_missing c)) new.children))
 
 -- a supervisor, its desk, and who was born
 pub record SupervisorScene (S B : Type 0) : Type 0 where
@@ -161,18 +173,24 @@ EndsChild me now p shutdown (Some (Until m at)) old d next new e =
     (TellsToEnd me p Reason.Kill (Killed m) old d next new e)
 EndsChild me now p shutdown (Some (Killed m)) old d next new e = TellsToEnd me p Reason.Kill (Killed m) old d next new e
 
--- nobody is to end any more: it ends, if it is to, or starts who is missing, and tries again where that was refused
+-- what it is once it has started those that are due, and none is missing, or some are
+abbrev pub settled : Bool → Standing → Standing
+settled answer s = cond answer s (first_heeded s)
+
+-- nobody is to end any more: it ends, if it is to, or starts who is due; where some are missing still, it gives up if a first
+-- start has failed, and else tries again, behind the items that are there
 abbrev pub SupervisorSettles : {S B : Type 0} → StartsOf S B → Pid → Option Reason → SupervisorScene S B → Next → SupervisorScene S B → Type 0
 SupervisorSettles starts me (Some reason) old next new = (next ≡ Stop reason) × (new ≡ old)
 SupervisorSettles starts me None old next new =
-    (answer : Bool) × StartsAll starts me (length old.standing.children) (nursery old) answer (nursery new)
-    × (next ≡ cond answer (Wait Pick.Any) Proceed)
-    × (new.standing ≡ record (old.standing) {
+    (answer : Bool)
+    × StartsAll starts me old.standing.strategy (length old.standing.children) (nursery old) answer (nursery new)
+    × (next ≡ cond answer (Wait Pick.Any) (next_tried (phase_of new.desk.shard me)))
+    × (new.standing ≡ settled answer (record (old.standing) {
       children = new.standing.children;
       started = new.standing.started;
       ending = length old.standing.children;
       asked = None;
-    })
+    }))
 
 abbrev pub AdvancesAs : {S B : Type 0} → StartsOf S B → Pid → ℕ → Option (Pid × Shutdown) → SupervisorScene S B → Next
     → SupervisorScene S B → Type 0
@@ -188,7 +206,8 @@ Advances starts me now old next new =
     new
 
 -- It sees to an item at a time: of an end it hears, by an exit or by the DOWN of its monitor. Where it goes on without an
--- item it sets its trap, and hears of the child that it found to have ended; whether nothing was refused.
+-- item it sets its trap, hears of the child that it found to have ended, and tries again to start one that failed; whether
+-- nothing was refused.
 abbrev pub SupervisorAttends : Pid → ℕ → Option Item → Standing → DeskState → Bool → Standing → DeskState → Type 0
 SupervisorAttends me time (Some (Exit from reason)) old d answer new e =
     (answer ≡ true) × (new ≡ heard (moment old.timed d.shard.clock time) from reason old) × (e ≡ d)
@@ -198,7 +217,7 @@ SupervisorAttends me time (Some _) old d answer new e = (answer ≡ true) × (ne
 SupervisorAttends me time None old d answer new e =
     (result : Result Bool Fault)
     × Calls me (Some (Flag me true)) (state_in d.shard me).traps d.shard result e.shard × (answer ≡ is_ok result)
-    × (new ≡ cond answer (gone_heard (moment old.timed e.shard.clock time) old) old)
+    × (new ≡ cond answer (gone_on (moment old.timed e.shard.clock time) old) old)
 
 abbrev pub after_attending : {S B : Type 0} → StartsOf S B → Pid → ℕ → Bool → SupervisorScene S B → Next
     → SupervisorScene S B → Type 0
@@ -216,7 +235,7 @@ pub record SupervisorHandles {S B : Type 0} (starts : StartsOf S B) (me : Pid) (
 
 -- What it waits for tells how its children stand: for any item where each that is to live was started, none that is not
 -- wanted lives, and none is to end; for the DOWN of one, where that is the last of those that are to end, and it was told so, or killed; until a time,
--- where it has to end by then. It ends where none lives.
+-- where it has to end by then; for any item, and no longer than there is one, where a start failed. It ends where none lives.
 abbrev pub EndsLast : Pid → Shutdown → Stage → Standing → Type 0
 EndsLast p shutdown stage s =
     (last_alive s.children s.ending (length s.children) ≡ Some (p, shutdown))
@@ -233,6 +252,7 @@ WaitsFor _ s = ⊥
 
 abbrev pub WaitsForUntil : Pick → ℕ → Standing → Type 0
 WaitsForUntil (Pick.DownOf m) at s = (p : Pid) × (shutdown : Shutdown) × EndsLast p shutdown (Until m at) s
+WaitsForUntil Pick.Any at s = at ≡ 0
 WaitsForUntil _ at s = ⊥
 
 abbrev pub Supervises : Next → Standing → Type 0

@@ -7,9 +7,11 @@ ghost use Rattle.pt_supervisor.specs.Hearing.{wanted_again};
 ghost use Rattle.pt_signal.specs.Values.{is_pid};
 ghost use Rattle.pt_supervisor.specs.Calling.{place_of_id};
 ghost use Rattle.pt_supervisor.specs.Ending.{bids, stage_told};
+ghost use Rattle.pt_supervisor.specs.declared.trial.Trial.{Trial};
 
 use crate::asked::Stage;
 use crate::restart::Restart;
+use crate::trial::Trial;
 use pt_workers::{Pid, Reason, Ref};
 
 /// How a supervisor ends a child: `shutdown` of a child's specification.
@@ -62,12 +64,21 @@ pub struct Child {
     pub wanted: bool,
     /// What the program calls it.
     pub id: u64,
+    /// Which start is the next one, and what follows if that fails.
+    pub trial: Trial,
 }
 
 impl Child {
     /// A child that is to be started, and is ended by an exit signal `shutdown`. Its id is 0.
     pub fn new(restart: Restart) -> Child
-        ensures { result ≡ record { pid = None; restart = restart; shutdown = Shutdown.Infinity; wanted = true; id = 0 } }
+        ensures { result ≡ record {
+          pid = None;
+          restart = restart;
+          shutdown = Shutdown.Infinity;
+          wanted = true;
+          id = 0;
+          trial = Trial.First;
+        } }
     {
         Child {
             pid: None,
@@ -75,6 +86,7 @@ impl Child {
             shutdown: Shutdown::Infinity,
             wanted: true,
             id: 0,
+            trial: Trial::First,
         }
     }
 
@@ -106,12 +118,13 @@ impl Child {
         is_process(self.pid, pid)
     }
 
-    /// The same child, which is to live again unless it is temporary.
+    /// The same child, which is to live again unless it is temporary. A start of it that failed is not waited for.
     fn revived(self) -> Child
         ensures { result ≡ revived_child self }
     {
         Child {
             wanted: self.wanted || self.restart != Restart::Temporary,
+            trial: Trial::Again,
             ..self
         }
     }

@@ -5,15 +5,15 @@
 use pt_workers::Reason;
 use std::fmt;
 
-/// Why a supervisor gave up: a child exited that was to be started again, and its limit allowed no further restart.
-/// Erlang reports it as `reached_max_restart_intensity`.
+/// Why a supervisor gave up: a child was to be started again, and its limit allowed no further restart; or the first start
+/// of a child failed. Erlang reports the one as `reached_max_restart_intensity`, the other as `failed_to_start_child`.
 #[derive(Clone, Copy, Debug, PartialEq, Eq)]
 pub struct GaveUp {
     /// The id of that child.
     pub id: u64,
     /// The place of that child.
     pub place: usize,
-    /// The reason with which it exited.
+    /// The reason with which it exited. It is `noproc` if a start of it failed, or it was found to have exited.
     pub reason: Reason,
     /// How many restarts the supervisor had made within the span.
     pub restarts: usize,

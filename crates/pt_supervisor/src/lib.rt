@@ -5,7 +5,8 @@
 //! supervisor, too.
 //!
 //! Tests: `checks/tried/test_calls/supervisors.rt.txt`, `checks/tried/test_calls/timed_supervisors.rt.txt`,
-//! `checks/tried/test_calls/children.rt.txt` and `crates/test_calls/src/supervisors.rt`.
+//! `checks/tried/test_calls/children.rt.txt`, `checks/tried/test_calls/failing_starts.rt.txt` and
+//! `crates/test_calls/src/supervisors.rt`. `checks/otp` compares it with OTP's supervisor.
 //!
 //! # What is proved
 //!
@@ -18,10 +19,12 @@
 //! - **Handling.** The contract of `handle` says all that it does on the desk, also if a call fails.
 //!   (`SupervisorHandles`)
 //! - **Children are counted.** A supervisor counts each child that it spawns. (`CountsBirths`)
-//! - **Permanent children.** A supervisor always wants its permanent children alive, as long as no call ends one.
-//!   (`permanent_children_live`)
-//! - **Giving up.** A supervisor that gave up says which child exited, with which reason, and how many restarts it had made
-//!   in what span. (`gave_up`)
+//! - **Permanent children.** A supervisor always wants its permanent children alive, as long as no call ends one or asks for
+//!   the next start of one. (`permanent_children_live`)
+//! - **Starts that fail.** What follows a failed start is one function of the child, as in OTP. The supervisor takes items
+//!   between the tries, and each try counts as a restart. (`failed_child`, `tried_again`, `next_tried`)
+//! - **Giving up.** A supervisor that gave up says which child exited or was not started, with which reason, and how many
+//!   restarts it had made in what span. (`gave_up`)
 //! - **What it tells.** What it tells of its children, and how many it counts, is exact. (`which_children`,
 //!   `count_children`)
 //! - **Children at run time.** Each call about a child says what it changes and when it is refused. A refused call changes
@@ -39,6 +42,7 @@ mod restart;
 mod seen;
 mod supervised;
 mod supervisor;
+mod trial;
 
 pub use asked::{Asked, Stage};
 pub use child_fault::ChildFault;
@@ -50,3 +54,4 @@ pub use restart::{Restart, Strategy};
 pub use seen::{ChildCounts, ChildSeen, ChildState};
 pub use supervised::Supervised;
 pub use supervisor::{Start, Supervisor};
+pub use trial::Trial;

@@ -1,6 +1,8 @@
 //! A supervisor.
 
 ghost use Rattle.std.specs.Prelude.{◌≡◌, ⊤, ℕ, Result};
+ghost use Rattle.pt_shard.specs.ShardState.{phase_of};
+ghost use Rattle.pt_supervisor.specs.Ending.{next_tried};
 ghost use Rattle.std.specs.Option.{ForSome};
 ghost use Rattle.pt_signal.specs.declared.pid.Pid.{Pid};
 ghost use Rattle.pt_shard.specs.declared.fault.Fault.{Fault};
@@ -13,6 +15,7 @@ use crate::gave_up::GaveUp;
 use crate::limit::Limit;
 use crate::restart::Strategy;
 use crate::seen::{ChildCounts, ChildSeen, ChildState, counted, seen};
+use crate::trial::{Trial, all_started, first_failed, place_over};
 use pt_crew::{Births, CallFault, Next, exit_signal, monitor, spawn_child, trap};
 use pt_workers::{Desk, Fault, Item, Pick, Pid, Reason, Ref};
 use std::alloc::{AllocError, Global};
@@ -26,7 +29,8 @@ pub trait Start<B> {
 
     /// Returns the behaviour of the child at a place as it is started, and what it does first.
     ///
-    /// If it fails, as for want of memory, the supervisor proceeds and calls it again.
+    /// A fault says that the start has failed. `Fault::Memory` and `Fault::Worn` stand for an accident: then the
+    /// supervisor calls it again, as often as it takes. What follows otherwise is in [`Trial`].
     fn start(&mut self, supervisor: Pid, place: usize) -> Result<(B, Next), Fault>
         ensures { starts self.old supervisor place result self.new };
 }
@@ -55,7 +59,7 @@ pub struct Supervisor<S> {
 }
 
 impl<S> Supervisor<S> {
-    ghost use Rattle.std.specs.Prelude.{◌<◌, IfOk, true, cond, length, map, slice_get};
+    ghost use Rattle.std.specs.Prelude.{◌<◌, IfOk, IfSome, Some, true, cond, length, map, slice_get};
     ghost use Rattle.pt_desk.specs.DeskState.{GoesOn};
     ghost use Rattle.pt_crew.specs.Births.{born, kept_roles, time_told};
     ghost use Rattle.pt_crew.specs.Visiting.{takes};
@@ -63,12 +67,14 @@ impl<S> Supervisor<S> {
     ghost use Rattle.pt_supervisor.specs.Children.{AreStarted, NoneUnwanted, PermanentAreWanted};
     ghost use Rattle.pt_supervisor.specs.declared.asked.Stage.TheVariants.{Gone};
     ghost use Rattle.pt_supervisor.specs.Ending.{child_end_heard, is_noproc, stage_of};
-    ghost use Rattle.pt_supervisor.specs.Hearing.{at_stage, begun, monitor_closed, gone_heard, heard, lost, program_of, standing};
+    ghost use Rattle.pt_supervisor.specs.Hearing.{at_stage, begun, first_heeded, gave_up_at, gone_heard, heard, lost};
+    ghost use Rattle.pt_supervisor.specs.Hearing.{monitor_closed, program_of, standing, to_try, tried_again};
     ghost use Rattle.pt_supervisor.specs.Limits.{moment};
     ghost use Rattle.pt_supervisor.specs.Hearing.{started_again, stopped};
     ghost use Rattle.pt_supervisor.specs.Seen.{child_seen, children_counted};
     ghost use Rattle.pt_supervisor.specs.Supervising.{Advances, EndsChild, SupervisorAttends, SupervisorHandles, TellsToEnd};
-    ghost use Rattle.pt_supervisor.specs.Supervising.{CountsBirths, SetsAt, StartsAll, StartsOne, Supervises, WatchesChild};
+    ghost use Rattle.pt_supervisor.specs.Supervising.{CountsBirths, SetsAt, StartsAll, StartsOne, Supervises, TriesAt, WatchesChild};
+    ghost use Rattle.pt_supervisor.specs.Trying.{is_startable};
     ghost use Rattle.pt_supervisor.specs.Supervising.{nursery, supervisor_scene};
     ghost use Rattle.pt_supervisor.specs.Keeping.{BearsFrom, HoldsWhere, Tends};
 
@@ -175,8 +181,8 @@ impl<S> Supervisor<S> {
         self.started
     }
 
-    /// Why it gave up, if it has: which child was not started again, how often it had started children again, and in what
-    /// span. It then ends its children and exits with `shutdown`. [`Crew::left`](pt_crew::Crew::left) has its value then.
+    /// Why it gave up, if it has: which child was not started, or not again, how often it had started children again, and in
+    /// what span. It then ends its children and exits with `shutdown`. [`Crew::left`](pt_crew::Crew::left) has its value then.
     pub fn gave_up(&self) -> Option<GaveUp>
         ensures { result ≡ (standing self.now).gave_up }
     {
@@ -245,8 +251,8 @@ impl<S> Supervisor<S> {
     /// Takes in a child behind the others, with this id, restart and shutdown. Returns its place, with which `Start` is
     /// called for it.
     ///
-    /// The supervisor starts it when it handles the next item, or proceeds, as with [`Supervisor::terminate_child`]. It
-    /// tries again if the start fails.
+    /// The supervisor starts it when it handles the next item, or proceeds, as with [`Supervisor::terminate_child`]. If the
+    /// start fails, the child keeps its place and is not wanted any more.
     #[tactic(auto, using(crate::proofs::Changing::holds_same))]
     pub fn start_child(&mut self, child: Child) -> Result<usize, ChildFault>
         ensures does { AddsChild child (standing self.old) result (standing self.new) }
@@ -260,6 +266,7 @@ impl<S> Supervisor<S> {
         let child = Child {
             pid: None,
             wanted: true,
+            trial: Trial::Asked,
             ..child
         };
         match self.children.push(child) {
@@ -302,20 +309,25 @@ impl<S> Supervisor<S> {
         }
     }
 
-    /// Notes whether the child at a place is wanted.
+    /// Notes whether the child at a place is wanted, as a call asked for.
     fn want(&mut self, place: usize, wanted: bool)
         requires { place < length (standing self.old).children }
         ensures standing { standing self.new ≡ with_wanted wanted place (standing self.old) }
         ensures start { program_of self.new ≡ program_of self.old }
     {
         let child = self.children[place];
-        self.children[place] = Child { wanted, ..child };
+        self.children[place] = Child {
+            wanted,
+            trial: Trial::Asked,
+            ..child
+        };
     }
 
     /// Handles an item, or begins, and returns what the supervisor does next.
     ///
-    /// If a call fails for want of memory or stamps, or the program fails to start a child, it proceeds, and tries
-    /// again when it runs next. An item that tells neither of the exit of its parent nor of a child changes nothing.
+    /// If a call fails for want of memory or stamps, it proceeds, and tries again when it runs next. If a child was not
+    /// started, it first takes an item, if one is there. An item that tells neither of the exit of its parent nor of a
+    /// child changes nothing.
     #[tactic(auto, using(pt_workers::proofs::GoingOn::stays, pt_desk::proofs::Turning::goes_on_then))]
     pub fn handle<B: Drop>(
         &mut self,
@@ -372,7 +384,8 @@ impl<S> Supervisor<S> {
         }
     }
 
-    /// Traps exits, and hears of the child that it found to have exited. Returns whether no call failed.
+    /// Traps exits, and hears of the child that it found to have exited. Then a child is tried again whose start failed.
+    /// Returns whether no call failed.
     #[tactic(auto, using(pt_workers::proofs::GoingOn::stays))]
     fn begin(&mut self, desk: &mut Desk, now: u64, me: Pid) -> bool
         ensures does { SupervisorAttends me now None (standing self.old) desk.old result (standing self.new) desk.new }
@@ -385,8 +398,39 @@ impl<S> Supervisor<S> {
         if trap(desk, me, true).is_err() {
             return false;
         }
+        let moment = self.limit.moment(desk.clock(), now);
         self.find(desk, now);
+        self.try_again(moment);
         true
+    }
+
+    /// The place of the child that it may try to start again: no other is to exit before.
+    fn to_try(&self) -> Option<usize>
+        ensures place { result ≡ to_try (standing self.now) }
+        ensures within { IfSome result (λ i. (i < length (standing self.now).children) × (0 < self.now.ending)) }
+    {
+        if last_alive(self.children.as_slice(), self.ending).is_some() {
+            return None;
+        }
+        match first_failed(self.children.as_slice()) {
+            Some((place, _at)) if place < self.ending => Some(place),
+            _ => None,
+        }
+    }
+
+    /// Has the child be tried again whose start failed first, if there is one. That counts as a restart.
+    fn try_again(&mut self, now: u64)
+        ensures standing { standing self.new ≡ tried_again now (standing self.old) }
+        ensures start { program_of self.new ≡ program_of self.old }
+    {
+        if let Some(place) = self.to_try() {
+            let child = self.children[place];
+            self.children[place] = Child {
+                trial: Trial::Again,
+                ..child
+            };
+            self.restart(now, place, child.id, Reason::Noproc);
+        }
     }
 
     /// Notes that the child which it found to have exited has exited, if there is one.
@@ -468,8 +512,27 @@ impl<S> Supervisor<S> {
             revive(self.children.as_mut_slice(), first);
             self.ending = first;
         } else {
-            self.gave_up = Some(self.limit.over(id, place, reason));
-            self.stop(Reason::Shutdown);
+            self.give_up(place, id, reason);
+        }
+    }
+
+    /// Notes why it gives up. All its children end, and then it exits with `shutdown`.
+    fn give_up(&mut self, place: usize, id: u64, reason: Reason)
+        ensures standing { standing self.new ≡ gave_up_at place id reason (standing self.old) }
+        ensures start { program_of self.new ≡ program_of self.old }
+    {
+        self.gave_up = Some(self.limit.over(id, place, reason));
+        self.stop(Reason::Shutdown);
+    }
+
+    /// Gives up if the first start of a child has failed.
+    fn heed_first(&mut self)
+        ensures standing { standing self.new ≡ first_heeded (standing self.old) }
+        ensures start { program_of self.new ≡ program_of self.old }
+    {
+        if let Some(place) = place_over(self.children.as_slice()) {
+            let child = self.children[place];
+            self.give_up(place, child.id, Reason::Noproc);
         }
     }
 
@@ -504,10 +567,10 @@ impl<S> Supervisor<S> {
         self.ending = self.children.len();
         self.asked = None;
         if self.start_missing(desk, births, me) {
-            Next::Wait(Pick::Any)
-        } else {
-            Next::Proceed
+            return Next::Wait(Pick::Any);
         }
+        self.heed_first();
+        next_tried(desk, me)
     }
 
     /// Ends a child: it monitors it, and tells it to exit. If it told it to exit within a time before, it kills it once
@@ -591,11 +654,12 @@ impl<S> Supervisor<S> {
         stage.waits()
     }
 
-    /// Starts the children that are missing, in order. Returns whether no call failed.
+    /// Starts the children that are due, in order, up to one for which those behind it have to wait. Returns whether no
+    /// child is missing afterwards.
     fn start_missing<B: Drop>(&mut self, desk: &mut Desk, births: &mut Births<B>, me: Pid) -> bool
     where
         S: Start<B>,
-        ensures does { StartsAll S.starts me (length (standing self.old).children)
+        ensures does { StartsAll S.starts me self.old.strategy (length (standing self.old).children)
             (nursery (supervisor_scene self.old desk.old births.old))
             result
             (nursery (supervisor_scene self.new desk.new births.new)) }
@@ -618,10 +682,11 @@ impl<S> Supervisor<S> {
                 return false;
             }
         }
-        true
+        all_started(self.children.as_slice())
     }
 
-    /// Starts the child at a place, if it is missing. Returns whether no call failed.
+    /// Starts the child at a place, if it is due. Returns whether those behind it are started.
+    #[tactic(auto, using(crate::proofs::Starting::sets_none))]
     fn start_at<B: Drop>(
         &mut self,
         desk: &mut Desk,
@@ -632,7 +697,7 @@ impl<S> Supervisor<S> {
     where
         S: Start<B>,
         requires { place < length (standing self.old).children }
-        ensures does { StartsOne S.starts me place
+        ensures does { StartsOne S.starts me self.old.strategy place
             (nursery (supervisor_scene self.old desk.old births.old))
             result
             (nursery (supervisor_scene self.new desk.new births.new)) }
@@ -640,27 +705,70 @@ impl<S> Supervisor<S> {
           children = (standing self.new).children;
           started = (standing self.new).started;
         } }
-        ensures at { SetsAt place result (standing self.old).children (standing self.new).children }
-        ensures unwanted { NoneUnwanted (standing self.old).children → NoneUnwanted (standing self.new).children }
+        ensures at { SetsAt place (standing self.old).children (standing self.new).children }
         ensures takes { takes desk.new.shard.journal ≡ takes desk.old.shard.journal }
         ensures kept { kept_roles births.new ≡ kept_roles births.old }
         ensures goes_on { GoesOn desk.old desk.new }
     {
         let child = self.children[place];
-        if !child.is_missing() {
-            return true;
+        if !child.is_startable() {
+            return child.goes_past(self.strategy);
         }
-        let Ok((behaviour, first)) = self.start.start(me, place) else {
-            return false;
+        self.try_at(desk, births, me, place, child);
+        let tried = self.children[place];
+        tried.goes_past(self.strategy)
+    }
+
+    /// Starts the child at a place, or notes that it was not started.
+    fn try_at<B: Drop>(
+        &mut self,
+        desk: &mut Desk,
+        births: &mut Births<B>,
+        me: Pid,
+        place: usize,
+        child: Child,
+    )
+    where
+        S: Start<B>,
+        requires within { place < length (standing self.old).children }
+        requires at { slice_get (standing self.old).children place ≡ Some child }
+        requires due { is_startable child ≡ true }
+        ensures does { TriesAt S.starts me place child
+            (nursery (supervisor_scene self.old desk.old births.old))
+            (nursery (supervisor_scene self.new desk.new births.new)) }
+        ensures rest { standing self.new ≡ record (standing self.old) {
+          children = (standing self.new).children;
+          started = (standing self.new).started;
+        } }
+        ensures at { SetsAt place (standing self.old).children (standing self.new).children }
+        ensures takes { takes desk.new.shard.journal ≡ takes desk.old.shard.journal }
+        ensures kept { kept_roles births.new ≡ kept_roles births.old }
+        ensures goes_on { GoesOn desk.old desk.new }
+    {
+        let (behaviour, first) = match self.start.start(me, place) {
+            Ok(begins) => begins,
+            Err(fault) => {
+                self.children[place] = child.unstarted(desk.clock(), fault);
+                return;
+            }
         };
-        let Ok(pid) = spawn_child(desk, births, me, true, behaviour, first) else {
-            return false;
-        };
-        self.children[place] = Child {
-            pid: Some(pid),
-            ..child
-        };
-        self.started = self.started.saturating_add(1);
-        true
+        match spawn_child(desk, births, me, true, behaviour, first) {
+            Ok(pid) => {
+                self.children[place] = child.started(pid);
+                self.started = self.started.saturating_add(1);
+            }
+            Err(fault) => self.children[place] = child.unstarted(desk.clock(), fault),
+        }
+    }
+}
+
+/// What a supervisor does next whose children are not all started: it takes the first item that is there, or goes on
+/// without one.
+fn next_tried(desk: &Desk, me: Pid) -> Next
+    ensures { result ≡ next_tried (phase_of desk.now.shard me) }
+{
+    match desk.waiting(me) {
+        Some(items) if !items.is_empty() => Next::WaitUntil(Pick::Any, 0),
+        _ => Next::Proceed,
     }
 }

@@ -4,7 +4,7 @@ use crate::compared::{holds, same};
 use pt_node::{Pid, Reason};
 use pt_supervisor::{
     Child, ChildCounts, ChildFault, ChildSeen, ChildState, Limit, Restart, Shutdown, Strategy,
-    Supervisor,
+    Supervisor, Trial,
 };
 use std::alloc::Global;
 use std::process::Abort;
@@ -26,6 +26,7 @@ const KILLED: Child = Child {
     shutdown: Shutdown::BrutalKill,
     wanted: true,
     id: 0,
+    trial: Trial::First,
 };
 
 #[test]

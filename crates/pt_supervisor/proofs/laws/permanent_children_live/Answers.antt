@@ -8,4 +8,4 @@ returns-clause-stays c = heard_keeps
 
 pub returns-clause-live : goal.returns-clause-live
 returns-clause-live c s waits k place child at is =
-    lives_when_wanted child (k place child at is) (waits.0 place child (slice_get_within s.children place child at) at)
+    lives_when_wanted child (k place child at is).0 (waits.0 place child (slice_get_within s.children place child at) at)

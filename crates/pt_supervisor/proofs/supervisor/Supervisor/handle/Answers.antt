@@ -49,3 +49,6 @@ returns-then-not-attend-clause-counts g c =
 
 pub returns-clause-counts : goal.returns-clause-counts
 returns-clause-counts g c = handles_count c.args.me g.S.Start.starts _ c.args.item _ _ _ (returns-clause-does g c)
+
+pub returns-clause-permanent : goal.returns-clause-permanent
+returns-clause-permanent g c = λ k. c.advance.ensures.permanent (c.if-not-attend.ensures.permanent k)

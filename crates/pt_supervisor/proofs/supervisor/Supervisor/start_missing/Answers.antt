@@ -1,20 +1,24 @@
--- `Supervisor::start_missing`: its clauses `goes_on`, `does`, `permanent` and `unwanted`, and its loop over `place`.
-use Rattle.std.proofs.Common.{true, refl, ◌∙◌, ap, arith}
+-- `Supervisor::start_missing`: its clauses `goes_on`, `does`, `permanent`, `unwanted` and `started`, and its loop over `place`.
+use Rattle.std.proofs.Common.{◌≡◌, true, false, not, refl, ◌∙◌, ap, subst, arith}
+use Rattle.std.specs.List.{list_all}
 use Rattle.pt_desk.proofs.Turning.{goes_on_then}
 use Rattle.pt_supervisor.specs.Hearing.{Standing, standing}
-use Rattle.pt_supervisor.specs.Supervising.{nursery, supervisor_scene}
-use Rattle.pt_supervisor.proofs.Starting.{one_started, first_more}
+use Rattle.pt_supervisor.specs.declared.children.Child.{Child}
+use Rattle.pt_supervisor.specs.declared.restart.Strategy.{Strategy}
+use Rattle.pt_supervisor.specs.Children.{is_missing}
+use Rattle.pt_supervisor.specs.Supervising.{StartsOne, nursery, supervisor_scene}
+use Rattle.pt_supervisor.proofs.Starting.{all_are_started, first_more}
 use Rattle.pt_supervisor.proofs.supervisor.Supervisor.start_missing.Goals as goal
 
 pub loop-place-preserved : goal.loop-place-preserved
 loop-place-preserved g c =
     let inv = c.loop-place.invariant in
     record {
-      does = first_more g.S.Start.starts c.args.me c.loop-place.place _ _ _ inv.does c.if-not-start_at.ensures.does;
+      does = first_more g.S.Start.starts c.args.me c.args.self.now.strategy c.loop-place.place _ _ _ inv.does (subst (λ (k : Strategy). StartsOne g.S.Start.starts c.args.me k c.loop-place.place (nursery (supervisor_scene c.loop-place.self c.loop-place.desk c.loop-place.births)) true
+          (nursery (supervisor_scene c.start_at.new.self c.start_at.new.desk c.start_at.new.births))) (ap (λ (s : Standing). s.strategy) c.loop-place.invariant.rest) c.if-not-start_at.ensures.does);
       rest = c.start_at.ensures.rest ∙ ap (λ (s : Standing). record s { children = (standing c.start_at.new.self).children; started = (standing c.start_at.new.self).started }) inv.rest;
-      started = one_started c.loop-place.place true (standing c.loop-place.self).children (standing c.start_at.new.self).children refl c.if-not-start_at.ensures.at inv.started;
       permanent = λ k. c.start_at.ensures.at.permanent (inv.permanent k);
-      unwanted = λ k. c.start_at.ensures.unwanted (inv.unwanted k);
+      unwanted = λ k. c.start_at.ensures.at.unwanted (inv.unwanted k);
       count = c.start_at.ensures.at.count ∙ inv.count;
       takes = c.start_at.ensures.takes ∙ inv.takes;
       kept = c.start_at.ensures.kept ∙ inv.kept;
@@ -27,11 +31,16 @@ returns-then-not-start_at-clause-goes_on g c =
 
 pub returns-then-not-start_at-clause-does : goal.returns-then-not-start_at-clause-does
 returns-then-not-start_at-clause-does g c = (
-  c.loop-place.place,
-  omega arith,
-  nursery (supervisor_scene c.loop-place.self c.loop-place.desk c.loop-place.births),
-  c.loop-place.invariant.does,
-  c.if-not-start_at.ensures.does,
+  false,
+  (
+    c.loop-place.place,
+    omega arith,
+    nursery (supervisor_scene c.loop-place.self c.loop-place.desk c.loop-place.births),
+    c.loop-place.invariant.does,
+    (subst (λ (k : Strategy). StartsOne g.S.Start.starts c.args.me k c.loop-place.place (nursery (supervisor_scene c.loop-place.self c.loop-place.desk c.loop-place.births)) false
+        (nursery (supervisor_scene c.start_at.new.self c.start_at.new.desk c.start_at.new.births))) (ap (λ (s : Standing). s.strategy) c.loop-place.invariant.rest) c.if-not-start_at.ensures.does),
+  ),
+  refl,
 )
 
 pub returns-then-not-start_at-clause-permanent : goal.returns-then-not-start_at-clause-permanent
@@ -41,7 +50,12 @@ pub returns-clause-permanent : goal.returns-clause-permanent
 returns-clause-permanent g c = c.loop-place.invariant.permanent
 
 pub returns-then-not-start_at-clause-unwanted : goal.returns-then-not-start_at-clause-unwanted
-returns-then-not-start_at-clause-unwanted g c = λ k. c.start_at.ensures.unwanted (c.loop-place.invariant.unwanted k)
+returns-then-not-start_at-clause-unwanted g c = λ k. c.start_at.ensures.at.unwanted (c.loop-place.invariant.unwanted k)
 
 pub returns-clause-unwanted : goal.returns-clause-unwanted
 returns-clause-unwanted g c = c.loop-place.invariant.unwanted
+
+pub returns-clause-started : goal.returns-clause-started
+returns-clause-started g c = λ is.
+    let all : list_all (λ (x : Child). not (is_missing x)) (standing c.loop-place.self).children ≡ true = cc in
+    all_are_started (standing c.loop-place.self).children _ all
