@@ -101,12 +101,18 @@ static void supervisors(void) {
     NEXT(c.tag); NEXT(c.restart); NEXT(c.shutdown); NEXT(c.time);
     SAMPLE(pt_child, d, pt_about_child);
     TRUE(d.has_pid); TRUE(d.wanted); pid(d.pid); NEXT(d.restart); NEXT(d.shutdown); NEXT(d.time);
+    SAMPLE(pt_child_counts, k, pt_about_child_counts);
+    NEXT(k.specs); NEXT(k.active); NEXT(k.restarting);
+    SAMPLE(pt_gave_up, g, pt_about_gave_up);
+    NEXT(g.tag); NEXT(g.place); reason(g.reason); NEXT(g.restarts); NEXT(g.span); TRUE(g.timed);
     pt_about_supervisors(&told);
     const uint64_t written[] = {told.one_for_one, told.one_for_all, told.rest_for_one, told.permanent, told.transient,
-        told.temporary, told.infinity, told.after, told.brutal_kill, told.supervisor_spec, told.child_spec, told.child};
+        told.temporary, told.infinity, told.after, told.brutal_kill, told.supervisor_spec, told.child_spec, told.child,
+        told.child_running, told.child_restarting, told.child_present, told.child_counts, told.gave_up};
     const uint64_t all[] = {PT_ONE_FOR_ONE, PT_ONE_FOR_ALL, PT_REST_FOR_ONE, PT_PERMANENT, PT_TRANSIENT, PT_TEMPORARY,
         PT_SHUTDOWN_INFINITY, PT_SHUTDOWN_AFTER, PT_BRUTAL_KILL, sizeof(pt_supervisor_spec), sizeof(pt_child_spec),
-        sizeof(pt_child)};
+        sizeof(pt_child), PT_CHILD_RUNNING, PT_CHILD_RESTARTING, PT_CHILD_PRESENT, sizeof(pt_child_counts),
+        sizeof(pt_gave_up)};
     for (size_t k = 0; k < sizeof all / sizeof *all; k++) is("a code or a size of supervisors", written[k], all[k]);
 }
 

@@ -1,16 +1,17 @@
 /* A bank whose handlers are in C, and whose supervisors are the library's. The bank starts a clerk and a branch; the branch
  * is a supervisor too, and starts a teller. A clerk that breaks down is started again. A teller may break down once: the
- * second time its branch gives up, and the bank starts both again. The bank goes on through a pause, and then it closes. */
+ * second time its branch gives up, and the bank starts both again. The bank goes on through a pause. Then it takes on a clerk
+ * for the evening, sends it home and takes its place away, and closes. */
 #include <assert.h>
 #include <stdio.h>
 
 #include "pundewo.h"
 #include "pundewo_text.h"
 
-enum { BANK, CLERK, BRANCH, TELLER };
+enum { BANK, CLERK, BRANCH, TELLER, EVENING };
 enum { ASK = 1, BREAK = 2 };
 
-static const char *const names[] = {"bank", "clerk", "branch", "teller"};
+static const char *const names[] = {"bank", "clerk", "branch", "teller", "evening clerk"};
 static const pt_next wait = {.code = PT_NEXT_WAIT, .pick = {.code = PT_PICK_ANY}};
 
 /* The two children of the bank, and the one of the branch. */
@@ -94,6 +95,29 @@ static void pause(world *w) {
     assert(pt_crew_go_on(&w->crew, &history) == PT_OK && pt_history_give_up(&history) == PT_OK);
 }
 
+/* One more child, as long as it is wanted: it ends by itself, starts again when it is asked for, is ended, and forgotten. */
+static void evening(world *w) {
+    pt_child_spec clerk = {.tag = EVENING, .restart = PT_TRANSIENT};
+    pt_child_counts counts;
+    pt_gave_up cause;
+    size_t place;
+    assert(pt_crew_start_child(&w->crew, w->bank, clerk, &place) == PT_OK && place == 2);
+    assert(pt_crew_count_children(&w->crew, w->bank, &counts) == PT_OK);
+    assert(counts.specs == 3 && counts.active == 2 && counts.restarting == 1);
+    run(w, 5);
+    assert(pt_crew_start_child(&w->crew, w->bank, clerk, &place) == PT_CHILD_RUNNING);
+    assert(pt_exit(&w->desk, child(w, w->bank, 2), (pt_reason){PT_NORMAL, 0}) == PT_OK);
+    run(w, 6);
+    assert(pt_crew_restart_child(&w->crew, w->bank, EVENING) == PT_OK);
+    run(w, 7);
+    assert(pt_crew_delete_child(&w->crew, w->bank, EVENING, &place) == PT_CHILD_RUNNING);
+    assert(pt_crew_terminate_child(&w->crew, w->bank, EVENING) == PT_OK);
+    run(w, 8);
+    assert(pt_crew_delete_child(&w->crew, w->bank, EVENING, &place) == PT_OK && place == 2);
+    assert(pt_crew_count_children(&w->crew, w->bank, &counts) == PT_OK && counts.specs == 2 && counts.active == 2);
+    assert(pt_crew_gave_up(&w->crew, w->bank, &cause) == PT_NOTHING);
+}
+
 int main(void) {
     world w = {PT_NO_DESK, PT_NO_CREW, {0}, {0}};
     pt_supervisor_spec bank = {.strategy = PT_ONE_FOR_ONE, .has_parent = true, .most = 3, .span = 100, .timed = true};
@@ -114,8 +138,9 @@ int main(void) {
     tell(&w, child(&w, child(&w, w.bank, 1), 0), BREAK);
     run(&w, 4);
     assert(pt_crew_children(&w.crew, w.bank, &count) == PT_OK && count == 2);
+    evening(&w);
     assert(pt_exit_signal(&w.desk, w.owner, w.bank, (pt_reason){PT_SHUTDOWN, 0}) == PT_OK);
-    run(&w, 5);
+    run(&w, 9);
     assert(pt_crew_len(&w.crew, &count) == PT_OK && count == 0);
     assert(pt_crew_give_up(&w.crew) == PT_OK && pt_give_up(&w.desk) == PT_OK);
     return 0;

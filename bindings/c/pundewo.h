@@ -117,29 +117,32 @@ typedef struct pt_way_in { void *at; } pt_way_in;
 /* [abi: values] */
 /* What a call returns. */
 enum pt_code {
-    PT_OK = 0,               /* the call succeeded */
-    PT_FULL = 1,             /* no slot is free, or no place of a door */
-    PT_MEMORY = 2,           /* malloc or realloc failed; the call may be made again */
-    PT_WORN = 3,             /* the clock is at its limit, 2^62 */
-    PT_GONE = 4,             /* the acting process is not alive on this desk, or the way in of a door was given up */
-    PT_MYSELF = 5,           /* a process cannot monitor itself */
-    PT_NOPROC = 6,           /* the other process has exited */
-    PT_UNKNOWN = 7,          /* the desk cannot have had the other process */
-    PT_NOTHING = 8,          /* there is nothing of what was asked for */
-    PT_EMPTY = 9,            /* a handle is empty */
-    PT_FILLED = 10,          /* a handle that must be empty is not */
-    PT_BAD_DESKS = 11,       /* the first setting that is out of its range: 1 to 64 desks */
-    PT_BAD_SLOTS = 12,       /* 1 to 65,536 slots */
-    PT_BAD_TOP_VERSION = 13, /* a greatest version of at least 1 */
-    PT_BAD_LANE = 14,        /* 1 to 65,536 letters */
-    PT_BAD_START = 15,       /* a start of at most 2^62 */
-    PT_BAD_CODE = 16,        /* a code in a struct that was passed in means nothing */
-    PT_NOT_RUNNING = 17,     /* an answer for a process that is not running */
-    PT_WRONG_DESK = 18,      /* the crew belongs to a desk of another number */
-    PT_BAD_NAME = 19,        /* the bytes are not a name */
-    PT_TAKEN = 20,           /* another process has the name */
-    PT_HAS_NAME = 21,        /* the process has a name already */
-    PT_BAD_PLACES = 22       /* a way in needs at least one place */
+    PT_OK = 0,                /* the call succeeded */
+    PT_FULL = 1,              /* no slot is free, or no place of a door */
+    PT_MEMORY = 2,            /* malloc or realloc failed; the call may be made again */
+    PT_WORN = 3,              /* the clock is at its limit, 2^62 */
+    PT_GONE = 4,              /* the acting process is not alive on this desk, or the way in of a door was given up */
+    PT_MYSELF = 5,            /* a process cannot monitor itself */
+    PT_NOPROC = 6,            /* the other process has exited */
+    PT_UNKNOWN = 7,           /* the desk cannot have had the other process */
+    PT_NOTHING = 8,           /* there is nothing of what was asked for */
+    PT_EMPTY = 9,             /* a handle is empty */
+    PT_FILLED = 10,           /* a handle that must be empty is not */
+    PT_BAD_DESKS = 11,        /* the first setting that is out of its range: 1 to 64 desks */
+    PT_BAD_SLOTS = 12,        /* 1 to 65,536 slots */
+    PT_BAD_TOP_VERSION = 13,  /* a greatest version of at least 1 */
+    PT_BAD_LANE = 14,         /* 1 to 65,536 letters */
+    PT_BAD_START = 15,        /* a start of at most 2^62 */
+    PT_BAD_CODE = 16,         /* a code in a struct that was passed in means nothing */
+    PT_NOT_RUNNING = 17,      /* an answer for a process that is not running */
+    PT_WRONG_DESK = 18,       /* the crew belongs to a desk of another number */
+    PT_BAD_NAME = 19,         /* the bytes are not a name */
+    PT_TAKEN = 20,            /* another process has the name */
+    PT_HAS_NAME = 21,         /* the process has a name already */
+    PT_BAD_PLACES = 22,       /* a way in needs at least one place */
+    PT_CHILD_RUNNING = 23,    /* the child is running, by all that its supervisor has heard */
+    PT_CHILD_RESTARTING = 24, /* the child is not running, and its supervisor is to start it */
+    PT_CHILD_PRESENT = 25     /* the supervisor has a child with this tag, which is not running */
 };
 
 /* The name of a process. No two processes have the same. */
@@ -384,6 +387,23 @@ typedef struct pt_child {
     uint32_t shutdown;
     uint64_t time;
 } pt_child;
+
+/* How many children a supervisor has. */
+typedef struct pt_child_counts {
+    size_t specs;      /* all, alive or not */
+    size_t active;     /* those that are alive, by all that the supervisor has heard */
+    size_t restarting; /* those that it is to start */
+} pt_child_counts;
+
+/* Why a supervisor gave up: a child exited that was to be started again, and its limit allowed no further restart. */
+typedef struct pt_gave_up {
+    uint64_t tag;     /* the tag of that child */
+    size_t place;     /* the place of that child */
+    pt_reason reason; /* the reason of its exit */
+    size_t restarts;  /* how many restarts the supervisor had made within the span */
+    uint64_t span;    /* the span of the limit */
+    bool timed;       /* whether the span is one of time, and not of stamps */
+} pt_gave_up;
 
 /* The name of a timer. No two timers of one pt_timers have the same. */
 typedef struct pt_timer {
@@ -716,6 +736,34 @@ uint32_t pt_crew_refused(pt_crew *crew, bool *out);
 uint32_t pt_crew_children(pt_crew *crew, pt_pid p, size_t *out);
 uint32_t pt_crew_child(pt_crew *crew, pt_pid p, size_t place, pt_child *out);
 
+/* Asks a supervisor for one more child, after the others: Erlang's start_child. `place` gets its place. Its tag is also
+ * what the calls below name it by. The supervisor is in the queue then, and the next step starts the child. If it ends
+ * another child just now, it starts this one once that has exited. PT_BAD_CODE: a code of the child means nothing.
+ * PT_NOTHING: p is not a supervisor of the crew. PT_CHILD_RUNNING, PT_CHILD_PRESENT: it has a child with this tag, which
+ * is running, or is not. PT_MEMORY. */
+uint32_t pt_crew_start_child(pt_crew *crew, pt_pid p, pt_child_spec child, size_t *place);
+
+/* Asks a supervisor to end the child with this tag, as its pt_child_spec says: Erlang's terminate_child. The child keeps
+ * its place. It is not started again, unless pt_crew_restart_child asks for it or a strategy names it. The next step
+ * tells it to exit. PT_NOTHING: p is not a supervisor of the crew, or has no such child. */
+uint32_t pt_crew_terminate_child(pt_crew *crew, pt_pid p, uint64_t tag);
+
+/* Asks a supervisor to start the child with this tag, which it ended or which is done: Erlang's restart_child. The next
+ * step starts it. PT_NOTHING: p is not a supervisor of the crew, or has no such child. PT_CHILD_RUNNING: it is running.
+ * PT_CHILD_RESTARTING: the supervisor is to start it already. */
+uint32_t pt_crew_restart_child(pt_crew *crew, pt_pid p, uint64_t tag);
+
+/* Has a supervisor forget the child with this tag, which it ended or which is done: Erlang's delete_child. `place` gets
+ * the place that it had. The children after it move up by one. Codes as of pt_crew_restart_child. */
+uint32_t pt_crew_delete_child(pt_crew *crew, pt_pid p, uint64_t tag, size_t *place);
+
+/* How many children a supervisor has: Erlang's count_children. PT_NOTHING: p is not a supervisor of the crew. */
+uint32_t pt_crew_count_children(pt_crew *crew, pt_pid p, pt_child_counts *out);
+
+/* Why a supervisor gave up. It then ends its children and exits with PT_SHUTDOWN. Once a job reports its exit, it is not
+ * in the crew. PT_NOTHING: it has not given up, or p is not a supervisor of the crew. */
+uint32_t pt_crew_gave_up(pt_crew *crew, pt_pid p, pt_gave_up *out);
+
 /* ---- timers: numbers of your own, each due at a time, as Erlang's send_after and cancel_timer keep them. Each call
  * may return PT_EMPTY
  *
@@ -888,6 +936,11 @@ typedef struct pt_supervisor_codes {
     size_t supervisor_spec;
     size_t child_spec;
     size_t child;
+    uint32_t child_running;
+    uint32_t child_restarting;
+    uint32_t child_present;
+    size_t child_counts;
+    size_t gave_up;
 } pt_supervisor_codes;
 /* [abi: end] */
 
@@ -913,6 +966,8 @@ void pt_about_supervisors(pt_supervisor_codes *out);
 void pt_about_supervisor_spec(pt_supervisor_spec *out);
 void pt_about_child_spec(pt_child_spec *out);
 void pt_about_child(pt_child *out);
+void pt_about_child_counts(pt_child_counts *out);
+void pt_about_gave_up(pt_gave_up *out);
 
 /* [abi: sizes] */
 /* Each struct has the size that it has in the library, or this header does not compile. */
@@ -945,6 +1000,8 @@ PT_SIZE_IS(pt_answer, 80);
 PT_SIZE_IS(pt_supervisor_spec, 40);
 PT_SIZE_IS(pt_child_spec, 24);
 PT_SIZE_IS(pt_child, 32);
+PT_SIZE_IS(pt_child_counts, 24);
+PT_SIZE_IS(pt_gave_up, 48);
 PT_SIZE_IS(pt_timer, 16);
 PT_SIZE_IS(pt_fired, 24);
 PT_SIZE_IS(pt_name, 32);
@@ -956,7 +1013,7 @@ PT_SIZE_IS(pt_post, 48);
 PT_SIZE_IS(pt_codes, 264);
 PT_SIZE_IS(pt_sizes, 176);
 PT_SIZE_IS(pt_asking_about, 120);
-PT_SIZE_IS(pt_supervisor_codes, 64);
+PT_SIZE_IS(pt_supervisor_codes, 96);
 #undef PT_SIZE_IS
 /* [abi: end] */
 

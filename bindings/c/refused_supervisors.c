@@ -89,13 +89,72 @@ static int bad_codes(void) {
     return tried;
 }
 
+/* The codes of the calls about the child with this tag of a process. */
+static void ask(pt_crew *crew, pt_pid p, uint64_t tag, size_t *place, uint32_t codes[4]) {
+    codes[0] = pt_crew_start_child(crew, p, (pt_child_spec){.tag = tag}, place);
+    codes[1] = pt_crew_terminate_child(crew, p, tag);
+    codes[2] = pt_crew_restart_child(crew, p, tag);
+    codes[3] = pt_crew_delete_child(crew, p, tag, place);
+}
+
+/* A call about a child of a process that is no supervisor, of one that the supervisor does not have, or that it has in
+ * another state, or with a code that means nothing: nothing is written, and nothing has changed. */
+static int children(void) {
+    pt_desk desk = PT_NO_DESK;
+    pt_crew crew = PT_NO_CREW;
+    pt_pid p, boss, strangers[2] = {{0}, {0, 6, 1}};
+    pt_job jobs[4];
+    pt_turned turned;
+    uint32_t codes[4];
+    size_t place = 99, count;
+    int tried = 0;
+    begin(&crew, &desk, &p, &boss);
+    strangers[0] = p;
+    /* the children are to start, and then they run */
+    for (int runs = 0; runs < 2; runs++) {
+        const state before = state_of(&crew, &desk, p, boss);
+        pt_child_counts counts, unwritten;
+        pt_gave_up cause, unsaid;
+        memset(&counts, 0xA5, sizeof counts), memset(&cause, 0xA5, sizeof cause);
+        memcpy(&unwritten, &counts, sizeof counts), memcpy(&unsaid, &cause, sizeof cause);
+        for (int n = 0; n < 2; n++, tried += 6) {
+            ask(&crew, strangers[n], 8, &place, codes);
+            for (int k = 0; k < 4; k++) assert(codes[k] == PT_NOTHING);
+            assert(pt_crew_count_children(&crew, strangers[n], &counts) == PT_NOTHING);
+            assert(pt_crew_gave_up(&crew, strangers[n], &cause) == PT_NOTHING);
+        }
+        assert(pt_crew_gave_up(&crew, boss, &cause) == PT_NOTHING && !memcmp(&cause, &unsaid, sizeof cause));
+        assert(!memcmp(&counts, &unwritten, sizeof counts));
+        assert(pt_crew_terminate_child(&crew, boss, 7) == PT_NOTHING && pt_crew_restart_child(&crew, boss, 7) == PT_NOTHING);
+        assert(pt_crew_delete_child(&crew, boss, 7, &place) == PT_NOTHING), tried += 4;
+        const uint32_t present = runs ? PT_CHILD_RUNNING : PT_CHILD_PRESENT, is = runs ? PT_CHILD_RUNNING : PT_CHILD_RESTARTING;
+        assert(pt_crew_start_child(&crew, boss, kids[1], &place) == present && pt_crew_restart_child(&crew, boss, 9) == is);
+        assert(pt_crew_delete_child(&crew, boss, 9, &place) == is), tried += 3;
+        for (size_t k = 0; k < sizeof bad / sizeof *bad; k++, tried += 2) {
+            const pt_child_spec others[2] = {{.tag = 1, .restart = bad[k]}, {.tag = 1, .shutdown = bad[k]}};
+            assert(pt_crew_start_child(&crew, boss, others[0], &place) == PT_BAD_CODE);
+            assert(pt_crew_start_child(&crew, p, others[1], &place) == PT_BAD_CODE);
+        }
+        assert(place == 99 && is_same(before, state_of(&crew, &desk, p, boss)));
+        for (int k = 0; k < 2; k++)
+            assert(pt_crew_step(&crew, &desk, 9, jobs, 4, &count, &turned) == PT_OK && count == (k && !runs ? 2 : 0));
+    }
+    /* the same calls are done once all is right */
+    assert(pt_crew_start_child(&crew, boss, (pt_child_spec){.tag = 7}, &place) == PT_OK && place == 2);
+    assert(pt_crew_terminate_child(&crew, boss, 7) == PT_OK && pt_crew_restart_child(&crew, boss, 7) == PT_OK);
+    assert(pt_crew_restart_child(&crew, boss, 7) == PT_CHILD_RESTARTING && pt_crew_terminate_child(&crew, boss, 7) == PT_OK);
+    assert(pt_crew_delete_child(&crew, boss, 7, &place) == PT_OK && place == 2);
+    assert(pt_crew_give_up(&crew) == PT_OK && pt_give_up(&desk) == PT_OK);
+    return tried;
+}
+
 /* Each call that has no crew, or no desk: it says so, and writes nothing. */
 static int empty(void) {
     pt_desk desk = PT_NO_DESK, none = PT_NO_DESK;
     pt_crew crew = PT_NO_CREW, nobody = PT_NO_CREW;
     pt_history history = PT_NO_HISTORY;
     pt_pid p, boss;
-    struct { pt_pid pid; size_t count; pt_child child; } out, was;
+    struct { pt_pid pid; size_t count; pt_child child; pt_child_counts counts; pt_gave_up cause; } out, was;
     begin(&crew, &desk, &p, &boss);
     const state before = state_of(&crew, &desk, p, boss);
     memset(&out, 0xA5, sizeof out);
@@ -105,6 +164,10 @@ static int empty(void) {
         pt_crew_spawn_supervisor(&crew, &none, 5, spec, kids, 2, &out.pid), pt_crew_supervise(&nobody, p, spec, kids, 2),
         pt_crew_children(&nobody, boss, &out.count), pt_crew_child(&nobody, boss, 0, &out.child),
         pt_crew_go_on(&nobody, &history), pt_crew_go_on(&crew, &history),
+        pt_crew_start_child(&nobody, boss, kids[0], &out.count), pt_crew_terminate_child(&nobody, boss, 8),
+        pt_crew_start_child(&nobody, boss, (pt_child_spec){.restart = bad[0]}, &out.count),
+        pt_crew_restart_child(&nobody, boss, 8), pt_crew_delete_child(&nobody, boss, 8, &out.count),
+        pt_crew_count_children(&nobody, boss, &out.counts), pt_crew_gave_up(&nobody, boss, &out.cause),
     };
     const int tried = sizeof codes / sizeof *codes;
     for (int k = 0; k < tried; k++) assert(codes[k] == PT_EMPTY);
@@ -199,9 +262,11 @@ static void play(pt_crew *crew, pt_desk *desk) {
     pt_gathered gathered = PT_NO_GATHERED;
     pt_settled settled = PT_NO_SETTLED;
     pt_history history = PT_NO_HISTORY;
+    const pt_child_spec more = {.tag = 10};
     AGAIN(pt_crew_open(crew));
     AGAIN(pt_crew_spawn_supervisor(crew, desk, 5, spec, kids, 2, &boss));
     AGAIN(pt_crew_spawn(crew, desk, 7, first, &runs));
+    AGAIN(pt_crew_start_child(crew, boss, more, &taken));
     while (!is_idle || again == 0) {
         assert(pt_crew_step(crew, desk, 64, jobs, 4, &count, &turned) == PT_OK);
         for (size_t k = 0; k < count; k++) {
@@ -224,16 +289,16 @@ static void play(pt_crew *crew, pt_desk *desk) {
             broke = true;
         }
     }
-    assert(starts == 4 && again == 1 && pt_crew_len(crew, &count) == PT_OK && count == 5);
+    assert(starts == 5 && again == 1 && pt_crew_len(crew, &count) == PT_OK && count == 6);
 }
 
 int main(void) {
     static char buffer[BUFSIZ];
     long pieces = 0;
     setvbuf(stdout, buffer, _IOFBF, sizeof buffer);
-    int codes = bad_codes(), without = empty(), wrong = wrong_desk(), nodes = going_on();
+    int codes = bad_codes(), without = empty(), wrong = wrong_desk(), nodes = going_on(), asked = children();
     printf("c: %d bad codes of supervisors, %d calls without a handle, %d over the desk of another, %d nodes that do not go "
-        "on, each refused\n", codes, without, wrong, nodes);
+        "on, %d calls about children, each refused\n", codes, without, wrong, nodes, asked);
     for (was_refused = true; was_refused; pieces++) {
         pt_desk desk = PT_NO_DESK;
         pt_crew crew = PT_NO_CREW;

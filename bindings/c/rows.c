@@ -634,6 +634,49 @@ static void call_crew_children(FILE *to, node *n, char **w) {
     if (count != 0) fputs(" wrong", to);
 }
 
+static void print_place(FILE *to, uint32_t code, size_t place) {
+    if (code == PT_OK) fprintf(to, "place %zu", place);
+    else print_code(to, code);
+}
+
+static void call_crew_start_child(FILE *to, node *n, char **w) {
+    pt_child_spec children[MOST_JOBS];
+    size_t place = 0, count = children_of(w + 3, children);
+    uint32_t code = pt_crew_start_child(crew_of(n, w), pid_of(w[2]), children[0], &place);
+    print_place(to, count == 1 ? code : PT_BAD_CODE, place);
+}
+
+static void call_crew_terminate_child(FILE *to, node *n, char **w) {
+    print_code(to, pt_crew_terminate_child(crew_of(n, w), pid_of(w[2]), number_of(w[3])));
+}
+
+static void call_crew_restart_child(FILE *to, node *n, char **w) {
+    print_code(to, pt_crew_restart_child(crew_of(n, w), pid_of(w[2]), number_of(w[3])));
+}
+
+static void call_crew_delete_child(FILE *to, node *n, char **w) {
+    size_t place = 0;
+    uint32_t code = pt_crew_delete_child(crew_of(n, w), pid_of(w[2]), number_of(w[3]), &place);
+    print_place(to, code, place);
+}
+
+static void call_crew_count_children(FILE *to, node *n, char **w) {
+    pt_child_counts counts;
+    if (pt_crew_count_children(crew_of(n, w), pid_of(w[2]), &counts) != PT_OK) fputs("none", to);
+    else fprintf(to, "%zu %zu %zu", counts.specs, counts.active, counts.restarting);
+}
+
+static void call_crew_gave_up(FILE *to, node *n, char **w) {
+    pt_gave_up cause;
+    if (pt_crew_gave_up(crew_of(n, w), pid_of(w[2]), &cause) != PT_OK) {
+        fputs("none", to);
+        return;
+    }
+    fprintf(to, "%" PRIu64 " %zu ", cause.tag, cause.place);
+    pt_print_reason(to, cause.reason);
+    fprintf(to, " %zu %" PRIu64 "%s", cause.restarts, cause.span, cause.timed ? " of time" : "");
+}
+
 static void call_crew_step(FILE *to, node *n, char **w) {
     pt_job jobs[MOST_JOBS];
     pt_turned turned;
@@ -761,7 +804,10 @@ static const struct { const char *name; call *make; } calls[] = {
     {"ended", call_ended}, {"resume", call_resume}, {"keep_losses", call_keep_losses}, {"crews_open", call_crews_open},
     {"crew_spawn", call_crew_spawn}, {"crew_spawn_child", call_crew_spawn_child}, {"crew_step", call_crew_step},
     {"crew_supervisor", call_crew_supervisor}, {"crew_supervise", call_crew_supervise},
-    {"crew_children", call_crew_children},
+    {"crew_children", call_crew_children}, {"crew_start_child", call_crew_start_child},
+    {"crew_terminate_child", call_crew_terminate_child}, {"crew_restart_child", call_crew_restart_child},
+    {"crew_delete_child", call_crew_delete_child}, {"crew_count_children", call_crew_count_children},
+    {"crew_gave_up", call_crew_gave_up},
     {"crew_answer", call_crew_answer}, {"crew_losses", call_crew_losses}, {"crew_next", call_crew_next},
     {"crew_tag", call_crew_tag}, {"crew_next_time", call_crew_next_time}, {"crew_set_time", call_crew_set_time},
     {"crew_len", call_crew_len}, {"crew_queued", call_crew_queued}, {"crew_idle", call_crew_idle},

@@ -1,15 +1,15 @@
 """A bank whose handlers are in Python, and whose supervisors are the library's. The bank starts a clerk and a branch; the
 branch is a supervisor too, and starts a teller. A clerk that breaks down is started again. A teller may break down once: the
-second time its branch gives up, and the bank starts both again. The bank goes on through a pause, and then it closes. It
-prints what bindings/c/crew_supervisors.c prints."""
+second time its branch gives up, and the bank starts both again. The bank goes on through a pause. Then it takes on a clerk
+for the evening, sends it home and takes its place away, and closes. It prints what bindings/c/crew_supervisors.c prints."""
 
 from __future__ import annotations
 
-from pundewo import ANY, SHUTDOWN, Body, Crew, Job, Next, Pid, Reason, gather, open_node
+from pundewo import ANY, NORMAL, SHUTDOWN, Body, Crew, Job, Next, Pid, Reason, gather, open_node
 from pundewo.supervisors import Child, ChildSpec, SupervisorSpec
 
-NAMES = ("bank", "clerk", "branch", "teller")
-BANK, CLERK, BRANCH, TELLER = range(4)
+NAMES = ("bank", "clerk", "branch", "teller", "evening clerk")
+BANK, CLERK, BRANCH, TELLER, EVENING = range(5)
 ASK, BREAK = 1, 2
 TOLD = {"start": "starts", "proceed": "proceeds", "item": "gets ", "timeout": "has waited long enough", "exit": "has exited: "}
 
@@ -66,6 +66,19 @@ class World:
     def tell(self, to: Pid, kind: int) -> None:
         self.desk.send(self.owner, to, Body(kind, 1))
 
+    def evening(self, bank: Pid) -> None:
+        """One more child, as long as it is wanted: it ends by itself, starts again when it is asked for, is ended, and
+        forgotten."""
+        place = self.crew.start_child(bank, ChildSpec(EVENING, "transient"))
+        self.run(5)
+        self.desk.exit(self.child(bank, place), NORMAL)
+        self.run(6)
+        self.crew.restart_child(bank, EVENING)
+        self.run(7)
+        self.crew.terminate_child(bank, EVENING)
+        self.run(8)
+        assert self.crew.delete_child(bank, EVENING) == place
+
     def pause(self) -> None:
         """The node is gathered, settled and resumed, and the crew goes on with its history."""
         settled = gather([self.desk]).settle_unlisted()
@@ -89,8 +102,9 @@ def main() -> None:
     w.tell(w.child(w.child(bank, 1), 0), BREAK)
     w.run(4)
     assert all(child.wanted for child in w.children(bank))
+    w.evening(bank)
     w.desk.exit_signal(w.owner, bank, SHUTDOWN)
-    w.run(5)
+    w.run(9)
     assert len(w.crew) == 0
 
 

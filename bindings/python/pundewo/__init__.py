@@ -21,14 +21,16 @@ from threading import Lock
 from typing import Any, Callable, Iterator, Optional, Sequence, TypeVar, Union
 
 from ._abi import (
-    CAccount, CAnswer, CBody, CChild, CConfig, CEvent, CHandle, CIds, CItem, CJob, CLeftOver, CLoss, CNext, CPid, CRef,
-    CTurned,
+    CAccount, CAnswer, CBody, CChild, CChildCounts, CConfig, CEvent, CGaveUp, CHandle, CIds, CItem, CJob, CLeftOver, CLoss,
+    CNext, CPid, CRef, CTurned,
 )
 from ._library import (
     BUILD, c_body, c_next, c_pick, c_pid, c_reason, c_ref, event_of, ids_of, item_of, job_of, left_over_of, lib, next_of,
     other, own, pid_of, reason_of, ref_of, texts_of,
 )
-from .supervisors import Child, ChildSpec, SupervisorSpec, c_children, c_spec, child_of
+from .supervisors import (
+    Child, ChildCounts, ChildSpec, GaveUp, SupervisorSpec, c_child, c_children, c_spec, cause_of, child_of, counts_of,
+)
 from .values import (
     ANY, EVENTS, ITEMS, JOBS, KILL, KILLED, NEXTS, NOPROC, NORMAL, PICKS, PROCEED, REASONS, RUNNING, SHUTDOWN, SIGNALS, U8,
     U16, U32, U64, Account, Body, Code, Config, Event, Ids, Item, Job, LeftOver, LinkId, Loss, Next, Pick, Pid, Reason, Ref,
@@ -640,6 +642,45 @@ class Crew(_Held):
         """The child in a place of a supervisor, or None if p is no supervisor of the crew, or has fewer children."""
         out = self._find(lib.pt_crew_child, CChild(), c_pid("p", p), number("place", place, 0, U64))
         return None if out is None else child_of(out)
+
+    def start_child(self, p: Pid, child: ChildSpec) -> int:
+        """Asks a supervisor for one more child, behind the others, and returns its place: Erlang's start_child. Its tag is
+        also what the calls below know it by. The supervisor is in the queue then, and the next step starts the child. If it
+        ends another child just now, it starts this one once that has exited.
+
+        Fault: NOTHING if p is no supervisor of the crew; CHILD_RUNNING or CHILD_PRESENT if it has a child with this tag,
+        which is running or not; MEMORY.
+        """
+        return self._give(lib.pt_crew_start_child, c.c_size_t(), c_pid("p", p), c_child("child", child)).value
+
+    def terminate_child(self, p: Pid, tag: int) -> None:
+        """Asks a supervisor to end the child with this tag, as its `shutdown` says: Erlang's terminate_child. The next step
+        tells it to exit. The child keeps its place, and is not started again unless `restart_child` asks for it, or a
+        strategy names it. Fault: NOTHING if p is no supervisor of the crew, or has no such child."""
+        self._must(lib.pt_crew_terminate_child, c_pid("p", p), number("tag", tag, 0, U64))
+
+    def restart_child(self, p: Pid, tag: int) -> None:
+        """Asks a supervisor to start the child with this tag, which it ended or which is done: Erlang's restart_child. The
+        next step starts it. Fault: NOTHING if p is no supervisor of the crew, or has no such child; CHILD_RUNNING;
+        CHILD_RESTARTING if it is to be started already."""
+        self._must(lib.pt_crew_restart_child, c_pid("p", p), number("tag", tag, 0, U64))
+
+    def delete_child(self, p: Pid, tag: int) -> int:
+        """Has a supervisor forget the child with this tag, which it ended or which is done, and returns the place that it
+        had: Erlang's delete_child. Those behind it move up. Fault: NOTHING if p is no supervisor of the crew, or has no such
+        child; CHILD_RUNNING; CHILD_RESTARTING."""
+        return self._give(lib.pt_crew_delete_child, c.c_size_t(), c_pid("p", p), number("tag", tag, 0, U64)).value
+
+    def count_children(self, p: Pid) -> Optional[ChildCounts]:
+        """How many children a supervisor has, or None if p is no supervisor of the crew."""
+        out = self._find(lib.pt_crew_count_children, CChildCounts(), c_pid("p", p))
+        return None if out is None else counts_of(out)
+
+    def gave_up(self, p: Pid) -> Optional[GaveUp]:
+        """Why a supervisor gave up, or None if it has not, or if p is no supervisor of the crew. It then ends its children and
+        exits with SHUTDOWN. Once its exit is told it is none of the crew."""
+        out = self._find(lib.pt_crew_gave_up, CGaveUp(), c_pid("p", p))
+        return None if out is None else cause_of(out)
 
     def __len__(self) -> int:
         return self._give(lib.pt_crew_len, c.c_size_t()).value

@@ -36,6 +36,9 @@ class Code(IntEnum):
     TAKEN = 20
     HAS_NAME = 21
     BAD_PLACES = 22
+    CHILD_RUNNING = 23
+    CHILD_RESTARTING = 24
+    CHILD_PRESENT = 25
 
 
 # The codes of structs, each in its place.
@@ -68,7 +71,7 @@ CODES = {
 }
 SUPERVISOR_CODES = {
     "one_for_one": 0, "one_for_all": 1, "rest_for_one": 2, "permanent": 0, "transient": 1, "temporary": 2,
-    "infinity": 0, "after": 1, "brutal_kill": 2,
+    "infinity": 0, "after": 1, "brutal_kill": 2, "child_running": 23, "child_restarting": 24, "child_present": 25,
 }
 CONFIG_DEFAULT = (1024, 4294967295, 64, 0)
 
@@ -166,6 +169,15 @@ class CChild(c.Structure):
                 ("shutdown", c.c_uint32), ("time", c.c_uint64)]
 
 
+class CChildCounts(c.Structure):
+    _fields_ = [("specs", c.c_size_t), ("active", c.c_size_t), ("restarting", c.c_size_t)]
+
+
+class CGaveUp(c.Structure):
+    _fields_ = [("tag", c.c_uint64), ("place", c.c_size_t), ("reason", CReason), ("restarts", c.c_size_t),
+                ("span", c.c_uint64), ("timed", c.c_bool)]
+
+
 class CTimer(c.Structure):
     _fields_ = [("at", c.c_uint64), ("number", c.c_uint64)]
 
@@ -241,7 +253,9 @@ class CSupervisorCodes(c.Structure):
     _fields_ = [("one_for_one", c.c_uint32), ("one_for_all", c.c_uint32), ("rest_for_one", c.c_uint32),
                 ("permanent", c.c_uint32), ("transient", c.c_uint32), ("temporary", c.c_uint32),
                 ("infinity", c.c_uint32), ("after", c.c_uint32), ("brutal_kill", c.c_uint32),
-                ("supervisor_spec", c.c_size_t), ("child_spec", c.c_size_t), ("child", c.c_size_t)]
+                ("supervisor_spec", c.c_size_t), ("child_spec", c.c_size_t), ("child", c.c_size_t),
+                ("child_running", c.c_uint32), ("child_restarting", c.c_uint32), ("child_present", c.c_uint32),
+                ("child_counts", c.c_size_t), ("gave_up", c.c_size_t)]
 
 
 _P = c.POINTER
@@ -317,6 +331,12 @@ CALLS: dict[str, list[Any]] = {
     "pt_crew_refused": [_P(CHandle), _P(c.c_bool)],
     "pt_crew_children": [_P(CHandle), CPid, _P(c.c_size_t)],
     "pt_crew_child": [_P(CHandle), CPid, c.c_size_t, _P(CChild)],
+    "pt_crew_start_child": [_P(CHandle), CPid, CChildSpec, _P(c.c_size_t)],
+    "pt_crew_terminate_child": [_P(CHandle), CPid, c.c_uint64],
+    "pt_crew_restart_child": [_P(CHandle), CPid, c.c_uint64],
+    "pt_crew_delete_child": [_P(CHandle), CPid, c.c_uint64, _P(c.c_size_t)],
+    "pt_crew_count_children": [_P(CHandle), CPid, _P(CChildCounts)],
+    "pt_crew_gave_up": [_P(CHandle), CPid, _P(CGaveUp)],
     "pt_timers_open": [_P(CHandle)],
     "pt_timers_start": [_P(CHandle), c.c_uint64, c.c_uint64, _P(CTimer)],
     "pt_timers_cancel": [_P(CHandle), CTimer],
@@ -393,4 +413,6 @@ ABOUT: dict[str, list[Any]] = {
     "pt_about_supervisor_spec": [_P(CSupervisorSpec)],
     "pt_about_child_spec": [_P(CChildSpec)],
     "pt_about_child": [_P(CChild)],
+    "pt_about_child_counts": [_P(CChildCounts)],
+    "pt_about_gave_up": [_P(CGaveUp)],
 }

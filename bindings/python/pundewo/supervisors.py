@@ -15,11 +15,13 @@ from __future__ import annotations
 import ctypes as c
 from typing import NamedTuple, Optional, Sequence, Union
 
-from ._abi import RESTART_CODES, SHUTDOWN_CODES, STRATEGY_CODES, CChild, CChildSpec, CSupervisorSpec
-from ._library import c_pid, pid_of
-from .values import U64, Pid, flag, number, of_type, one_of, shown
+from ._abi import (
+    RESTART_CODES, SHUTDOWN_CODES, STRATEGY_CODES, CChild, CChildCounts, CChildSpec, CGaveUp, CSupervisorSpec,
+)
+from ._library import c_pid, pid_of, reason_of
+from .values import U64, Pid, Reason, flag, number, of_type, one_of, shown
 
-__all__ = ["RESTARTS", "STRATEGIES", "Child", "ChildSpec", "SupervisorSpec"]
+__all__ = ["RESTARTS", "STRATEGIES", "Child", "ChildCounts", "ChildSpec", "GaveUp", "SupervisorSpec"]
 
 # Which others a supervisor ends and starts again with a child that has exited: no other, all others, or those that were
 # listed after it.
@@ -62,7 +64,27 @@ class Child(NamedTuple):
     wanted: bool
 
 
-def _c_child(field: str, child: ChildSpec) -> CChildSpec:
+class ChildCounts(NamedTuple):
+    """How many children a supervisor has: all; those that are alive, by all that it has heard; those that it is to start."""
+
+    specs: int
+    active: int
+    restarting: int
+
+
+class GaveUp(NamedTuple):
+    """Why a supervisor gave up: the child with this tag, in this place, exited with this reason and was to be started again.
+    There had been `restarts` within `span`, which is one of time if `timed`, and else of stamps, and no more are allowed."""
+
+    tag: int
+    place: int
+    reason: Reason
+    restarts: int
+    span: int
+    timed: bool
+
+
+def c_child(field: str, child: ChildSpec) -> CChildSpec:
     tag, restart, shutdown = of_type(field, child, ChildSpec)
     crossing = CChildSpec(number(f"{field}.tag", tag, 0, U64), RESTARTS.index(one_of(f"{field}.restart", restart, RESTARTS)))
     if shutdown == "brutal_kill":
@@ -81,7 +103,7 @@ def c_children(children: Sequence[ChildSpec]) -> c.Array[CChildSpec]:
         given = list(children)
     except TypeError:
         raise TypeError(f"children is {shown(children)}, and must be a sequence of type ChildSpec") from None
-    crossing = [_c_child(f"children[{place}]", child) for place, child in enumerate(given)]
+    crossing = [c_child(f"children[{place}]", child) for place, child in enumerate(given)]
     return (CChildSpec * len(crossing))(*crossing)
 
 
@@ -100,3 +122,13 @@ def child_of(child: CChild) -> Child:
     """A child, as it came across."""
     shutdown: Shutdown = ("infinity", child.time, "brutal_kill")[child.shutdown]
     return Child(pid_of(child.pid) if child.has_pid else None, RESTARTS[child.restart], shutdown, child.wanted)
+
+
+def counts_of(counts: CChildCounts) -> ChildCounts:
+    """How many children a supervisor has, as it came across."""
+    return ChildCounts(counts.specs, counts.active, counts.restarting)
+
+
+def cause_of(cause: CGaveUp) -> GaveUp:
+    """Why a supervisor gave up, as it came across."""
+    return GaveUp(cause.tag, cause.place, reason_of(cause.reason), cause.restarts, cause.span, cause.timed)

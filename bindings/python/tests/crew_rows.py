@@ -59,6 +59,14 @@ def child_text(child: Child) -> str:
     return f"{child.pid or '-'} {child.restart} {child.shutdown}{unwanted}"
 
 
+def asked(call: Callable[[], Any]) -> str:
+    """What came of a call about a child."""
+    try:
+        return call() or "ok"
+    except p.Fault as fault:
+        return fault.code.name.lower().replace("_", " ")
+
+
 class OnCrew:
     """Makes the calls of a crew; it is given the readers of words, and what prints a turn."""
 
@@ -98,6 +106,29 @@ class OnCrew:
             return "none"
         assert [crew.child(pid, place) for place in range(len(children) + 1)] == [*children, None]
         return "; ".join(map(child_text, children))
+
+    def crew_start_child(self, crew: p.Crew, desk: p.Desk, w: Words) -> str:
+        (child,) = children_of(w[2:])
+        return asked(lambda: f"place {crew.start_child(self.pid(w[1]), child)}")
+
+    def crew_terminate_child(self, crew: p.Crew, desk: p.Desk, w: Words) -> str:
+        return asked(lambda: crew.terminate_child(self.pid(w[1]), int(w[2])))
+
+    def crew_restart_child(self, crew: p.Crew, desk: p.Desk, w: Words) -> str:
+        return asked(lambda: crew.restart_child(self.pid(w[1]), int(w[2])))
+
+    def crew_delete_child(self, crew: p.Crew, desk: p.Desk, w: Words) -> str:
+        return asked(lambda: f"place {crew.delete_child(self.pid(w[1]), int(w[2]))}")
+
+    def crew_count_children(self, crew: p.Crew, desk: p.Desk, w: Words) -> str:
+        counts = crew.count_children(self.pid(w[1]))
+        return "none" if counts is None else " ".join(map(str, counts))
+
+    def crew_gave_up(self, crew: p.Crew, desk: p.Desk, w: Words) -> str:
+        cause = crew.gave_up(self.pid(w[1]))
+        if cause is None:
+            return "none"
+        return " ".join(map(str, cause[:-1])) + (" of time" if cause.timed else "")
 
     def crew_step(self, crew: p.Crew, desk: p.Desk, w: Words) -> str:
         jobs, turned = crew.step(desk, int(w[1]), int(w[2]))

@@ -105,6 +105,20 @@ class Kids(Domain):
         yield from ([child._replace(shutdown=bad)] for bad in ("soon", "", "Infinity"))
 
 
+class Kid(Domain):
+    """What a supervisor knows of one child."""
+
+    def good(self, draw: random.Random) -> s.ChildSpec:
+        return draw.choice(KIDS.good(draw))
+
+    def bounds(self) -> list[Any]:
+        return [s.ChildSpec(0), s.ChildSpec(2**64 - 1)]
+
+    def bad(self, draw: random.Random) -> Iterator[Any]:
+        yield from (None, 0, 2**70, "ab", [s.ChildSpec(1)], (1, "permanent", "infinity"), s.ChildSpec, object())
+        yield from (children[-1] for children in KIDS.bad(draw) if isinstance(children, list) and len(children) == 1)
+
+
 class Histories(Domain):
     """A history."""
 
@@ -113,7 +127,7 @@ class Histories(Domain):
 
 
 DESK, ANSWERS, CREWS = OneDesk(), Answers(), Crews()
-SPEC, KIDS, HISTORY = Specs(), Kids(), Histories()
+SPEC, KIDS, KID, HISTORY = Specs(), Kids(), Kid(), Histories()
 
 # Each public call of each class, and of the module, with its parameters.
 CALLS: dict[str, dict[str, dict[str, Domain]]] = {
@@ -142,6 +156,9 @@ CALLS: dict[str, dict[str, dict[str, Domain]]] = {
         "spawn_child": {"desk": DESK, "parent": PID, "linked": FLAG, "tag": LONG, "first": NEXT},
         "spawn_supervisor": {"desk": DESK, "tag": LONG, "spec": SPEC, "children": KIDS},
         "supervise": {"p": PID, "spec": SPEC, "children": KIDS}, "children": {"p": PID}, "child": {"p": PID, "place": LONG},
+        "start_child": {"p": PID, "child": KID}, "terminate_child": {"p": PID, "tag": LONG},
+        "restart_child": {"p": PID, "tag": LONG}, "delete_child": {"p": PID, "tag": LONG}, "count_children": {"p": PID},
+        "gave_up": {"p": PID},
         "step": {"desk": DESK, "budget": WORD, "most": SHORT}, "answer": {"p": PID, "does": NEXT},
         "answer_all": {"answers": ANSWERS}, "set_time": {"now": LONG}, "begin_again": {"desk": DESK},
         "go_on": {"desk": DESK, "history": HISTORY},
@@ -155,7 +172,7 @@ CALLS: dict[str, dict[str, dict[str, Domain]]] = {
 ERRORS = {"Fault", "NotGoneOn", "Unsettled", "Busy", "Code"}
 TYPES = {int: Ints, bool: Flag, typing.Sequence[p.Desk]: Desks, p.Desk: OneDesk,
          typing.Sequence[tuple[p.Pid, p.Next]]: Answers, typing.Sequence[p.Crew]: Crews, s.SupervisorSpec: Specs,
-         typing.Sequence[s.ChildSpec]: Kids, p.History: Histories,
+         typing.Sequence[s.ChildSpec]: Kids, s.ChildSpec: Kid, p.History: Histories,
          typing.Union[typing.Sequence[p.Desk], p.Gathered, p.Settled]: Nodes}
 
 
@@ -196,6 +213,8 @@ def back(word: Any) -> Any:
         abi.CSupervisorSpec: lambda spec: s.SupervisorSpec(
             s.STRATEGIES[spec.strategy], spec.most, spec.span, spec.timed,
             library.pid_of(spec.parent) if spec.has_parent else None),
+        abi.CChildSpec: lambda child: s.ChildSpec(
+            child.tag, s.RESTARTS[child.restart], ("infinity", child.time, "brutal_kill")[child.shutdown]),
         abi.CConfig: lambda config: p.Config(*(getattr(config, field) for field, _ in config._fields_))}
     return kinds[type(word)](word) if type(word) in kinds else word
 
@@ -242,6 +261,7 @@ class Node:
         values = {PID: self.b, REF: self.monitor, BODY: p.Body(1, 1), REASON: p.Reason("other", 3), PICK: p.ANY,
                   FLAG: True, WORD: 8, LONG: 0, BYTE: 1, CONFIG: p.Config(slots=8), SHORT: 4, NEXT: p.PROCEED,
                   DESK: self.desks[0], ANSWERS: [], CREWS: self.crews, SPEC: s.SupervisorSpec(), KIDS: [s.ChildSpec(1)],
+                  KID: s.ChildSpec(1),
                   HISTORY: self.history}
         return {word: values.get(domain, self.desks) for word, domain in CALLS[where][name].items()}
 

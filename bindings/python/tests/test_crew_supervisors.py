@@ -4,13 +4,15 @@ from __future__ import annotations
 
 import ctypes as c
 import unittest
-from typing import Any
+from typing import Any, Callable
 
 import pundewo as p
 from pundewo import ANY, PROCEED, RUNNING, Crew, Job, Next, go_on
-from pundewo._abi import SUPERVISOR_CODES, CChild, CChildSpec, CPid, CSupervisorCodes, CSupervisorSpec
+from pundewo._abi import (
+    SUPERVISOR_CODES, CChild, CChildCounts, CChildSpec, CGaveUp, CPid, CSupervisorCodes, CSupervisorSpec,
+)
 from pundewo._library import lib
-from pundewo.supervisors import Child, ChildSpec, SupervisorSpec
+from pundewo.supervisors import Child, ChildCounts, ChildSpec, GaveUp, SupervisorSpec
 
 WAIT = Next("wait", ANY)
 CRASH = p.Reason("other", 1)
@@ -155,6 +157,79 @@ class Supervisors(unittest.TestCase):
         desks, _ = go_on(p.gather(desks).settle_unlisted(), crews)
         self.assertEqual((len(desks), self.pids(bosses[-1])), (len(crews), [again]))
 
+    def fails(self, code: p.Code, call: Callable[..., Any], *words: Any) -> None:
+        with self.assertRaises(p.Fault) as caught:
+            call(*words)
+        self.assertEqual(caught.exception.code, code)
+
+    def test_children_come_and_go_at_run_time(self) -> None:
+        crew, code = self.crew, p.Code
+        boss = crew.spawn_supervisor(self.desk, 5, SPEC, [ChildSpec(10)])
+        self.run_all()
+        (first,) = self.pids(boss)
+        child = ChildSpec(11, "transient")
+        self.assertEqual((crew.start_child(boss, child), crew.count_children(boss)), (1, ChildCounts(2, 1, 1)))
+        self.fails(code.CHILD_PRESENT, crew.start_child, boss, child)
+        for call in (crew.restart_child, crew.delete_child):
+            self.fails(code.CHILD_RESTARTING, call, boss, 11)
+        # nothing came to the supervisor, and the next step starts the child
+        told = self.run_all()
+        _, second = self.pids(boss)
+        self.assertEqual(told, [Job("start", second, 11, supervisor=boss)])
+        self.fails(code.CHILD_RUNNING, crew.start_child, boss, child)
+        for call in (crew.restart_child, crew.delete_child):
+            self.fails(code.CHILD_RUNNING, call, boss, 11)
+        crew.terminate_child(boss, 11)
+        self.assertEqual(self.run_all(), [Job("exit", second, 11, reason=p.NOPROC, was=WAIT)])
+        self.fails(code.CHILD_PRESENT, crew.start_child, boss, child)
+        crew.restart_child(boss, 11)
+        told = self.run_all()
+        _, third = self.pids(boss)
+        self.assertEqual(told, [Job("start", third, 11, supervisor=boss, again=True)])
+        crew.terminate_child(boss, 10)
+        self.assertEqual(self.run_all(), [Job("exit", first, 10, reason=p.NOPROC, was=WAIT)])
+        self.assertEqual((crew.delete_child(boss, 10), crew.count_children(boss)), (0, ChildCounts(1, 1, 0)))
+        self.assertEqual((self.run_all(), self.pids(boss)), ([], [third]))
+
+    def test_calls_about_children_are_refused(self) -> None:
+        one = self.crew.spawn(self.desk, 1, WAIT)
+        boss = self.crew.spawn_supervisor(self.desk, 5, SPEC, [ChildSpec(10)])
+        self.run_all()
+        before = self.crew.children(boss), self.crew.next(boss), self.crew.queued(), self.desk.event_count()
+        for pid, tag in ((one, 10), (p.Pid(0, 9, 9), 10), (boss, 11)):
+            for call in (self.crew.terminate_child, self.crew.restart_child, self.crew.delete_child):
+                self.fails(p.Code.NOTHING, call, pid, tag)
+        for pid in (one, p.Pid(0, 9, 9)):
+            self.fails(p.Code.NOTHING, self.crew.start_child, pid, ChildSpec(10))
+            self.assertEqual((self.crew.count_children(pid), self.crew.gave_up(pid)), (None, None))
+        after = self.crew.children(boss), self.crew.next(boss), self.crew.queued(), self.desk.event_count()
+        self.assertEqual(after, before)
+
+    def test_a_child_is_told_once_to_exit(self) -> None:
+        boss = self.crew.spawn_supervisor(self.desk, 5, SPEC, [ChildSpec(10)])
+        self.run_all()
+        (slow,) = self.pids(boss)
+        self.desk.trap(slow)
+        self.crew.terminate_child(boss, 10)
+        self.assertEqual([job.name for job in self.run_all()], ["item"])
+        self.assertEqual(self.crew.start_child(boss, ChildSpec(11)), 1)
+        self.crew.terminate_child(boss, 10)
+        self.assertEqual((self.run_all(), self.desk.waiting(slow)), ([], []))
+        self.assertTrue(self.crew.answer(slow, Next("stop", reason=p.NORMAL)))
+        told = self.run_all()
+        self.assertEqual([(job.name, job.tag) for job in told], [("exit", 10), ("start", 11)])
+
+    def test_a_supervisor_says_why_it_gave_up(self) -> None:
+        spec = SupervisorSpec(most=0, span=9, timed=True)
+        boss = self.crew.spawn_supervisor(self.desk, 5, spec, [ChildSpec(10), ChildSpec(11)])
+        self.run_all()
+        self.assertIsNone(self.crew.gave_up(boss))
+        self.desk.exit(self.pids(boss)[1], CRASH)
+        told = self.step()
+        self.assertEqual(self.crew.gave_up(boss), GaveUp(11, 1, CRASH, 0, 9, True))
+        told += self.run_all()
+        self.assertEqual((len(told), self.crew.gave_up(boss), len(self.crew)), (3, None, 0))
+
     def test_arguments_are_checked(self) -> None:
         no_pid: Any = 7
         wrong: list[tuple[type[Exception], str, Any]] = [
@@ -182,10 +257,16 @@ class Supervisors(unittest.TestCase):
         lib.pt_about_supervisor_spec(c.byref(spec))
         lib.pt_about_child_spec(c.byref(of_child))
         lib.pt_about_child(c.byref(child))
+        counts, cause = CChildCounts(), CGaveUp()
+        lib.pt_about_child_counts(c.byref(counts))
+        lib.pt_about_gave_up(c.byref(cause))
+        self.assertEqual((counts.specs, counts.active, counts.restarting), (1, 2, 3))
+        self.assertEqual((cause.tag, cause.place, cause.reason.code, cause.reason.number, cause.restarts, cause.span,
+                          cause.timed), (1, 2, 3, 4, 5, 6, True))
         self.assertEqual({name: getattr(told, name) for name in SUPERVISOR_CODES}, SUPERVISOR_CODES)
-        self.assertEqual(list(SUPERVISOR_CODES.values()), [0, 1, 2] * 3)
-        self.assertEqual((told.supervisor_spec, told.child_spec, told.child),
-                         (c.sizeof(CSupervisorSpec), c.sizeof(CChildSpec), c.sizeof(CChild)))
+        self.assertEqual(list(SUPERVISOR_CODES.values()), [0, 1, 2] * 3 + [23, 24, 25])
+        self.assertEqual((told.supervisor_spec, told.child_spec, told.child, told.child_counts, told.gave_up),
+                         tuple(map(c.sizeof, (CSupervisorSpec, CChildSpec, CChild, CChildCounts, CGaveUp))))
 
         def pid(it: CPid) -> tuple[int, int, int]:
             return it.shard, it.slot, it.version

@@ -1,16 +1,18 @@
 //! A bank whose handlers are here, and whose supervisors are the library's. The bank starts a clerk and a branch; the branch
 //! is a supervisor too, and starts a teller. A clerk that breaks down is started again. A teller may break down once: the
-//! second time its branch gives up, and the bank starts both again. The bank goes on through a pause, and then it closes.
+//! second time its branch gives up, and the bank starts both again. The bank goes on through a pause. Then it takes on a clerk
+//! for the evening, sends it home and takes its place away, and closes.
 
-use pundewo::supervisors::{Child, ChildSpec, Shutdown, Strategy, SupervisorSpec};
+use pundewo::supervisors::{Child, ChildSpec, Restart, Shutdown, Strategy, SupervisorSpec};
 use pundewo::{Body, Config, Crew, Desk, Item, Job, Next, Pick, Pid, Reason, What, gather, open};
 use std::error::Error;
 
-const NAMES: [&str; 4] = ["bank", "clerk", "branch", "teller"];
+const NAMES: [&str; 5] = ["bank", "clerk", "branch", "teller", "evening clerk"];
 const BANK: u64 = 0;
 const CLERK: u64 = 1;
 const BRANCH: u64 = 2;
 const TELLER: u64 = 3;
+const EVENING: u64 = 4;
 
 const ASK: u32 = 1;
 const BREAK: u32 = 2;
@@ -81,6 +83,22 @@ impl World {
         Ok(self.desks[0].send(self.owner, to, Body { kind, num: 1, who: None })?)
     }
 
+    /// One more child, as long as it is wanted: it ends by itself, starts again when it is asked for, is ended, and forgotten.
+    fn evening(&mut self, bank: Pid) -> Result<(), Box<dyn Error>> {
+        let clerk = ChildSpec { restart: Restart::Transient, ..ChildSpec::new(EVENING) };
+        let place = self.crew.start_child(bank, clerk)?;
+        self.run(5)?;
+        let clerk = self.child(bank, place);
+        self.desks[0].exit(clerk, Reason::Normal)?;
+        self.run(6)?;
+        self.crew.restart_child(bank, EVENING)?;
+        self.run(7)?;
+        self.crew.terminate_child(bank, EVENING)?;
+        self.run(8)?;
+        assert_eq!(self.crew.delete_child(bank, EVENING)?, place);
+        Ok(())
+    }
+
     /// The node is gathered, settled and resumed, and the crew goes on with its history.
     fn pause(self) -> Result<World, Box<dyn Error>> {
         let World { desks, mut crew, owner } = self;
@@ -111,8 +129,9 @@ fn main() -> Result<(), Box<dyn Error>> {
     world.tell(world.child(world.child(bank, 1), 0), BREAK)?;
     world.run(4)?;
     assert!(world.children(bank).iter().all(|child| child.wanted));
+    world.evening(bank)?;
     world.desks[0].exit_signal(owner, bank, Reason::Shutdown)?;
-    world.run(5)?;
+    world.run(9)?;
     assert!(world.crew.is_empty());
     Ok(())
 }

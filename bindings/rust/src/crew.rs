@@ -1,7 +1,9 @@
 //! The processes of one desk whose handlers are the program's own, and their supervisors.
 
-use crate::raw::{self, Handle, RawAnswer, RawChild, RawChildSpec, RawJob, RawNext, RawTurned};
-use crate::supervisors::{Child, ChildSpec, Origin, SupervisorSpec};
+use crate::raw::{
+    self, Handle, RawAnswer, RawChild, RawChildCounts, RawChildSpec, RawGaveUp, RawJob, RawNext, RawTurned,
+};
+use crate::supervisors::{Child, ChildCounts, ChildFault, ChildSpec, GaveUp, Origin, SupervisorSpec, asked};
 use crate::{
     Desk, Fault, Gathered, Held, History, Item, Lineage, Loss, NONE, OK, Pick, Pid, Reason, Settled, Turned, desks_of,
     fault_of, found, is_whole, told,
@@ -337,6 +339,70 @@ impl Crew {
     /// The child in a place of a supervisor, or `None` if the process is no supervisor of the crew, or has fewer children.
     pub fn child(&self, p: Pid, place: usize) -> Option<Child> {
         child_at(&mut self.handle.lent(), p, place)
+    }
+
+    /// Asks a supervisor for one more child, behind the others: Erlang's `start_child`. It returns the place of the child,
+    /// whose tag is also the name by which the calls below know it.
+    ///
+    /// The supervisor is in the queue then, and the next step starts the child. If it ends another child just now, it starts
+    /// this one once that has exited.
+    ///
+    /// # Errors
+    ///
+    /// [`ChildFault::NotFound`], if the process is no supervisor of the crew. [`ChildFault::Running`] or
+    /// [`ChildFault::Present`], if it has a child with this tag, which is running or not. [`ChildFault::Memory`].
+    pub fn start_child(&mut self, p: Pid, child: ChildSpec) -> Result<usize, ChildFault> {
+        let mut place = 0;
+        asked(unsafe { raw::pt_crew_start_child(self.handle.own(), p, child.into(), &mut place) })?;
+        Ok(place)
+    }
+
+    /// Asks a supervisor to end the child with this tag, as its [`shutdown`](ChildSpec::shutdown) says: Erlang's
+    /// `terminate_child`. The next step tells it to exit. The child keeps its place, and is not started again unless
+    /// [`restart_child`](Crew::restart_child) asks for it, or a strategy names it.
+    ///
+    /// # Errors
+    ///
+    /// [`ChildFault::NotFound`].
+    pub fn terminate_child(&mut self, p: Pid, tag: u64) -> Result<(), ChildFault> {
+        asked(unsafe { raw::pt_crew_terminate_child(self.handle.own(), p, tag) })
+    }
+
+    /// Asks a supervisor to start the child with this tag, which it ended or which is done: Erlang's `restart_child`. The next
+    /// step starts it.
+    ///
+    /// # Errors
+    ///
+    /// [`ChildFault::NotFound`], [`ChildFault::Running`], [`ChildFault::Restarting`].
+    pub fn restart_child(&mut self, p: Pid, tag: u64) -> Result<(), ChildFault> {
+        asked(unsafe { raw::pt_crew_restart_child(self.handle.own(), p, tag) })
+    }
+
+    /// Has a supervisor forget the child with this tag, which it ended or which is done: Erlang's `delete_child`. It returns the
+    /// place that the child had. Those behind it move up.
+    ///
+    /// # Errors
+    ///
+    /// [`ChildFault::NotFound`], [`ChildFault::Running`], [`ChildFault::Restarting`].
+    pub fn delete_child(&mut self, p: Pid, tag: u64) -> Result<usize, ChildFault> {
+        let mut place = 0;
+        asked(unsafe { raw::pt_crew_delete_child(self.handle.own(), p, tag, &mut place) })?;
+        Ok(place)
+    }
+
+    /// How many children a supervisor has, or `None` if the process is no supervisor of the crew.
+    pub fn count_children(&self, p: Pid) -> Option<ChildCounts> {
+        let mut out = RawChildCounts::default();
+        let code = unsafe { raw::pt_crew_count_children(&mut self.handle.lent(), p, &mut out) };
+        found(code, out.into())
+    }
+
+    /// Why a supervisor gave up, or `None` if it has not, or if the process is no supervisor of the crew. It then ends its
+    /// children and exits with [`Reason::Shutdown`]. Once its exit is told it is none of the crew.
+    pub fn gave_up(&self, p: Pid) -> Option<GaveUp> {
+        let mut out = RawGaveUp::default();
+        let code = unsafe { raw::pt_crew_gave_up(&mut self.handle.lent(), p, &mut out) };
+        found(code, out.into())
     }
 
     /// How many processes it has, supervisors too.

@@ -37,6 +37,9 @@ pub const PT_BAD_NAME: u32 = 19;
 pub const PT_TAKEN: u32 = 20;
 pub const PT_HAS_NAME: u32 = 21;
 pub const PT_BAD_PLACES: u32 = 22;
+pub const PT_CHILD_RUNNING: u32 = 23;
+pub const PT_CHILD_RESTARTING: u32 = 24;
+pub const PT_CHILD_PRESENT: u32 = 25;
 
 pub const PT_NORMAL: u32 = 0;
 pub const PT_KILL: u32 = 1;
@@ -286,6 +289,25 @@ pub struct RawChild {
 
 #[repr(C)]
 #[derive(Clone, Copy, Debug, Default)]
+pub struct RawChildCounts {
+    pub specs: usize,
+    pub active: usize,
+    pub restarting: usize,
+}
+
+#[repr(C)]
+#[derive(Clone, Copy, Debug, Default)]
+pub struct RawGaveUp {
+    pub tag: u64,
+    pub place: usize,
+    pub reason: RawReason,
+    pub restarts: usize,
+    pub span: u64,
+    pub timed: bool,
+}
+
+#[repr(C)]
+#[derive(Clone, Copy, Debug, Default)]
 pub struct RawTimer {
     pub at: u64,
     pub number: u64,
@@ -470,6 +492,11 @@ pub struct RawSupervisorCodes {
     pub supervisor_spec: usize,
     pub child_spec: usize,
     pub child: usize,
+    pub child_running: u32,
+    pub child_restarting: u32,
+    pub child_present: u32,
+    pub child_counts: usize,
+    pub gave_up: usize,
 }
 
 pub const PT_CONFIG_DEFAULT: Config = Config { slots: 1_024, top_version: u32::MAX, lane: 64, start: 0 };
@@ -584,6 +611,11 @@ pub const SUPERVISOR_CODES: RawSupervisorCodes = RawSupervisorCodes {
     supervisor_spec: size_of::<RawSupervisorSpec>(),
     child_spec: size_of::<RawChildSpec>(),
     child: size_of::<RawChild>(),
+    child_running: PT_CHILD_RUNNING,
+    child_restarting: PT_CHILD_RESTARTING,
+    child_present: PT_CHILD_PRESENT,
+    child_counts: size_of::<RawChildCounts>(),
+    gave_up: size_of::<RawGaveUp>(),
 };
 
 const _: () = assert!(size_of::<Pid>() == 12);
@@ -613,6 +645,8 @@ const _: () = assert!(size_of::<RawAnswer>() == 80);
 const _: () = assert!(size_of::<RawSupervisorSpec>() == 40);
 const _: () = assert!(size_of::<RawChildSpec>() == 24);
 const _: () = assert!(size_of::<RawChild>() == 32);
+const _: () = assert!(size_of::<RawChildCounts>() == 24);
+const _: () = assert!(size_of::<RawGaveUp>() == 48);
 const _: () = assert!(size_of::<RawTimer>() == 16);
 const _: () = assert!(size_of::<RawFired>() == 24);
 const _: () = assert!(size_of::<RawName>() == 32);
@@ -624,7 +658,7 @@ const _: () = assert!(size_of::<RawPost>() == 48);
 const _: () = assert!(size_of::<RawCodes>() == 264);
 const _: () = assert!(size_of::<RawSizes>() == 176);
 const _: () = assert!(size_of::<RawAskingAbout>() == 120);
-const _: () = assert!(size_of::<RawSupervisorCodes>() == 64);
+const _: () = assert!(size_of::<RawSupervisorCodes>() == 96);
 
 unsafe extern "C" {
     /// The first byte of a text that ends with a zero.
@@ -736,6 +770,12 @@ unsafe extern "C" {
     pub fn pt_crew_refused(crew: &mut Handle, out: &mut bool) -> u32;
     pub fn pt_crew_children(crew: &mut Handle, p: Pid, out: &mut usize) -> u32;
     pub fn pt_crew_child(crew: &mut Handle, p: Pid, place: usize, out: &mut RawChild) -> u32;
+    pub fn pt_crew_start_child(crew: &mut Handle, p: Pid, child: RawChildSpec, place: &mut usize) -> u32;
+    pub fn pt_crew_terminate_child(crew: &mut Handle, p: Pid, tag: u64) -> u32;
+    pub fn pt_crew_restart_child(crew: &mut Handle, p: Pid, tag: u64) -> u32;
+    pub fn pt_crew_delete_child(crew: &mut Handle, p: Pid, tag: u64, place: &mut usize) -> u32;
+    pub fn pt_crew_count_children(crew: &mut Handle, p: Pid, out: &mut RawChildCounts) -> u32;
+    pub fn pt_crew_gave_up(crew: &mut Handle, p: Pid, out: &mut RawGaveUp) -> u32;
     pub fn pt_timers_open(timers: &mut Handle) -> u32;
     pub fn pt_timers_start(timers: &mut Handle, at: u64, body: u64, out: &mut RawTimer) -> u32;
     pub fn pt_timers_cancel(timers: &mut Handle, timer: RawTimer) -> u32;
@@ -808,4 +848,6 @@ unsafe extern "C" {
     pub fn pt_about_supervisor_spec(out: &mut RawSupervisorSpec);
     pub fn pt_about_child_spec(out: &mut RawChildSpec);
     pub fn pt_about_child(out: &mut RawChild);
+    pub fn pt_about_child_counts(out: &mut RawChildCounts);
+    pub fn pt_about_gave_up(out: &mut RawGaveUp);
 }

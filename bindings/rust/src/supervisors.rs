@@ -29,8 +29,9 @@
 
 pub use crate::runtime::Restart;
 
-use crate::Pid;
-use crate::raw::{self, RawChild, RawChildSpec, RawSupervisorSpec};
+use crate::raw::{self, RawChild, RawChildCounts, RawChildSpec, RawGaveUp, RawSupervisorSpec};
+use crate::{OK, Pid, Reason};
+use std::fmt;
 
 /// Which others a supervisor ends and starts again if a child has exited that is to be started again.
 #[derive(Clone, Copy, Debug, Default, PartialEq, Eq, Hash)]
@@ -110,6 +111,76 @@ pub struct Child {
     pub wanted: bool,
 }
 
+/// How many children a supervisor has.
+#[derive(Clone, Copy, Debug, Default, PartialEq, Eq, Hash)]
+pub struct ChildCounts {
+    /// All, alive or not.
+    pub specs: usize,
+    /// Those that are alive, by all that the supervisor has heard.
+    pub active: usize,
+    /// Those that it is to start.
+    pub restarting: usize,
+}
+
+/// Why a supervisor gave up: a child exited that was to be started again, and its limit allowed no further restart.
+#[derive(Clone, Copy, Debug, PartialEq, Eq, Hash)]
+pub struct GaveUp {
+    /// The tag of that child.
+    pub tag: u64,
+    /// The place of that child.
+    pub place: usize,
+    /// The reason with which it exited.
+    pub reason: Reason,
+    /// How many restarts the supervisor had made within the span.
+    pub restarts: usize,
+    /// The span of the limit.
+    pub span: u64,
+    /// Whether the span is one of time, and not of stamps.
+    pub timed: bool,
+}
+
+/// Why a call about a child failed. The supervisor is as it was.
+#[derive(Clone, Copy, Debug, PartialEq, Eq, Hash)]
+pub enum ChildFault {
+    /// The process is no supervisor of the crew, or has no child with this tag.
+    NotFound,
+    /// The child is running, by all that its supervisor has heard.
+    Running,
+    /// The child is not running, and its supervisor is to start it.
+    Restarting,
+    /// The supervisor has a child with this tag, which is not running.
+    Present,
+    /// There was no memory.
+    Memory,
+}
+
+impl fmt::Display for ChildFault {
+    fn fmt(&self, f: &mut fmt::Formatter<'_>) -> fmt::Result {
+        f.write_str(match self {
+            ChildFault::NotFound => "there is no such supervisor or child",
+            ChildFault::Running => "the child is running",
+            ChildFault::Restarting => "the child is restarting",
+            ChildFault::Present => "the child is present already",
+            ChildFault::Memory => "there was no memory",
+        })
+    }
+}
+
+impl std::error::Error for ChildFault {}
+
+/// What came of a call about a child.
+pub(crate) fn asked(code: u32) -> Result<(), ChildFault> {
+    match code {
+        OK => Ok(()),
+        raw::PT_MEMORY => Err(ChildFault::Memory),
+        raw::PT_NOTHING => Err(ChildFault::NotFound),
+        raw::PT_CHILD_RUNNING => Err(ChildFault::Running),
+        raw::PT_CHILD_RESTARTING => Err(ChildFault::Restarting),
+        raw::PT_CHILD_PRESENT => Err(ChildFault::Present),
+        _ => unreachable!("the library answered {code}"),
+    }
+}
+
 /// Which supervisor started a process, and whether a child in the same place had exited before.
 #[derive(Clone, Copy, Debug, PartialEq, Eq, PartialOrd, Ord, Hash)]
 pub struct Origin {
@@ -165,5 +236,19 @@ impl From<RawChild> for Child {
             _ => Shutdown::BrutalKill,
         };
         Child { pid: raw.has_pid.then_some(raw.pid), restart, shutdown, wanted: raw.wanted }
+    }
+}
+
+impl From<RawChildCounts> for ChildCounts {
+    fn from(raw: RawChildCounts) -> ChildCounts {
+        let RawChildCounts { specs, active, restarting } = raw;
+        ChildCounts { specs, active, restarting }
+    }
+}
+
+impl From<RawGaveUp> for GaveUp {
+    fn from(raw: RawGaveUp) -> GaveUp {
+        let RawGaveUp { tag, place, reason, restarts, span, timed } = raw;
+        GaveUp { tag, place, reason: reason.into(), restarts, span, timed }
     }
 }

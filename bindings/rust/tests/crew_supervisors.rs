@@ -1,8 +1,10 @@
 //! The supervisors of a crew: whom they start, what the crew tells of it, and how they go on with their node.
 
 use pundewo::raw::*;
-use pundewo::supervisors::{Child, ChildSpec, Origin, Restart, Shutdown, Strategy, SupervisorSpec};
-use pundewo::{Config, Crew, Desk, Fault, Job, Next, Node, NotTaken, Pick, Pid, Reason, What, gather, go_on, open};
+use pundewo::supervisors::{Child, ChildFault, ChildSpec, GaveUp, Origin, Restart, Shutdown, Strategy, SupervisorSpec};
+use pundewo::{
+    Config, Crew, Desk, Fault, Item, Job, Next, Node, NotTaken, Pick, Pid, Reason, What, gather, go_on, open,
+};
 
 const ANY: Next = Next::Wait(Pick::Any);
 const CRASH: Reason = Reason::Other(1);
@@ -125,6 +127,115 @@ fn a_child_may_be_a_supervisor() -> Result<(), Fault> {
 }
 
 #[test]
+fn children_come_and_go_at_run_time() -> Result<(), Fault> {
+    let mut desks = open(1, Config::default())?;
+    let desk = &mut desks[0];
+    let mut crew = Crew::new(desk)?;
+    let boss = crew.spawn_supervisor(desk, 5, spec(), &[ChildSpec::new(10)])?;
+    run(&mut crew, desk);
+    let first = pids(&crew, boss)[0];
+    let counts = |crew: &Crew| crew.count_children(boss).map(|it| (it.specs, it.active, it.restarting));
+    // one more child, which the next step starts though nothing came to the supervisor
+    let child = ChildSpec { restart: Restart::Transient, ..ChildSpec::new(11) };
+    assert_eq!((crew.start_child(boss, child), counts(&crew)), (Ok(1), Some((2, 1, 1))));
+    assert_eq!(crew.start_child(boss, child), Err(ChildFault::Present));
+    assert_eq!(crew.restart_child(boss, 11), Err(ChildFault::Restarting));
+    assert_eq!(crew.delete_child(boss, 11), Err(ChildFault::Restarting));
+    let told = run(&mut crew, desk);
+    let second = pids(&crew, boss)[1];
+    assert_eq!((told, counts(&crew)), (vec![starts(second, 11, boss, false)], Some((2, 2, 0))));
+    assert_eq!(crew.start_child(boss, child), Err(ChildFault::Running));
+    assert_eq!(crew.restart_child(boss, 11), Err(ChildFault::Running));
+    assert_eq!(crew.delete_child(boss, 11), Err(ChildFault::Running));
+    // it is ended, started again, ended, and forgotten
+    assert_eq!(crew.terminate_child(boss, 11), Ok(()));
+    assert_eq!(run(&mut crew, desk), [exits(second, 11, Reason::Noproc)]);
+    assert_eq!((counts(&crew), crew.start_child(boss, child)), (Some((2, 1, 0)), Err(ChildFault::Present)));
+    assert_eq!(crew.restart_child(boss, 11), Ok(()));
+    let told = run(&mut crew, desk);
+    let third = pids(&crew, boss)[1];
+    assert_eq!(told, [starts(third, 11, boss, true)]);
+    assert_eq!((crew.terminate_child(boss, 10), crew.terminate_child(boss, 11)), (Ok(()), Ok(())));
+    assert_eq!(run(&mut crew, desk), [exits(third, 11, Reason::Noproc), exits(first, 10, Reason::Noproc)]);
+    assert_eq!((crew.delete_child(boss, 10), crew.delete_child(boss, 11)), (Ok(0), Ok(0)));
+    assert_eq!((run(&mut crew, desk), counts(&crew)), (vec![], Some((0, 0, 0))));
+    // a child in its place has not exited before
+    assert_eq!(crew.start_child(boss, child), Ok(0));
+    let told = run(&mut crew, desk);
+    assert_eq!(told, [starts(pids(&crew, boss)[0], 11, boss, false)]);
+    Ok(())
+}
+
+/// What is refused, and that nothing has changed then.
+#[test]
+fn calls_about_children_are_refused() -> Result<(), Fault> {
+    let mut desks = open(1, Config::default())?;
+    let desk = &mut desks[0];
+    let mut crew = Crew::new(desk)?;
+    let one = crew.spawn(desk, 1, ANY)?;
+    let boss = crew.spawn_supervisor(desk, 5, spec(), &[ChildSpec::new(10)])?;
+    run(&mut crew, desk);
+    let nobody = Pid { shard: 0, slot: 9, version: 9 };
+    let before = (crew.children(boss), crew.next(boss), crew.queued(), desk.event_count());
+    for (p, tag) in [(one, 10), (nobody, 10), (boss, 11)] {
+        assert_eq!(crew.terminate_child(p, tag), Err(ChildFault::NotFound));
+        assert_eq!(crew.restart_child(p, tag), Err(ChildFault::NotFound));
+        assert_eq!(crew.delete_child(p, tag), Err(ChildFault::NotFound));
+    }
+    for p in [one, nobody] {
+        assert_eq!(crew.start_child(p, ChildSpec::new(10)), Err(ChildFault::NotFound));
+        assert_eq!((crew.count_children(p), crew.gave_up(p)), (None, None));
+    }
+    assert_eq!(crew.start_child(boss, ChildSpec::new(10)), Err(ChildFault::Running));
+    assert_eq!((crew.children(boss), crew.next(boss), crew.queued(), desk.event_count()), before);
+    Ok(())
+}
+
+/// A supervisor that waits for the exit of a child goes on waiting: the child is told once, and another starts after it.
+#[test]
+fn a_child_is_told_once_to_exit() -> Result<(), Fault> {
+    let mut desks = open(1, Config::default())?;
+    let desk = &mut desks[0];
+    let mut crew = Crew::new(desk)?;
+    let boss = crew.spawn_supervisor(desk, 5, spec(), &[ChildSpec::new(10)])?;
+    run(&mut crew, desk);
+    let slow = pids(&crew, boss)[0];
+    desk.trap(slow, true)?;
+    crew.terminate_child(boss, 10).expect("it has such a child");
+    let bid = Job { pid: slow, tag: 10, what: What::Item(Item::Exit(boss, Reason::Shutdown)) };
+    assert_eq!(run(&mut crew, desk), [bid]);
+    assert_eq!(crew.start_child(boss, ChildSpec::new(11)), Ok(1));
+    assert_eq!(crew.terminate_child(boss, 10), Ok(()));
+    assert!(matches!(crew.next(boss), Some(Next::Wait(Pick::DownOf(_)))));
+    assert_eq!(run(&mut crew, desk), []);
+    assert_eq!(desk.waiting(slow).map(Iterator::count), Some(0));
+    crew.answer(&[(slow, Next::Stop(Reason::Normal))]).expect("it runs");
+    let told = run(&mut crew, desk);
+    let other = crew.child(boss, 1).and_then(|child| child.pid).expect("it was started");
+    let exit = Job { pid: slow, tag: 10, what: What::Exit(Reason::Normal, Next::Stop(Reason::Normal)) };
+    assert_eq!(told, [exit, starts(other, 11, boss, false)]);
+    Ok(())
+}
+
+#[test]
+fn a_supervisor_says_why_it_gave_up() -> Result<(), Fault> {
+    let mut desks = open(1, Config::default())?;
+    let desk = &mut desks[0];
+    let mut crew = Crew::new(desk)?;
+    let children = [ChildSpec::new(10), ChildSpec::new(11)];
+    let boss = crew.spawn_supervisor(desk, 5, SupervisorSpec { most: 0, span: 9, timed: true, ..spec() }, &children)?;
+    run(&mut crew, desk);
+    assert_eq!(crew.gave_up(boss), None);
+    desk.exit(pids(&crew, boss)[1], CRASH)?;
+    let mut told = step(&mut crew, desk);
+    let cause = GaveUp { tag: 11, place: 1, reason: CRASH, restarts: 0, span: 9, timed: true };
+    assert_eq!(crew.gave_up(boss), Some(cause));
+    told.extend(run(&mut crew, desk));
+    assert_eq!((told.len(), crew.gave_up(boss), crew.len()), (3, None, 0));
+    Ok(())
+}
+
+#[test]
 fn processes_without_a_supervisor_are_told_beside_it() -> Result<(), Fault> {
     let mut desks = open(1, Config::default())?;
     let desk = &mut desks[0];
@@ -227,11 +338,14 @@ fn types_go_to_other_threads() {
 fn structs_and_codes_are_the_librarys() {
     let (mut codes, mut child) = (RawSupervisorCodes::default(), RawChild::default());
     let (mut of_child, mut spec) = (RawChildSpec::default(), RawSupervisorSpec::default());
+    let (mut counts, mut cause) = (RawChildCounts::default(), RawGaveUp::default());
     unsafe {
         pt_about_supervisors(&mut codes);
         pt_about_supervisor_spec(&mut spec);
         pt_about_child_spec(&mut of_child);
         pt_about_child(&mut child);
+        pt_about_child_counts(&mut counts);
+        pt_about_gave_up(&mut cause);
     }
     let pid = |first: u8| Pid { shard: first, slot: u32::from(first) + 1, version: u32::from(first) + 2 };
     assert_eq!(codes, SUPERVISOR_CODES);
@@ -240,4 +354,7 @@ fn structs_and_codes_are_the_librarys() {
     assert_eq!((of_child.tag, of_child.restart, of_child.shutdown, of_child.time), (1, 2, 3, 4));
     assert_eq!((child.has_pid, child.wanted, child.pid), (true, true, pid(3)));
     assert_eq!((child.restart, child.shutdown, child.time), (6, 7, 8));
+    assert_eq!((counts.specs, counts.active, counts.restarting), (1, 2, 3));
+    assert_eq!((cause.tag, cause.place, cause.reason.code, cause.reason.number), (1, 2, 3, 4));
+    assert_eq!((cause.restarts, cause.span, cause.timed), (5, 6, true));
 }

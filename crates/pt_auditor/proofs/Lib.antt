@@ -9,7 +9,3 @@ pub mod Read
 pub mod Rested
 pub mod Resting
 pub mod Reread
-pub mod Flying
-pub mod Leaving
-pub mod Passing
-pub mod CalledHere

@@ -3,7 +3,6 @@ pub mod Hearings
 pub mod Lanes
 pub mod Laws
 pub mod Objecting
-pub mod Passing
 pub mod Reading
 pub mod Selecting
 pub mod Seen

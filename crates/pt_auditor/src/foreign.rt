@@ -9,7 +9,7 @@ ghost use Rattle.pt_auditor.specs.Foreigners.{is_node_version, reaches, goes_to_
 use crate::desks::Desks;
 use pt_events::{Event, MAX_STAMP, Stamped};
 use pt_judge::State;
-use pt_signal::{Letter, LinkId, MAX_SLOTS, Pid, Ref, Signal};
+use pt_signal::{Letter, MAX_SLOTS, Pid, Signal};
 use pt_texts::LeftOver;
 
 /// Why no node prints an event that may come next, or a letter left over. A node's desks write only the events of their

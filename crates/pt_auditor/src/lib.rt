@@ -33,8 +33,6 @@
 //!   before, or to one before it in its slot. (`GoesToNoneSeen`)
 //! - **Letters of a node.** Letters from one desk to another come, and are left over, in the order of their sending.
 //!   Each letter left over has the stamp of its sending. They are left over by the sender's desk, then the receiver's.
-//! - **True histories pass.** The merge of lawful journals that agree is objected to in no line. A line of it is named for
-//!   one of five reasons alone, and none is if the calls of each desk do what they promise. (`journals_pass`)
 //! - **Epoch by epoch.** An audit over the rest of a history has the verdict of both together, or an event is at fault
 //!   that no node prints. (`Audit::rest`, `over`, `Hearing::rest`, `over`)
 //! - **A rest.** It has the clocks of the desks, the exits that these have seen, each process that lives with all that it
@@ -75,7 +73,7 @@ pub use audit::Audit;
 pub use fault::{Fault, MOST_LINE, Why};
 pub use foreign::{Foreign, NoNode};
 pub use hearing::{Hearing, Verdict};
-pub use laws::{journals_pass, lines_are_short};
+pub use laws::lines_are_short;
 pub use objection::{Contradiction, Objection};
 pub use rest::{Resident, Rest, Restless, Unfit};
 pub use saved::{Damage, Flaw};

@@ -2,8 +2,9 @@
 
 ghost use Rattle.std.specs.Prelude.{◌≡◌};
 ghost use Rattle.pt_calls.specs.AboutSupervisors.{all_supervisor_codes, sample_child, sample_child_spec, sample_supervisor_spec};
+ghost use Rattle.pt_calls.specs.AboutSupervisors.{sample_child_counts, sample_gave_up};
 
-use pt_c_crews::types::{PtChild, PtChildSpec, PtSupervisorSpec};
+use pt_c_crews::types::{PtChild, PtChildCounts, PtChildSpec, PtGaveUp, PtSupervisorSpec};
 use pt_calls::about_supervisors::{self, PtSupervisorCodes};
 
 /// Writes each code, from the same functions as the calls, and the sizes.
@@ -36,4 +37,20 @@ pub extern "C" fn pt_about_child(out: &mut PtChild)
     ensures { out.new ≡ sample_child }
 {
     about_supervisors::child(out);
+}
+
+/// Writes a sample of how many children a supervisor has: its fields have the numbers 1, 2, 3 in order.
+#[unsafe(no_mangle)]
+pub extern "C" fn pt_about_child_counts(out: &mut PtChildCounts)
+    ensures { out.new ≡ sample_child_counts }
+{
+    about_supervisors::child_counts(out);
+}
+
+/// Writes a sample of why a supervisor gave up: its fields have the numbers 1, 2, 3 and so on in order, a bool being true.
+#[unsafe(no_mangle)]
+pub extern "C" fn pt_about_gave_up(out: &mut PtGaveUp)
+    ensures { out.new ≡ sample_gave_up }
+{
+    about_supervisors::gave_up(out);
 }

@@ -12,12 +12,14 @@ ghost use Rattle.pt_structs.specs.Nexts.{next_out};
 ghost use Rattle.pt_scheduler.specs.Scheduling.{member_views, crew_of};
 ghost use Rattle.pt_c_crews.specs.Crewing.{CrewBeginsAgain, CrewSupervises, CrewTells, NotesIfOwn, SpawnsBossInCrew};
 ghost use Rattle.pt_c_crews.specs.Crewing.{SpawnsChildInCrew, SpawnsInCrew, TellsChild, TellsChildCount, TellsTime};
+ghost use Rattle.pt_c_crews.specs.Children.{CrewDeletesChild, CrewRestartsChild, CrewStartsChild, CrewTerminatesChild};
+ghost use Rattle.pt_c_crews.specs.Children.{TellsCause, TellsCounts};
 ghost use Rattle.pt_c_crews.specs.Through.{AnswersInOrder, GoesOnIn, OpensCrew, SetsCrewTime, StepsIfOwn};
 ghost use Rattle.pt_places.specs.Filling.{GivesUp};
 
 use pt_c_crews::calls;
 use pt_c_crews::crew_handle::CrewHandle;
-use pt_c_crews::types::{PtChild, PtChildSpec, PtJob, PtSupervisorSpec};
+use pt_c_crews::types::{PtChild, PtChildCounts, PtChildSpec, PtGaveUp, PtJob, PtSupervisorSpec};
 use pt_calls::crews;
 use pt_structs::crossing::pid_in;
 use pt_structs::types::{PtAnswer, PtNext, PtPid, PtTurned};
@@ -298,4 +300,95 @@ pub extern "C" fn pt_crew_child(
         (λ crew. TellsChild crew (pid_crossed p) place result out.old out.new) }
 {
     calls::child_at(alloc, c, pid_in(p), place, out)
+}
+
+/// Asks a supervisor for one more child, behind the others, as `Scheduler::start_child` does. It writes the place of the child
+/// to `out` if it returns 0. It returns 16 if a code of the child is none of its enumeration, and 8 if the process is no
+/// supervisor of the crew. If there is a child with its tag it returns 23 if that is running, and else 25.
+#[unsafe(no_mangle)]
+pub extern "C" fn pt_crew_start_child(
+    alloc: Global,
+    c: &mut CrewHandle,
+    p: PtPid,
+    child: PtChildSpec,
+    out: &mut usize,
+) -> u32
+    ensures { CallsThrough c.old.state c.new.state result (out.new ≡ out.old)
+        (λ old new. CrewStartsChild (pid_crossed p) child result out.old out.new old new) }
+{
+    calls::start_child(alloc, c, pid_in(p), child, out)
+}
+
+/// Asks a supervisor to end the child with this tag, as `Scheduler::terminate_child` does; 8 if the process is no supervisor of
+/// the crew, or has no such child.
+#[unsafe(no_mangle)]
+pub extern "C" fn pt_crew_terminate_child(
+    alloc: Global,
+    c: &mut CrewHandle,
+    p: PtPid,
+    tag: u64,
+) -> u32
+    ensures { CallsThrough c.old.state c.new.state result (Unit {0})
+        (λ old new. CrewTerminatesChild (pid_crossed p) tag result old new) }
+{
+    calls::terminate_child(alloc, c, pid_in(p), tag)
+}
+
+/// Asks a supervisor to start the child with this tag, as `Scheduler::restart_child` does; 8 if the process is no supervisor of
+/// the crew, or has no such child, 23 if the child is running, and 24 if it is to be started.
+#[unsafe(no_mangle)]
+pub extern "C" fn pt_crew_restart_child(
+    alloc: Global,
+    c: &mut CrewHandle,
+    p: PtPid,
+    tag: u64,
+) -> u32
+    ensures { CallsThrough c.old.state c.new.state result (Unit {0})
+        (λ old new. CrewRestartsChild (pid_crossed p) tag result old new) }
+{
+    calls::restart_child(alloc, c, pid_in(p), tag)
+}
+
+/// Has a supervisor forget the child with this tag, as `Scheduler::delete_child` does. It writes the place that the child had
+/// to `out` if it returns 0. It returns 8, 23 and 24 as `pt_crew_restart_child` does.
+#[unsafe(no_mangle)]
+pub extern "C" fn pt_crew_delete_child(
+    alloc: Global,
+    c: &mut CrewHandle,
+    p: PtPid,
+    tag: u64,
+    out: &mut usize,
+) -> u32
+    ensures { CallsThrough c.old.state c.new.state result (out.new ≡ out.old)
+        (λ old new. CrewDeletesChild (pid_crossed p) tag result out.old out.new old new) }
+{
+    calls::delete_child(alloc, c, pid_in(p), tag, out)
+}
+
+/// How many children a supervisor has; 8 if the process is no supervisor of the crew.
+#[unsafe(no_mangle)]
+pub extern "C" fn pt_crew_count_children(
+    alloc: Global,
+    c: &mut CrewHandle,
+    p: PtPid,
+    out: &mut PtChildCounts,
+) -> u32
+    ensures { ReadsThrough c.old.state c.new.state result (out.new ≡ out.old)
+        (λ crew. TellsCounts crew (pid_crossed p) result out.old out.new) }
+{
+    calls::count_children(alloc, c, pid_in(p), out)
+}
+
+/// Why a supervisor gave up; 8 if it has not, or if the process is no supervisor of the crew.
+#[unsafe(no_mangle)]
+pub extern "C" fn pt_crew_gave_up(
+    alloc: Global,
+    c: &mut CrewHandle,
+    p: PtPid,
+    out: &mut PtGaveUp,
+) -> u32
+    ensures { ReadsThrough c.old.state c.new.state result (out.new ≡ out.old)
+        (λ crew. TellsCause crew (pid_crossed p) result out.old out.new) }
+{
+    calls::gave_up(alloc, c, pid_in(p), out)
 }

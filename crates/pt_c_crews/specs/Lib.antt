@@ -3,3 +3,4 @@ pub mod GoingOn
 pub mod Owning
 pub mod Crewing
 pub mod Through
+pub mod Children

@@ -11,11 +11,13 @@ ghost use Rattle.pt_structs.specs.Nexts.{next_out};
 ghost use Rattle.pt_scheduler.specs.Scheduling.{member_views, crew_of};
 ghost use Rattle.pt_c_crews.specs.Crewing.{NotesIfOwn, SpawnsBossInCrew, SpawnsChildInCrew, SpawnsInCrew};
 ghost use Rattle.pt_c_crews.specs.Crewing.{CrewBeginsAgain, CrewSupervises, CrewTells, TellsChild, TellsChildCount, TellsTime};
+ghost use Rattle.pt_c_crews.specs.Children.{CrewDeletesChild, CrewRestartsChild, CrewStartsChild, CrewTerminatesChild};
+ghost use Rattle.pt_c_crews.specs.Children.{TellsCause, TellsCounts};
 ghost use Rattle.pt_c_crews.specs.Through.{AnswersInOrder, GoesOnIn, OpensCrew, SetsCrewTime, StepsIfOwn};
 
 use crate::crew_handle::{CrewHandle, claim, filled, hold, is_full, spare};
-use crate::crewing;
-use crate::types::{PtChild, PtChildSpec, PtJob, PtSupervisorSpec};
+use crate::types::{PtChild, PtChildCounts, PtChildSpec, PtGaveUp, PtJob, PtSupervisorSpec};
+use crate::{children, crewing};
 use pt_events::Stamped;
 use pt_node::{Desk, Pid};
 use pt_places::ending::end_code;
@@ -381,6 +383,102 @@ pub fn child_at(alloc: Global, c: &mut CrewHandle, p: Pid, place: usize, out: &m
     };
     let code = match &held.crew {
         Some(crew) => crewing::child_at(crew, p, place, out),
+        None => EMPTY,
+    };
+    *c = hold(held);
+    code
+}
+
+pub fn start_child(
+    alloc: Global,
+    c: &mut CrewHandle,
+    p: Pid,
+    child: PtChildSpec,
+    out: &mut usize,
+) -> u32
+    ensures { CallsThrough c.old.state c.new.state result (out.new ≡ out.old)
+        (λ old new. CrewStartsChild p child result out.old out.new old new) }
+{
+    let Some(mut held) = claim(alloc, c) else {
+        return EMPTY;
+    };
+    let code = match &mut held.crew {
+        Some(crew) => children::start_child(crew, p, child, out),
+        None => EMPTY,
+    };
+    *c = hold(held);
+    code
+}
+
+pub fn terminate_child(alloc: Global, c: &mut CrewHandle, p: Pid, tag: u64) -> u32
+    ensures { CallsThrough c.old.state c.new.state result (Unit {0})
+        (λ old new. CrewTerminatesChild p tag result old new) }
+{
+    let Some(mut held) = claim(alloc, c) else {
+        return EMPTY;
+    };
+    let code = match &mut held.crew {
+        Some(crew) => children::terminate_child(crew, p, tag),
+        None => EMPTY,
+    };
+    *c = hold(held);
+    code
+}
+
+pub fn restart_child(alloc: Global, c: &mut CrewHandle, p: Pid, tag: u64) -> u32
+    ensures { CallsThrough c.old.state c.new.state result (Unit {0})
+        (λ old new. CrewRestartsChild p tag result old new) }
+{
+    let Some(mut held) = claim(alloc, c) else {
+        return EMPTY;
+    };
+    let code = match &mut held.crew {
+        Some(crew) => children::restart_child(crew, p, tag),
+        None => EMPTY,
+    };
+    *c = hold(held);
+    code
+}
+
+pub fn delete_child(alloc: Global, c: &mut CrewHandle, p: Pid, tag: u64, out: &mut usize) -> u32
+    ensures { CallsThrough c.old.state c.new.state result (out.new ≡ out.old)
+        (λ old new. CrewDeletesChild p tag result out.old out.new old new) }
+{
+    let Some(mut held) = claim(alloc, c) else {
+        return EMPTY;
+    };
+    let code = match &mut held.crew {
+        Some(crew) => children::delete_child(crew, p, tag, out),
+        None => EMPTY,
+    };
+    *c = hold(held);
+    code
+}
+
+pub fn count_children(alloc: Global, c: &mut CrewHandle, p: Pid, out: &mut PtChildCounts) -> u32
+    ensures { ReadsThrough c.old.state c.new.state result (out.new ≡ out.old)
+        (λ crew. TellsCounts crew p result out.old out.new) }
+{
+    let Some(held) = claim(alloc, c) else {
+        return EMPTY;
+    };
+    let code = match &held.crew {
+        Some(crew) => children::count_children(crew, p, out),
+        None => EMPTY,
+    };
+    *c = hold(held);
+    code
+}
+
+pub fn gave_up(alloc: Global, c: &mut CrewHandle, p: Pid, out: &mut PtGaveUp) -> u32
+    ensures { ReadsThrough c.old.state c.new.state result (out.new ≡ out.old)
+        (λ crew. TellsCause crew p result out.old out.new) }
+{
+    let Some(held) = claim(alloc, c) else {
+        return EMPTY;
+    };
+    let code = match &held.crew {
+        Some(crew) => children::gave_up(crew, p, out),
         None => EMPTY,
     };
     *c = hold(held);

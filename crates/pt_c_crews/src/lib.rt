@@ -19,6 +19,8 @@
 //!   place, its supervisor, and whether a child in that place had exited. No wake-up is lost. (`CrewSteps`, `HandsOutRow`)
 //! - **Answers.** An answer is that of `Scheduler`. Of a row of answers each is taken up to the first that is refused. A
 //!   running process may be answered that it is a supervisor. (`TakesAnswers`, `CrewSupervises`)
+//! - **Children at run time.** What a supervisor is asked about its children is that of `Scheduler`, and each refusal has its
+//!   code. (`CrewAsks`)
 //! - **Handles.** Opening, the time and a row of answers leave in the handle what `Scheduler` promises. If a call fails, the
 //!   handle is as it was. (`OpensCrew`, `SetsCrewTime`, `AnswersInOrder`)
 //! - **Going on.** Each crew of a row goes on with the history, as `Scheduler` does. (`AllCrewsGoOn`)
@@ -26,6 +28,7 @@
 #![tactic(auto)]
 
 pub mod calls;
+pub mod children;
 pub mod crew_handle;
 pub mod crewing;
 pub mod crossing;

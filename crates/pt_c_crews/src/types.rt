@@ -48,6 +48,36 @@ pub struct PtChild {
     pub time: u64,
 }
 
+/// How many children a supervisor has.
+#[repr(C)]
+#[derive(Clone, Copy)]
+pub struct PtChildCounts {
+    /// All, alive or not.
+    pub specs: usize,
+    /// Those that are alive, by all that the supervisor has heard.
+    pub active: usize,
+    /// Those that it is to start.
+    pub restarting: usize,
+}
+
+/// Why a supervisor gave up: a child exited that was to be started again, and its limit allowed no further restart.
+#[repr(C)]
+#[derive(Clone, Copy)]
+pub struct PtGaveUp {
+    /// The tag of that child.
+    pub tag: u64,
+    /// The place of that child.
+    pub place: usize,
+    /// The reason with which it exited.
+    pub reason: PtReason,
+    /// How many restarts the supervisor had made within the span.
+    pub restarts: usize,
+    /// The span of the limit.
+    pub span: u64,
+    /// Whether the span is one of time, and not of stamps.
+    pub timed: bool,
+}
+
 /// What a process of a crew is told. The codes are:
 ///
 /// - 0: it begins. If a supervisor started it, that is `supervisor`, and `again` is whether a child in the same place had

@@ -2,7 +2,9 @@
 -- fields have the numbers 1, 2, 3 and so on in order, a bool being true.
 use Rattle.std.specs.Prelude.{true}
 use Rattle.pt_c_crews.specs.declared.types.PtChild.{PtChild}
+use Rattle.pt_c_crews.specs.declared.types.PtChildCounts.{PtChildCounts}
 use Rattle.pt_c_crews.specs.declared.types.PtChildSpec.{PtChildSpec}
+use Rattle.pt_c_crews.specs.declared.types.PtGaveUp.{PtGaveUp}
 use Rattle.pt_c_crews.specs.declared.types.PtSupervisorSpec.{PtSupervisorSpec}
 use Rattle.pt_calls.specs.declared.about_supervisors.PtSupervisorCodes.{PtSupervisorCodes}
 use Rattle.pt_calls.specs.About.{sample_pid}
@@ -21,6 +23,11 @@ all_supervisor_codes = record {
   supervisor_spec = 40;
   child_spec = 24;
   child = 32;
+  child_running = 23;
+  child_restarting = 24;
+  child_present = 25;
+  child_counts = 24;
+  gave_up = 48;
 }
 
 abbrev pub sample_supervisor_spec : PtSupervisorSpec
@@ -38,3 +45,16 @@ sample_child_spec = record { tag = 1; restart = 2; shutdown = 3; time = 4 }
 
 abbrev pub sample_child : PtChild
 sample_child = record { has_pid = true; wanted = true; pid = sample_pid 3; restart = 6; shutdown = 7; time = 8 }
+
+abbrev pub sample_child_counts : PtChildCounts
+sample_child_counts = record { specs = 1; active = 2; restarting = 3 }
+
+abbrev pub sample_gave_up : PtGaveUp
+sample_gave_up = record {
+  tag = 1;
+  place = 2;
+  reason = record { code = 3; number = 4 };
+  restarts = 5;
+  span = 6;
+  timed = true;
+}

@@ -2,10 +2,13 @@
 
 ghost use Rattle.std.specs.Prelude.{◌≡◌};
 ghost use Rattle.pt_calls.specs.AboutSupervisors.{all_supervisor_codes, sample_child, sample_child_spec, sample_supervisor_spec};
+ghost use Rattle.pt_calls.specs.AboutSupervisors.{sample_child_counts, sample_gave_up};
 
 use crate::about::sample_pid;
+use pt_c_crews::children::{CHILD_PRESENT, CHILD_RESTARTING, CHILD_RUNNING};
 use pt_c_crews::crossing::{restart_code, shutdown_code, strategy_code};
-use pt_c_crews::types::{PtChild, PtChildSpec, PtSupervisorSpec};
+use pt_c_crews::types::{PtChild, PtChildCounts, PtChildSpec, PtGaveUp, PtSupervisorSpec};
+use pt_structs::types::PtReason;
 use pt_supervisor::{Restart, Shutdown, Strategy};
 use std::mem::size_of;
 
@@ -25,6 +28,11 @@ pub struct PtSupervisorCodes {
     pub supervisor_spec: usize,
     pub child_spec: usize,
     pub child: usize,
+    pub child_running: u32,
+    pub child_restarting: u32,
+    pub child_present: u32,
+    pub child_counts: usize,
+    pub gave_up: usize,
 }
 
 /// Writes each code, from the same functions as the calls, and the sizes.
@@ -44,6 +52,11 @@ pub fn supervisors(out: &mut PtSupervisorCodes)
         supervisor_spec: size_of::<PtSupervisorSpec>(),
         child_spec: size_of::<PtChildSpec>(),
         child: size_of::<PtChild>(),
+        child_running: CHILD_RUNNING,
+        child_restarting: CHILD_RESTARTING,
+        child_present: CHILD_PRESENT,
+        child_counts: size_of::<PtChildCounts>(),
+        gave_up: size_of::<PtGaveUp>(),
     };
 }
 
@@ -84,5 +97,30 @@ pub fn child(out: &mut PtChild)
         restart: 6,
         shutdown: 7,
         time: 8,
+    };
+}
+
+/// Writes a sample of how many children a supervisor has: its fields have the numbers 1, 2, 3 in order.
+pub fn child_counts(out: &mut PtChildCounts)
+    ensures { out.new ≡ sample_child_counts }
+{
+    *out = PtChildCounts {
+        specs: 1,
+        active: 2,
+        restarting: 3,
+    };
+}
+
+/// Writes a sample of why a supervisor gave up: its fields have the numbers 1, 2, 3 and so on in order, a bool being true.
+pub fn gave_up(out: &mut PtGaveUp)
+    ensures { out.new ≡ sample_gave_up }
+{
+    *out = PtGaveUp {
+        tag: 1,
+        place: 2,
+        reason: PtReason { code: 3, number: 4 },
+        restarts: 5,
+        span: 6,
+        timed: true,
     };
 }

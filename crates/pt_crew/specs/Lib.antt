@@ -8,3 +8,4 @@ pub mod Upholding
 pub mod Stepping
 pub mod Parts
 pub mod Running
+pub mod Redirecting

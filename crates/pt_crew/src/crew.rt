@@ -367,7 +367,7 @@ impl<B: Behaviour + Drop> Crew<B> {
     }
 
     /// Sets what a process of the crew does next.
-    fn set_next(&mut self, p: Pid, next: Next)
+    pub(crate) fn set_next(&mut self, p: Pid, next: Next)
         ensures none { roles self.old p ≡ None → IsSame self.old self.new }
         ensures set { (b : B) (n : Next) → roles self.old p ≡ Some (b, n)
             → AreWith p (Some (b, next)) (roles self.old) (roles self.new) }
@@ -423,7 +423,7 @@ impl<B: Behaviour + Drop> Crew<B> {
     /// Puts p into the queue, if it is of the crew and not there yet. Its timer goes: if it still waits after it ran, it
     /// gets one anew.
     #[inline(always)]
-    fn wake(&mut self, p: Pid) -> Result<(), AllocError>
+    pub(crate) fn wake(&mut self, p: Pid) -> Result<(), AllocError>
         ensures wakes { OnOk result (Wakes p self.old self.new) }
         ensures keys { keys_of self.new.members.entries ≡ keys_of self.old.members.entries }
         ensures refused { OnErr result (IsSame self.old self.new) }

@@ -38,6 +38,8 @@
 //!   (`BeginsStep`, `Serves`, `EndsStep`)
 //! - **Running.** A process that is running gets nothing until it is answered, and does next what was answered. If it
 //!   exits meanwhile, it leaves. (`IsAnswered`)
+//! - **Redirecting.** The program may say at any time what a process does next in place of what it was to do. It is in the
+//!   queue then. (`IsRedirected`)
 //! - **Idle.** `is_idle` and `are_idle` say whether no process has anything to do.
 #![tactic(auto)]
 
@@ -47,6 +49,7 @@ mod call_fault;
 mod calls;
 mod crew;
 mod hints;
+mod redirect;
 mod running;
 mod upholds;
 

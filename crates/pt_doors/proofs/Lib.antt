@@ -1,3 +1,4 @@
 -- The lemmas that the functions use.
 pub mod Handing
 mod Posting
+mod Handles

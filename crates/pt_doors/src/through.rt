@@ -1,7 +1,7 @@
 //! The calls of a way in through its handles, with plain structs and codes.
 
-ghost use Rattle.std.specs.Prelude.{◌≡◌, length};
-ghost use Rattle.pt_places.specs.Places.{CallsThrough, ReadsThrough};
+ghost use Rattle.std.specs.Prelude.{◌≡◌};
+ghost use Rattle.pt_places.specs.Places.{CallsThrough};
 ghost use Rattle.pt_doors.specs.Crossing.{LooksInCode, OpensWayIn, PostsCode, TakesCode, post_in, post_out, sample_post};
 
 use crate::door::{Door, Post, WayIn, open};

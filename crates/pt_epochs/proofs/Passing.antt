@@ -1,5 +1,5 @@
 -- Epochs, one behind the other.
-use Rattle.std.proofs.Common.{◌≡◌, ℕ, zero, suc, ◌<◌, Bool, List, [], max, Some, Ok, refl, sym, ap, ◌∙◌, subst}
+use Rattle.std.proofs.Common.{◌≡◌, ℕ, zero, suc, ◌+◌, ◌<◌, Bool, List, [], ◌++◌, max, Some, None, Ok, refl, sym, ap, ◌∙◌, subst, arith}
 use Rattle.pt_events.specs.declared.event.Stamped.{Stamped}
 use Rattle.pt_events.specs.History.{Past}
 use Rattle.pt_gathered.specs.Gathered.{GatheredState}
@@ -20,9 +20,10 @@ use Rattle.pt_epochs.specs.declared.epochs.Pause.{Pause}
 use Rattle.pt_epochs.specs.declared.epochs.Pause.TheVariants.{Idle, Stopped, Full, Told, Asked, Spent}
 use Rattle.pt_epochs.specs.declared.epochs.Outcome.{Outcome}
 use Rattle.pt_epochs.specs.declared.epochs.Outcome.TheVariants as outcome
+use Rattle.pt_epochs.specs.declared.halted.Halted.{Halted}
 use Rattle.pt_epochs.specs.Idle.{EndsBy, InTurns, Worked}
 use Rattle.pt_epochs.specs.Epochs.{AllAttend}
-use Rattle.pt_epochs.specs.Running.{EndsPaused, EndsRun, EndsWithOne, GoesFurther, Manned, PassEach, PassesOne, RunsToPause, outcome_of, worked}
+use Rattle.pt_epochs.specs.Running.{EndsPaused, EndsRun, EndsWithOne, GoesFurther, HaltsOne, HaltsRun, Manned, PassEach, PassesAsOne, PassesOne, RunsToPause, outcome_of, worked}
 use Rattle.pt_epochs.proofs.Attending.{leg_attends, legs_attend, resumed_attends}
 use Rattle.pt_epochs.proofs.Whole.{ends_past, legs_past}
 
@@ -68,6 +69,33 @@ module _ {B : Type 0} (Runs : ℕ → List (DeskState × Crew B) → List (DeskS
     ends_run most n outcome.Counted all old new within e = absurd (not_counted e.pause e.why_is)
     ends_run most n outcome.Idle all old new within e = (n, within, e)
     ends_run most n outcome.Told all old new within e = (n, within, e)
+
+    module _ (n : ℕ) (before : List Stamped) (first mid : Manned B S) (passed : PassEach Runs plan Takes Refuses n before first mid) where
+      -- behind so many one halts
+      pub halts_after : (halted : Halted) (later : List (Crew B)) (after : S) → n < plan.epochs → HaltsOne Runs plan Takes Refuses mid halted later after → HaltsRun Runs plan Takes Refuses plan.epochs first halted later after
+      halts_after halted later after within halts =
+          record { n = n; within = within; before = before; mid = mid; passed = passed; halts = halts; whole = each_whole n before first mid passed }
+
+      module _ (pause : Pause) (history : List Stamped) (new : Manned B S) (one : PassesOne Runs plan Takes Refuses pause history mid new) where
+        -- or one more passes, and the run ends
+        pub ends_after : (why : Outcome) → n < plan.epochs → outcome_of pause ≡ Some why → PassesAsOne Runs plan Takes Refuses plan.epochs why first new
+        ends_after why within is = record {
+          all = before ++ history;
+          passes = ends_run plan.epochs n why (before ++ history) first new within
+              (record { before = before; history = history; mid = mid; pause = pause; all_is = refl; passed = passed; last = one; why_is = is });
+          whole = one_after before history first.desks mid.desks new.desks (each_whole n before first mid passed) (passes_whole pause history mid new one);
+        }
+
+        -- or it goes on
+        pub goes_after : outcome_of pause ≡ None → PassEach Runs plan Takes Refuses (n + 1) (before ++ history) first new
+        goes_after is =
+            let next : suc n ≡ n + 1 = omega arith in
+            subst (λ k. PassEach Runs plan Takes Refuses k (before ++ history) first new) next (before, history, mid, pause, refl, passed, one, is)
+
+      -- or these were all
+      pub all_after : n ≡ plan.epochs → PassesAsOne Runs plan Takes Refuses plan.epochs outcome.Counted first mid
+      all_after all =
+          record { all = before; passes = subst (λ k. PassEach Runs plan Takes Refuses k before first mid) all passed; whole = each_whole n before first mid passed }
 
 module _ {B : Type 0} (answers : Answers B) (lets : DeskState × Crew B → ℕ → Bool → Type 0) (plan : Plan) where
   abbrev Runs : ℕ → List (DeskState × Crew B) → List (DeskState × Crew B) → Type 0

@@ -1,17 +1,24 @@
 -- Crews that run until they are to pause.
-use Rattle.std.proofs.Common.{ℕ, ◌<◌, ◌≤◌, List, max, Some, None, Ok, Err, sym, subst}
+use Rattle.std.proofs.Common.{◌≡◌, ℕ, ◌-◌, ◌<◌, ◌≤◌, List, max, Option, Some, None, Ok, Err, sym, subst}
 use Rattle.pt_desk.specs.DeskState.{DeskState}
 use Rattle.pt_workers.specs.declared.run_fault.RunFault.{RunFault}
 use Rattle.pt_workers.specs.declared.run_fault.RunFault.TheVariants as fault
 use Rattle.pt_workers.specs.declared.stillness.Rested.{Rested}
+use Rattle.pt_workers.specs.declared.stillness.Stopped.{Stopped as StoppedTurn}
 use Rattle.pt_crew.specs.declared.crew.Crew.{Crew}
 use Rattle.pt_epochs.specs.declared.epochs.Plan.{Plan}
 use Rattle.pt_epochs.specs.declared.epochs.Pause.{Pause}
 use Rattle.pt_epochs.specs.declared.epochs.Pause.TheVariants.{Idle, Stopped, Full, Told, Asked, Spent}
 use Rattle.pt_epochs.specs.Idle.{DoneLeg, Legs, RunsLeg, Worked, leg_turns}
 use Rattle.pt_epochs.specs.Running.{EndsPaused, GoesFurther, PausesAs, RunsToPause}
-use Rattle.pt_epochs.proofs.Legs.{SoFar, ended, refused_then}
+use Rattle.pt_epochs.proofs.Legs.{SoFar, ended, one_more, refused_then}
 use Rattle.pt_epochs.proofs.Idling.{goes, rests, stopped_goes}
+
+-- crews and desks that are the same pause alike
+pub pauses_alike : {B : Type 0} (events : ℕ) (stopped : Option StoppedTurn) (pause : Option Pause) (crews later : List (Crew B)) (desks new : List DeskState)
+    → crews ≡ later → desks ≡ new → PausesAs events crews desks stopped pause → PausesAs events later new stopped pause
+pauses_alike events stopped pause crews later desks new same_crews same_desks h =
+    subst (λ ks. PausesAs events ks new stopped pause) same_crews (subst (λ ds. PausesAs events crews ds stopped pause) same_desks h)
 
 module _ {B : Type 0} (Runs : ℕ → List (DeskState × Crew B) → List (DeskState × Crew B) → Type 0) (plan : Plan) (old : Worked (Crew B)) where
   abbrev Far : ℕ → Worked (Crew B) → Type 0
@@ -31,5 +38,8 @@ module _ {B : Type 0} (Runs : ℕ → List (DeskState × Crew B) → List (DeskS
     paused Told h = ended Runs plan.budget (GoesFurther plan.events) (max plan.turns 1) old (EndsPaused plan.events Told) left turns now did new far le some done (h.0, record { still = done.still h.0; busy = goes Runs plan.budget new h.1; short = h.2 })
     paused Asked h = ended Runs plan.budget (GoesFurther plan.events) (max plan.turns 1) old (EndsPaused plan.events Asked) left turns now did new far le some done (h.0, record { still = done.still h.0; busy = goes Runs plan.budget new h.1; short = h.2 })
 
-    pub goes_further : PausesAs plan.events new.works new.desks did.stopped None → GoesFurther plan.events new
-    goes_further h = record { still = done.still h.0; busy = goes Runs plan.budget new h.1; short = h.2 }
+    -- or the crews go on
+    pub goes_far : PausesAs plan.events new.works new.desks did.stopped None → Far (left - turns) new
+    goes_far h =
+        one_more Runs plan.budget (GoesFurther plan.events) (max plan.turns 1) old left turns now did new far le done h.0
+        (record { still = done.still h.0; busy = goes Runs plan.budget new h.1; short = h.2 })

@@ -23,13 +23,13 @@ use Rattle.pt_gathered.proofs.Overs.{over_both, over_right}
 use Rattle.pt_gathered.proofs.Owned.{life_same, local_same, posts_same}
 use Rattle.pt_auditor.specs.declared.foreign.Foreign.{Foreign}
 use Rattle.pt_auditor.specs.Foreigners.{IsOrigin}
-use Rattle.pt_auditor.specs.Passing.{PassesAudit, JournalsPass, CallsPass, AllCalledHere, AreOfOneNode, each_below, left_in_lane, left_in_turn}
+use Rattle.pt_history.specs.Passing.{PassesAudit, JournalsPass, CallsPass, AllCalledHere, AreOfOneNode, left_in_turn}
 use Rattle.pt_history.specs.Calling.{IsCalledDesk}
 
 -- the lists are the same, one for one
-each_same : (f h : ℕ → List LeftOver) (n : ℕ) → ((k : ℕ) → k < n → f k ≡ h k) → joined_letters f n ≡ each_below h n
+each_same : (f h : ℕ → List LeftOver) (n : ℕ) → ((k : ℕ) → k < n → f k ≡ h k) → joined_letters f n ≡ joined_letters h n
 each_same f h zero are = refl
-each_same f h (suc n) are = ap (λ z. z ++ f n) (each_same f h n (λ k l. are k (omega (arith, l)))) ∙ ap (λ z. each_below h n ++ z) (are n (omega arith))
+each_same f h (suc n) are = ap (λ z. z ++ f n) (each_same f h n (λ k l. are k (omega (arith, l)))) ∙ ap (λ z. joined_letters h n ++ z) (are n (omega arith))
 
 module _ (g : GatheredState) (whole : IsGathered g) (from : GoesOnBut [] g) where
   -- nobody was before
@@ -85,8 +85,8 @@ module _ (g : GatheredState) (whole : IsGathered g) (from : GoesOnBut [] g) wher
 
   left_is : all_left g ≡ left_in_turn (over g) (length g.shards)
   left_is =
-      each_same (λ d. joined_letters (λ e. map (from_to d e) (over_in g.shards g.lanes d e)) (length g.shards)) (λ d. each_below (λ e. map (left_in_lane d e) (over g d e)) (length g.shards)) (length g.shards)
-      (λ d h. each_same (λ e. map (from_to d e) (over_in g.shards g.lanes d e)) (λ e. map (left_in_lane d e) (over g d e)) (length g.shards)
+      each_same (λ d. joined_letters (λ e. map (from_to d e) (over_in g.shards g.lanes d e)) (length g.shards)) (λ d. joined_letters (λ e. map (from_to d e) (over g d e)) (length g.shards)) (length g.shards)
+      (λ d h. each_same (λ e. map (from_to d e) (over_in g.shards g.lanes d e)) (λ e. map (from_to d e) (over g d e)) (length g.shards)
       (λ e k. ap (map (from_to d e)) (sym (over_both g d e h k))))
 
   pub node_passes : JournalsPass → (merged : List Stamped) → IsMerge (journals g) merged → PassesAudit merged (reverse (all_left g))

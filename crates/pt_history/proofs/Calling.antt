@@ -37,7 +37,7 @@ use Rattle.pt_desk.specs.Reaching.{Looks, Reaches, has_link_to_make, has_monitor
 use Rattle.pt_desk.specs.Sight.{Sight, AllSeen, HasEndOf, IsSeen}
 use Rattle.pt_auditor.specs.Seen.{has_seen, is_slot_of, shows_end}
 use Rattle.pt_auditor.specs.Foreigners.{GoesToNoEnded, GoesToNoneSeen, IsNodeSlot, IsNodeVersion, reaches}
-use Rattle.pt_auditor.specs.Passing.{AllCalledHere, IsCalledHere, IsInTimeHere}
+use Rattle.pt_history.specs.Passing.{AllCalledHere, IsCalledHere, IsInTimeHere}
 use Rattle.pt_history.specs.Calling.{IsCalledDesk, CallsKeep}
 use Rattle.pt_history.proofs.Watched.{target_named}
 

@@ -18,7 +18,7 @@ use Rattle.pt_events.specs.History.{Phase, unborn, living, ended, Start, life, c
 use Rattle.pt_events.specs.Journal.{Journals, events}
 use Rattle.pt_shard.specs.ShardState.{ShardState, lives, past, state_in}
 use Rattle.pt_auditor.specs.Foreigners.{IsNodeSlot, IsNodeVersion}
-use Rattle.pt_auditor.specs.Passing.{AllCalledHere}
+use Rattle.pt_history.specs.Passing.{AllCalledHere}
 
 abbrev AreNamed : List (Ref × Pid) → Type 0
 AreNamed [] = ⊤

@@ -8,7 +8,7 @@ use Rattle.pt_gathered.specs.Pasts.{GoesOnBut}
 use Rattle.pt_shard.specs.ShardState.{ShardState}
 use Rattle.pt_auditor.specs.declared.foreign.Foreign.{Foreign}
 use Rattle.pt_auditor.specs.Foreigners.{IsOrigin}
-use Rattle.pt_auditor.specs.Passing.{PassesAudit}
+use Rattle.pt_history.specs.Passing.{PassesAudit}
 use Rattle.pt_history.specs.Calling.{IsCalledDesk}
 
 -- nothing was before it: the events of its desks, merged, and the letters left over, in the order in which it lists them

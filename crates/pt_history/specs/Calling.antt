@@ -19,7 +19,7 @@ use Rattle.pt_shard.specs.Known.{knows}
 use Rattle.pt_shard.specs.ShardState.{ShardState, Handles, lives, state_in}
 use Rattle.pt_desk.specs.DeskState.{DeskState, IsDesk}
 use Rattle.pt_desk.specs.Reaching.{Reaches, has_link_to_make, has_monitor_to_make}
-use Rattle.pt_auditor.specs.Passing.{AllCalledHere}
+use Rattle.pt_history.specs.Passing.{AllCalledHere}
 
 -- all that the desk wrote is as the audit has it, where these are the journals of all desks
 abbrev pub IsCalledDesk : Journals → ShardState → Type 0

@@ -1,11 +1,11 @@
 //! The laws of histories: each is the contract of a function that does nothing.
 
 ghost use Rattle.pt_history.specs.Words.{TrapIsLastFlag, PeersSince, OpenSince, IsOpenSince};
+ghost use Rattle.pt_history.specs.Passing.{CallsPass, JournalsPass};
 ghost use Rattle.pt_history.specs.Audited.{NodeCallsPass, NodesPass};
 ghost use Rattle.pt_history.specs.Calling.{DesksKeep};
 ghost use Rattle.pt_history.specs.Examples.{TenLines, Cascade, EarlyLink};
 
-pub use pt_auditor::journals_pass;
 pub use pt_laws::laws::{
     acts_may_come, alive_until_its_end, answers_are_true, headline_holds, journals_have_one_merge,
     journals_tell_their_pids, links_are_held_since, lives_once, load_by_desk_falls, merge_is_legal,
@@ -40,6 +40,17 @@ pub fn worked_histories()
     ensures ten_lines { TenLines }
     ensures cascade { Cascade }
     ensures early_link { EarlyLink }
+{}
+
+/// The history of a node on which nobody was before passes: no event and no letter left over is objected to, and at the
+/// end nothing is untold.
+///
+/// If the audit names a line that no node prints, this is an event, and the reason is `Slot`, `NoVersion`, `Ended`, `Seen`
+/// or `OtherStamp` (`journals`). It names none if all that each desk wrote is what its calls and receipts promise, by the
+/// journal of that desk alone (`calls`).
+pub fn journals_pass()
+    ensures journals { JournalsPass }
+    ensures calls { CallsPass }
 {}
 
 /// The history of a node passes the audit, whether letters are left over or not. Nobody was on the node before.

@@ -63,6 +63,8 @@
 //!   exited. (`monitors_are_open_since`)
 //! - **Early links.** Two histories show why the law on links requires that a child is spawned before its parent links
 //!   to it. (`early_link_unknown`, `early_link_abroad`)
+//! - **True histories pass.** The merge of lawful journals that agree is objected to in no line. A line of it is named for
+//!   one of five reasons alone, and none is if the calls of each desk do what they promise. (`journals_pass`)
 //! - **Audits.** The history of a gathered node on which nobody was before passes the audit. No line is objected to, and none
 //!   is named but for one of five reasons. (`node_histories_pass`)
 //! - **Calls and audits.** For these five none is named, either, if each desk keeps what each of its calls keeps.

@@ -13,7 +13,7 @@ use Rattle.pt_table.specs.InOrder.{are_in_order}
 use Rattle.pt_nodes.specs.Nodes.{AreAllFull, GathersAs, GathersWhole, Joins, SettlesAs, IsSettledOf, NotSettled, ListsAs, ListsOne, in_order}
 use Rattle.pt_places.specs.Filling.{IfEmpty}
 use Rattle.pt_places.proofs.Empty.{if_empty}
-use Rattle.pt_table.proofs.InRow.{first_value}
+use Rattle.pt_places.proofs.InRow.{first_value}
 
 module _ {S : Type 0} where
   pub place_is : (p : HandlePlace S) (s : S) → value_behind p ≡ Some s → p ≡ full s

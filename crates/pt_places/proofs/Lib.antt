@@ -2,3 +2,6 @@
 pub mod Values
 pub mod Handles
 pub mod Empty
+pub mod Walks
+pub mod InRow
+pub mod AlongRow

@@ -1,7 +1,7 @@
 //! What the handles of C have in common: a box as its pointer, what a handle owns, and what a call does through one.
 //!
 //! A handle is a struct of one pointer, null if it has nothing. Each type of handle is a struct of its own, since the
-//! toolchain takes no type parameter there. Its proof is made of the lemmas here.
+//! toolchain takes no type parameter there. The walks of its functions are proved here, once for all types.
 //!
 //! Tests: `bindings/run.sh`.
 //!

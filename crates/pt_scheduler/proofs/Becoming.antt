@@ -23,7 +23,7 @@ use Rattle.pt_scheduler.specs.Scheduling.{SchedulerAttends, BecomesBoss, IsNewBo
 use Rattle.pt_scheduler.specs.Taken.{SetsBoss, StaysElse}
 use Rattle.pt_scheduler.proofs.Noting.{attends_then, changed_comes, fresh_is}
 
-both : (old mid new : Roles Member) (p : Pid) (x y : Member × Next) → AreWith p (Some x) old mid → AreWith p (Some y) mid new → AreWith p (Some y) old new
+pub both : (old mid new : Roles Member) (p : Pid) (x y : Member × Next) → AreWith p (Some x) old mid → AreWith p (Some y) mid new → AreWith p (Some y) old new
 both old mid new p x y first second q = by_cases (same_pid p q)
     (λ same. there mid new p (Some y) second q same ∙ sym (ap (λ (c : Bool). cond c (Some y) (old q)) same))
     (λ other. elsewhere mid new p (Some y) second q other ∙ elsewhere old mid p (Some x) first q other ∙ sym (ap (λ (c : Bool). cond c (Some y) (old q)) other))

@@ -8,5 +8,6 @@ pub mod Pulls
 pub mod Filling
 pub mod Upheld
 pub mod Becoming
+pub mod Asking
 pub mod Idle
 pub mod Keeping

@@ -91,7 +91,7 @@ module _ (past : Past) where
   upholds_is old new d same u = upholds_same old new d (λ q. ap (option_map role) (same.members q)) same.rest.waiting u
 
   -- p is another one, of whom it holds
-  stands_with : (old new : Roles Member) (d : ShardState) (p : Pid) (b : Member) (n : Next) → AreWith p (Some (b, n)) old new → (is_unborn (phase_of d p) ≡ false) × HoldsAs past (boss_part b) n p d → AllStand (Keeps past boss_part) old d → AllStand (Keeps past boss_part) new d
+  pub stands_with : (old new : Roles Member) (d : ShardState) (p : Pid) (b : Member) (n : Next) → AreWith p (Some (b, n)) old new → (is_unborn (phase_of d p) ≡ false) × HoldsAs past (boss_part b) n p d → AllStand (Keeps past boss_part) old d → AllStand (Keeps past boss_part) new d
   stands_with old new d p b n now here a q r is = by_cases (same_pid p q)
       (λ same.
       let r_is : (b, n) ≡ r = same_some (b, n) r (sym (there old new p (Some (b, n)) now q same) ∙ is) in

@@ -5,3 +5,5 @@ pub mod Members
 pub mod Scheduling
 pub mod Taken
 pub mod Owning
+pub mod Asking
+pub mod Out

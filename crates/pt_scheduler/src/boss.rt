@@ -7,14 +7,18 @@ ghost use Rattle.pt_desk.specs.DeskState.{GoesOn};
 ghost use Rattle.pt_signal.specs.Values.{is_pid};
 ghost use Rattle.pt_supervisor.specs.Ending.{child_end_heard};
 ghost use Rattle.pt_supervisor.specs.Hearing.{program_of, standing};
-ghost use Rattle.pt_supervisor.specs.Keeping.{BearsFrom, Tends};
+ghost use Rattle.pt_supervisor.specs.Changed.{RemembersWhere, next_due};
+ghost use Rattle.pt_supervisor.specs.Keeping.{BearsFrom, HoldsWhere, Tends};
+ghost use Rattle.pt_supervisor.specs.Seen.{children_counted};
+ghost use Rattle.pt_supervisor.specs.Supervising.{Supervises};
+ghost use Rattle.pt_scheduler.specs.Asking.{BossDeletes, BossRestarts, BossStarts, BossTerminates};
 ghost use Rattle.pt_scheduler.specs.Members.{BossHandles};
 ghost use Rattle.pt_scheduler.specs.Planning.{again_at, posts_heard, posts_of, starts_post};
 
 use crate::member::Member;
-use crate::plan::{Plan, mark};
+use crate::plan::{ChildSpec, Plan, delete_child, mark, start_child};
 use pt_crew::{Births, Next};
-use pt_supervisor::{Child, Supervisor};
+use pt_supervisor::{Child, ChildCounts, ChildFault, GaveUp, Supervisor};
 use pt_workers::{Desk, Item, Pid};
 use std::alloc::{AllocError, Global};
 use std::boxed::Box;
@@ -52,6 +56,64 @@ impl Boss {
         ensures { result.now ≡ (standing self.now).children }
     {
         self.supervisor.children()
+    }
+
+    /// How many children it has.
+    pub(crate) fn count_children(&self) -> ChildCounts
+        ensures { result ≡ children_counted (standing self.now).children }
+    {
+        self.supervisor.count_children()
+    }
+
+    /// Why it gave up, if it has.
+    pub(crate) fn gave_up(&self) -> Option<GaveUp>
+        ensures { result ≡ (standing self.now).gave_up }
+    {
+        self.supervisor.gave_up()
+    }
+
+    /// What it does next as it stands.
+    pub(crate) fn due(&self) -> Next
+        ensures due { result ≡ next_due (standing self.now) }
+        ensures supervises { Supervises result (standing self.now) }
+    {
+        self.supervisor.due()
+    }
+
+    /// Takes in a child behind the others, with a place of its plan.
+    pub(crate) fn start_child(&mut self, spec: ChildSpec) -> Result<usize, ChildFault>
+        ensures starts { BossStarts spec self.old result self.new }
+        ensures holds { HoldsWhere (standing self.old) (standing self.new) }
+        ensures remembers { RemembersWhere (standing self.old) (standing self.new) }
+    {
+        start_child(&mut self.supervisor, spec)
+    }
+
+    /// Notes that a child is to end.
+    pub(crate) fn terminate_child(&mut self, id: u64) -> Result<(), ChildFault>
+        ensures terminates { BossTerminates id self.old result self.new }
+        ensures holds { HoldsWhere (standing self.old) (standing self.new) }
+        ensures remembers { RemembersWhere (standing self.old) (standing self.new) }
+    {
+        self.supervisor.terminate_child(id)
+    }
+
+    /// Notes that a child is to be started again.
+    pub(crate) fn restart_child(&mut self, id: u64) -> Result<(), ChildFault>
+        ensures restarts { BossRestarts id self.old result self.new }
+        ensures holds { HoldsWhere (standing self.old) (standing self.new) }
+        ensures remembers { RemembersWhere (standing self.old) (standing self.new) }
+    {
+        self.supervisor.restart_child(id)
+    }
+
+    /// Forgets a child, and its place in the plan.
+    pub(crate) fn delete_child(&mut self, id: u64) -> Result<usize, ChildFault>
+        ensures deletes { BossDeletes id self.old result self.new }
+        ensures holds { HoldsWhere (standing self.old) (standing self.new) }
+        ensures remembers { RemembersWhere (standing self.old) (standing self.new) }
+    {
+        delete_child(&mut self.supervisor, id)
     }
 
     /// Handles an item, or none. It notes before which child has exited.

@@ -14,7 +14,7 @@
 //! [`Scheduler::end_step`]. The handlers may run in between, or later: a process that has not been answered is running,
 //! and gets nothing.
 //!
-//! Tests: `checks/tried/test_calls/scheduler.rt.txt`.
+//! Tests: `checks/tried/test_calls/scheduler.rt.txt`, `checks/tried/test_calls/scheduler_children.rt.txt`.
 //!
 //! # What is proved
 //!
@@ -30,6 +30,9 @@
 //! - **Supervisors as they are.** A supervisor of a scheduler handles each item as `Supervisor::handle` does. So its
 //!   strategy, its limit and the order in which its children exit are those of `pt_supervisor`. (`RunsBoss`,
 //!   `BossHandles`)
+//! - **Children at run time.** A program asks a supervisor of a scheduler what `Supervisor` may be asked, each call exact and
+//!   with its refusals. The supervisor is in the queue then. (`start_child`, `terminate_child`, `restart_child`,
+//!   `delete_child`)
 //! - **Starts are told.** A child begins with the tag of its place. It is told first that it starts, by which supervisor,
 //!   and whether a child in the same place has exited before. (`starts_post`, `posts_heard`, `what_of`)
 //! - **Exits.** A process that has exited leaves once, supervisors too. A job tells its tag, the reason, and what it was to
@@ -52,6 +55,7 @@
 #![tactic(auto)]
 
 mod boss;
+mod children;
 mod member;
 mod plan;
 mod scheduler;

@@ -6,6 +6,7 @@ ghost use Rattle.pt_crew.specs.declared.behaviour.Next.TheVariants.{Running};
 ghost use Rattle.pt_scheduler.specs.Exits.{noted_reason, reason_told};
 ghost use Rattle.pt_supervisor.specs.Hearing.{standing};
 ghost use Rattle.pt_scheduler.specs.Planning.{new_child};
+ghost use Rattle.pt_scheduler.specs.Out.{IsApart};
 ghost use Rattle.pt_scheduler.specs.Members.{boss_part, member_answers, what_of, job_of_exit};
 
 use crate::boss::Boss;
@@ -201,6 +202,35 @@ impl Member {
             origin,
             notes,
             boss: Some(boss),
+        }
+    }
+
+    /// The supervisor that it is, if it is one, and the same process without it.
+    pub(crate) fn apart(self) -> Option<(Boss, Member)>
+        ensures { IsApart self result }
+    {
+        let Member {
+            tag,
+            origin,
+            notes,
+            boss,
+        } = self;
+        let rest = Member {
+            tag,
+            origin,
+            notes,
+            boss: None,
+        };
+        Some((boss?, rest))
+    }
+
+    /// The supervisor that it is, if it is one.
+    pub(crate) fn boss(&self) -> Option<&Boss>
+        ensures { option_copied result ≡ self.now.boss }
+    {
+        match &self.boss {
+            Some(boss) => Some(boss),
+            None => None,
         }
     }
 

@@ -1,15 +1,17 @@
 //! What a supervisor is made of, as plain data.
 
-ghost use Rattle.std.specs.Prelude.{◌≡◌, IfOk, map, slice_get};
+ghost use Rattle.std.specs.Prelude.{◌≡◌, ◌∷◌, ◌++◌, [], IfOk, OnErr, OnOk, false, length, map, remove, slice_get};
 ghost use Rattle.pt_crew.specs.declared.behaviour.Next.TheVariants.{Proceed};
 ghost use Rattle.pt_supervisor.specs.Hearing.{program_of, standing};
-ghost use Rattle.pt_supervisor.specs.Keeping.{SupervisorBegins};
+ghost use Rattle.pt_supervisor.specs.Changed.{RemembersWhere};
+ghost use Rattle.pt_supervisor.specs.Keeping.{HoldsWhere, SupervisorBegins};
+ghost use Rattle.pt_scheduler.specs.Asking.{AddsOrNot, BossDeletes, BossStarts, posts_started};
 ghost use Rattle.pt_scheduler.specs.Planning.{begun_as, child_as, post_as, post_at, posts_of, starts_post, with_again};
 
 use crate::boss::Boss;
 use crate::member::Member;
 use pt_crew::Next;
-use pt_supervisor::{Child, Limit, Restart, Shutdown, Start, Strategy, Supervisor};
+use pt_supervisor::{Child, ChildFault, Limit, Restart, Shutdown, Start, Strategy, Supervisor};
 use pt_workers::{Fault, Pid};
 use std::alloc::{AllocError, Global};
 
@@ -92,6 +94,42 @@ impl Plan {
         }
     }
 
+    /// The number of places.
+    fn len(&self) -> usize
+        ensures { result ≡ length (posts_of self.now) }
+    {
+        match &self.posts {
+            Some(posts) => posts.len(),
+            None => 0,
+        }
+    }
+
+    /// Takes in a place behind the others, of which no child has exited. It fails if there is no memory, and then nothing
+    /// has changed.
+    fn push(&mut self, tag: u64) -> Result<(), AllocError>
+        ensures pushes { OnOk result (posts_of self.new ≡ posts_of self.old ++ record { tag = tag; again = false } ∷ []) }
+        ensures refused { OnErr result (posts_of self.new ≡ posts_of self.old) }
+    {
+        match &mut self.posts {
+            Some(posts) => {
+                posts.push(Post { tag, again: false })?;
+                Ok(())
+            }
+            None => Err(AllocError),
+        }
+    }
+
+    /// Forgets the place at a number, if there is one: those behind it move up.
+    fn remove(&mut self, place: usize)
+        ensures { posts_of self.new ≡ remove (posts_of self.old) place }
+    {
+        if let Some(posts) = &mut self.posts {
+            if place < posts.len() {
+                let _ = posts.remove(place);
+            }
+        }
+    }
+
     /// Notes that the child at a place has exited.
     fn mark(&mut self, place: usize)
         ensures { posts_of self.new ≡ with_again place (posts_of self.old) }
@@ -129,18 +167,67 @@ pub(crate) fn mark(boss: &mut Supervisor<Plan>, place: usize)
     let _ = boss.replace_start(plan);
 }
 
+/// A child that has not been started.
+fn child_as(spec: ChildSpec) -> Child
+    ensures { result ≡ child_as spec }
+{
+    Child::new(spec.restart)
+        .ended_by(spec.shutdown)
+        .with_id(spec.tag)
+}
+
+/// A supervisor takes in a child behind the others, and a place of its plan.
+pub(crate) fn start_child(boss: &mut Supervisor<Plan>, spec: ChildSpec) -> Result<usize, ChildFault>
+    ensures starts { BossStarts spec boss.old result boss.new }
+    ensures holds { HoldsWhere (standing boss.old) (standing boss.new) }
+    ensures remembers { RemembersWhere (standing boss.old) (standing boss.new) }
+{
+    let mut plan = boss.replace_start(Plan::none());
+    let result = take_in(boss, &mut plan, spec);
+    let _ = boss.replace_start(plan);
+    result
+}
+
+/// A supervisor takes in a child behind the others, and its plan, which is apart, a place.
+fn take_in(
+    boss: &mut Supervisor<Plan>,
+    plan: &mut Plan,
+    spec: ChildSpec,
+) -> Result<usize, ChildFault>
+    ensures adds { AddsOrNot spec (standing boss.old) result (standing boss.new) }
+    ensures posts { posts_of plan.new ≡ posts_started spec result (posts_of plan.old) }
+    ensures holds { HoldsWhere (standing boss.old) (standing boss.new) }
+    ensures remembers { RemembersWhere (standing boss.old) (standing boss.new) }
+{
+    let last = plan.len();
+    if plan.push(spec.tag).is_err() {
+        return Err(ChildFault::Memory);
+    }
+    let result = boss.start_child(child_as(spec));
+    if result.is_err() {
+        plan.remove(last);
+    }
+    result
+}
+
+/// A supervisor forgets a child, and its plan the place.
+pub(crate) fn delete_child(boss: &mut Supervisor<Plan>, id: u64) -> Result<usize, ChildFault>
+    ensures deletes { BossDeletes id boss.old result boss.new }
+    ensures holds { HoldsWhere (standing boss.old) (standing boss.new) }
+    ensures remembers { RemembersWhere (standing boss.old) (standing boss.new) }
+{
+    let place = boss.delete_child(id)?;
+    let mut plan = boss.replace_start(Plan::none());
+    plan.remove(place);
+    let _ = boss.replace_start(plan);
+    Ok(place)
+}
+
 /// The children of a new supervisor.
 fn children_of(alloc: Global, specs: &[ChildSpec]) -> Result<Vec<Child>, AllocError>
     ensures { IfOk result (λ v. v.items ≡ map child_as specs.now) }
 {
-    specs
-        .iter()
-        .map(|spec| {
-            Child::new(spec.restart)
-                .ended_by(spec.shutdown)
-                .with_id(spec.tag)
-        })
-        .collect(alloc)
+    specs.iter().map(|spec| child_as(*spec)).collect(alloc)
 }
 
 /// The places of a new supervisor.

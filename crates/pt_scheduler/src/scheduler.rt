@@ -37,7 +37,7 @@ use std::alloc::{AllocError, Global};
 /// it, whether it has been told anything, what it does next, and the supervisor that it is.
 #[derive(Drop)]
 pub struct Scheduler {
-    crew: Crew<Member>,
+    pub(crate) crew: Crew<Member>,
     /// The number of events of the journal whose exits were noted.
     read: usize,
     /// The number of its desk, once a call was made with it.
@@ -578,7 +578,7 @@ impl Scheduler {
     }
 
     /// Takes a process out of its place.
-    fn take_out(&mut self, p: Pid) -> Option<Member>
+    pub(crate) fn take_out(&mut self, p: Pid) -> Option<Member>
         ensures takes { TakesMember p self.old result self.new }
         ensures rest { StaysElse self.old self.new }
     {
@@ -589,7 +589,7 @@ impl Scheduler {
     }
 
     /// Puts a process into its place.
-    fn put_back(&mut self, p: Pid, member: Member)
+    pub(crate) fn put_back(&mut self, p: Pid, member: Member)
         ensures sets { SetsMember p member self.old self.new }
         ensures rest { StaysElse self.old self.new }
     {

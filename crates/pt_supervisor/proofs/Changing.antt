@@ -9,7 +9,8 @@ use Rattle.pt_supervisor.specs.Children.{NoneLives}
 use Rattle.pt_signal.specs.declared.reason.Reason.{Reason}
 use Rattle.pt_supervisor.specs.declared.trial.Trial.TheVariants.{Again, Asked}
 use Rattle.pt_supervisor.specs.Hearing.{Standing, started_again, to_try, tried_again, tried_child, tried_where}
-use Rattle.pt_supervisor.specs.Keeping.{HoldsChildren, HoldsWhere, IsPlaced, child_at, pid_of_child, was_started}
+use Rattle.pt_supervisor.specs.Keeping.{HoldsChildren, HoldsWhere, IsPlaced, Remembers, child_at, pid_of_child, was_started}
+use Rattle.pt_supervisor.specs.Changed.{RemembersWhere}
 use Rattle.pt_supervisor.specs.Calling.{wanted_in, with_last_child, with_wanted, without_child}
 use Rattle.pt_supervisor.specs.Seen.{state_of_child}
 use Rattle.pt_supervisor.proofs.Wanting.{again_asked, again_count, again_get, again_kept}
@@ -29,12 +30,17 @@ none_as old new same none place c at = go c.pid refl
     go None is = refl
     go (Some p) is = absurd (none_at old (same.from place) p none (same.sub place p (ap pid_of_child at ∙ is)))
 
+-- so none is forgotten
+pub remembers_where : (s t : Standing) → SameLive s.children t.children → t.started ≡ s.started → RemembersWhere s t
+remembers_where s t same started past me d h = λ were q was.
+    elim (h were q (subst (λ (n : ℕ). was_started past n me q d ≡ true) started was)) [
+      | inl placed ↦ inl (same.kept placed.0 q placed.1)
+      | inr told ↦ inr told
+    ]
+
 pub holds_where : (s t : Standing) → SameLive s.children t.children → t.stopping ≡ s.stopping → t.asked ≡ s.asked → t.started ≡ s.started → HoldsWhere s t
 holds_where s t same stopping asked started past next me d h = record {
-  remembers = λ were q was. elim (h.remembers were q (subst (λ (n : ℕ). was_started past n me q d ≡ true) started was)) [
-    | inl placed ↦ inl (same.kept placed.0 q placed.1)
-    | inr told ↦ inr told
-  ];
+  remembers = remembers_where s t same started past me d h.remembers;
   traps = elim h.traps [
     | inl on ↦ inl on
     | inr none ↦ inr (none.0, none_as s.children t.children same none.1)
@@ -49,6 +55,9 @@ holds_where s t same stopping asked started past next me d h = record {
 
 pub holds_same : (s t : Standing) → t ≡ s → HoldsWhere s t
 holds_same s t is past next me d h = subst (λ (x : Standing). HoldsChildren past x next me d) (sym is) h
+
+pub remembers_same : (s t : Standing) → t ≡ s → RemembersWhere s t
+remembers_same s t is past me d h = subst (λ (x : Standing). Remembers past x.children x.started me d) (sym is) h
 
 -- one child becomes another with the same process
 pub set_live : (xs : List Child) (place : ℕ) (c v : Child) → slice_get xs place ≡ Some c → v.pid ≡ c.pid → SameLive xs (slice_set xs place v)
@@ -128,6 +137,10 @@ pub with_wanted_holds : (wanted : Bool) (place : ℕ) (s t : Standing) → t ≡
 with_wanted_holds wanted place s t is =
     subst (HoldsWhere s) (sym is) (holds_where s (with_wanted wanted place s) (wanted_live wanted place (slice_get s.children place) s.children refl) refl refl refl)
 
+pub with_wanted_remembers : (wanted : Bool) (place : ℕ) (s t : Standing) → t ≡ with_wanted wanted place s → RemembersWhere s t
+with_wanted_remembers wanted place s t is =
+    subst (RemembersWhere s) (sym is) (remembers_where s (with_wanted wanted place s) (wanted_live wanted place (slice_get s.children place) s.children refl) refl)
+
 -- one more child ---------------------------------------------------------------------------------------------------
 
 more_sub : (xs : List Child) (c : Child) (j : ℕ) (q : Pid) → c.pid ≡ None → child_at (xs ++ c ∷ []) j ≡ Some q → child_at xs j ≡ Some q
@@ -147,6 +160,10 @@ more_live xs c none = record { from = λ j. j; sub = λ j q is. more_sub xs c j 
 pub more_holds : (c : Child) (s t : Standing) → t ≡ with_last_child c s → HoldsWhere s t
 more_holds c s t is =
     subst (HoldsWhere s) (sym is) (holds_where s (with_last_child c s) (more_live s.children (record c { pid = None; wanted = true; trial = Asked }) refl) refl refl refl)
+
+pub more_remembers : (c : Child) (s t : Standing) → t ≡ with_last_child c s → RemembersWhere s t
+more_remembers c s t is =
+    subst (RemembersWhere s) (sym is) (remembers_where s (with_last_child c s) (more_live s.children (record c { pid = None; wanted = true; trial = Asked }) refl) refl)
 
 -- one child less ---------------------------------------------------------------------------------------------------
 
@@ -188,3 +205,7 @@ undefined_is (Some p) wanted is = absurd (cc)
 pub less_holds : (place : ℕ) (c : Child) (s t : Standing) → slice_get s.children place ≡ Some c → state_of_child c.pid c.wanted ≡ Undefined → t ≡ without_child place s → HoldsWhere s t
 less_holds place c s t at none is =
     subst (HoldsWhere s) (sym is) (holds_where s (without_child place s) (less_live s.children place (ap pid_of_child at ∙ undefined_is c.pid c.wanted none)) refl refl refl)
+
+pub less_remembers : (place : ℕ) (c : Child) (s t : Standing) → slice_get s.children place ≡ Some c → state_of_child c.pid c.wanted ≡ Undefined → t ≡ without_child place s → RemembersWhere s t
+less_remembers place c s t at none is =
+    subst (RemembersWhere s) (sym is) (remembers_where s (without_child place s) (less_live s.children place (ap pid_of_child at ∙ undefined_is c.pid c.wanted none)) refl)

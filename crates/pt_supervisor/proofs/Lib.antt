@@ -3,6 +3,7 @@ pub mod Limiting
 pub mod Wanting
 pub mod Starting
 pub mod Ending
+pub mod Due
 pub mod Tying
 pub mod Telling
 pub mod Families

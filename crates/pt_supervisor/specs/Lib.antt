@@ -9,3 +9,4 @@ pub mod Hearing
 pub mod Calling
 pub mod Supervising
 pub mod Keeping
+pub mod Changed

@@ -1,8 +1,10 @@
 //! How far a supervisor has come in ending a child.
 
 ghost use Rattle.std.specs.Prelude.{◌≡◌};
+ghost use Rattle.pt_supervisor.specs.Changed.{due_at};
 ghost use Rattle.pt_supervisor.specs.Ending.{gone_in, is_noproc, is_ref, monitor_of, stage_of, unless_by, next_at_stage};
 
+use crate::children::Shutdown;
 use pt_crew::{CallFault, Next};
 use pt_workers::{Fault, Pick, Pid, Ref};
 
@@ -111,5 +113,18 @@ pub(crate) fn is_noproc(fault: CallFault) -> bool
     match fault {
         CallFault::Refused(Fault::NoProc) => true,
         _ => false,
+    }
+}
+
+/// What a supervisor does next that ends a child so, and has come to this stage: it waits for the `DOWN`, until a time if
+/// there is one. It proceeds if it has not told the child yet.
+pub(crate) fn due_at(stage: Option<Stage>, shutdown: Shutdown) -> Next
+    ensures { result ≡ due_at stage shutdown }
+{
+    match (stage, shutdown) {
+        (Some(Stage::Waiting(monitor)), Shutdown::Infinity) => Next::Wait(Pick::DownOf(monitor)),
+        (Some(Stage::Until(monitor, at)), _) => Next::WaitUntil(Pick::DownOf(monitor), at),
+        (Some(Stage::Killed(monitor)), _) => Next::Wait(Pick::DownOf(monitor)),
+        (_, _) => Next::Proceed,
     }
 }

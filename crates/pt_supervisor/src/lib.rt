@@ -30,6 +30,8 @@
 //! - **Children at run time.** Each call about a child says what it changes and when it is refused. A refused call changes
 //!   nothing. (`TerminatesChild`, `RestartsChild`, `AddsChild`, `DeletesChild`)
 //! - **Theorems at run time.** Each of these calls keeps what both theorems on children need. (`changed_supervisors_tend`)
+//! - **What follows.** What a supervisor does next that was changed from outside is exact, and tells no child twice to exit.
+//!   (`due`)
 #![tactic(auto)]
 
 mod asked;

@@ -8,7 +8,7 @@ ghost use Rattle.pt_signal.specs.declared.pid.Pid.{Pid};
 ghost use Rattle.pt_shard.specs.declared.fault.Fault.{Fault};
 ghost use Rattle.pt_crew.specs.declared.behaviour.Next.{Next};
 
-use crate::asked::{Asked, Stage, gone_in, is_noproc, stage_of, unless_by};
+use crate::asked::{Asked, Stage, due_at, gone_in, is_noproc, stage_of, unless_by};
 use crate::child_fault::{ChildFault, present};
 use crate::children::{Child, Shutdown, is_process, last_alive, place_of, place_of_id, revive};
 use crate::gave_up::GaveUp;
@@ -77,6 +77,7 @@ impl<S> Supervisor<S> {
     ghost use Rattle.pt_supervisor.specs.Trying.{is_startable};
     ghost use Rattle.pt_supervisor.specs.Supervising.{nursery, supervisor_scene};
     ghost use Rattle.pt_supervisor.specs.Keeping.{BearsFrom, HoldsWhere, Tends};
+    ghost use Rattle.pt_supervisor.specs.Changed.{RemembersWhere, next_due};
 
     /// A supervisor of these children, each with the rule by which it is started again. It has no parent: see
     /// [`Supervisor::under`].
@@ -214,10 +215,11 @@ impl<S> Supervisor<S> {
     /// The supervisor does so when it handles the next item, or proceeds. So a behaviour calls this in its `handle`, and
     /// then passes the item on. Erlang's `terminate_child` returns once the child has exited; here it has once the
     /// supervisor waits for any item again. A temporary child keeps its place, too.
-    #[tactic(auto, using(crate::proofs::Changing::holds_same))]
+    #[tactic(auto, using(crate::proofs::Changing::holds_same, crate::proofs::Changing::remembers_same))]
     pub fn terminate_child(&mut self, id: u64) -> Result<(), ChildFault>
         ensures does { TerminatesChild id (standing self.old) result (standing self.new) }
         ensures holds { HoldsWhere (standing self.old) (standing self.new) }
+        ensures remembers { RemembersWhere (standing self.old) (standing self.new) }
         ensures start { program_of self.new ≡ program_of self.old }
     {
         let Some(place) = place_of_id(self.children.as_slice(), id) else {
@@ -229,10 +231,11 @@ impl<S> Supervisor<S> {
 
     /// Asks the supervisor to start the child with this id, which must be neither alive nor about to be started. It does
     /// so when it handles the next item, or proceeds, as with [`Supervisor::terminate_child`].
-    #[tactic(auto, using(crate::proofs::Changing::holds_same))]
+    #[tactic(auto, using(crate::proofs::Changing::holds_same, crate::proofs::Changing::remembers_same))]
     pub fn restart_child(&mut self, id: u64) -> Result<(), ChildFault>
         ensures does { RestartsChild id (standing self.old) result (standing self.new) }
         ensures holds { HoldsWhere (standing self.old) (standing self.new) }
+        ensures remembers { RemembersWhere (standing self.old) (standing self.new) }
         ensures start { program_of self.new ≡ program_of self.old }
     {
         let Some(place) = place_of_id(self.children.as_slice(), id) else {
@@ -253,10 +256,11 @@ impl<S> Supervisor<S> {
     ///
     /// The supervisor starts it when it handles the next item, or proceeds, as with [`Supervisor::terminate_child`]. If the
     /// start fails, the child keeps its place and is not wanted any more.
-    #[tactic(auto, using(crate::proofs::Changing::holds_same))]
+    #[tactic(auto, using(crate::proofs::Changing::holds_same, crate::proofs::Changing::remembers_same))]
     pub fn start_child(&mut self, child: Child) -> Result<usize, ChildFault>
         ensures does { AddsChild child (standing self.old) result (standing self.new) }
         ensures holds { HoldsWhere (standing self.old) (standing self.new) }
+        ensures remembers { RemembersWhere (standing self.old) (standing self.new) }
         ensures start { program_of self.new ≡ program_of self.old }
     {
         if let Some(place) = place_of_id(self.children.as_slice(), child.id) {
@@ -278,10 +282,11 @@ impl<S> Supervisor<S> {
     /// Forgets the child with this id, which must be neither alive nor about to be started. Returns the place that it had.
     ///
     /// The children behind it move up, so `Start` is called for each of them with the place before from now on.
-    #[tactic(auto, using(crate::proofs::Changing::holds_same))]
+    #[tactic(auto, using(crate::proofs::Changing::holds_same, crate::proofs::Changing::remembers_same))]
     pub fn delete_child(&mut self, id: u64) -> Result<usize, ChildFault>
         ensures does { DeletesChild id (standing self.old) result (standing self.new) }
         ensures holds { HoldsWhere (standing self.old) (standing self.new) }
+        ensures remembers { RemembersWhere (standing self.old) (standing self.new) }
         ensures start { program_of self.new ≡ program_of self.old }
     {
         let Some(place) = place_of_id(self.children.as_slice(), id) else {
@@ -758,6 +763,21 @@ impl<S> Supervisor<S> {
                 self.started = self.started.saturating_add(1);
             }
             Err(fault) => self.children[place] = child.unstarted(desk.clock(), fault),
+        }
+    }
+
+    /// What the supervisor does next as it stands: it waits for the exit of the child that it ends, if that is still the
+    /// last that is to end. Else it proceeds.
+    ///
+    /// A behaviour returns this if it changed its supervisor by a call about a child and passes no item on. So a child is
+    /// not told twice to exit.
+    pub fn due(&self) -> Next
+        ensures due { result ≡ next_due (standing self.now) }
+        ensures supervises { Supervises result (standing self.now) }
+    {
+        match last_alive(self.children.as_slice(), self.ending) {
+            Some((pid, shutdown)) => due_at(stage_of(self.asked, pid), shutdown),
+            None => Next::Proceed,
         }
     }
 }

@@ -1,17 +1,16 @@
 -- Nobody but who is named gets an item by an event, or ends by it.
-use Rattle.std.proofs.Common.{◌≡◌, Bool, true, false, cond, ◌||◌, Option, Some, None, List, [], ◌∷◌, refl, ap, ◌∙◌}
+use Rattle.std.proofs.Common.{◌≡◌, Bool, true, false, cond, ◌||◌, Option, Some, [], refl, ap}
 use Rattle.pt_signal.specs.declared.pid.Pid.{Pid}
 use Rattle.pt_signal.specs.declared.ids.LinkId.{LinkId}
-use Rattle.pt_signal.specs.declared.item.Item.{Item}
 use Rattle.pt_signal.specs.Values.{same_pid, fits, without_first}
 use Rattle.pt_signal.specs.Process.{ProcessState, say}
 use Rattle.pt_events.specs.declared.event.Event.{Event}
 use Rattle.pt_events.specs.declared.event.Event.TheVariants.{Born, Said, Came, Took, Flag, Left, Refused}
-use Rattle.pt_events.specs.History.{Past, Start, Phase, unborn, living, ended, life, after, touches, change, is_the}
+use Rattle.pt_events.specs.History.{Past, Start, Phase, unborn, living, ended, life, after, is_the}
 use Rattle.pt_events.specs.History.{newborn, linked, while_living, gets, leaves, arrives, items_of, reason_of}
 use Rattle.pt_events.proofs.Phases.{each_branch}
 use Rattle.pt_workers.specs.Waking.{woken_by}
-use Rattle.pt_table.specs.Waking.{OnlyWakes, NobodyIsMissed}
+use Rattle.pt_table.specs.Waking.{NobodyIsMissed}
 
 -- whether or not the event is p's
 same_reason : (t : Bool) (f g : Phase) → reason_of g ≡ reason_of f → reason_of (cond t g f) ≡ reason_of f

@@ -1,18 +1,17 @@
 -- What a call answers C, and what it leaves.
-use Rattle.std.specs.Prelude.{◌≡◌, ℕ, Bool, true, false, ◌∷◌, [], List, Option, Some, None}
-use Rattle.std.specs.Prelude.{Result, Ok, Err, is_some, slice_get, cond}
+use Rattle.std.specs.Prelude.{◌≡◌, ℕ, Bool, true, false, List, Option, Some, None}
+use Rattle.std.specs.Prelude.{Result, Ok, is_some}
 pub use Rattle.pt_places.specs.Places.{HandlePlace, value_behind, full, had, values, CallsThrough, ReadsThrough}
 pub use Rattle.pt_places.specs.Places.{some_or, ShowsCode}
 use Rattle.pt_signal.specs.declared.pid.Pid.{Pid}
 use Rattle.pt_signal.specs.declared.ids.Ref.{Ref}
 use Rattle.pt_signal.specs.declared.item.Body.{Body}
-use Rattle.pt_signal.specs.declared.item.Item.{Item}
 use Rattle.pt_signal.specs.declared.signal.Signal.{Signal}
 use Rattle.pt_events.specs.declared.event.Event.{Event}
 use Rattle.pt_events.specs.declared.event.Stamped.{Stamped}
 use Rattle.pt_signal.specs.declared.letter.LeftOver.{LeftOver}
 use Rattle.pt_shard.specs.declared.fault.Fault.{Fault}
-use Rattle.pt_shard.specs.ShardState.{ShardState, lives, state_in}
+use Rattle.pt_shard.specs.ShardState.{lives, state_in}
 use Rattle.pt_shard.specs.Known.{knows}
 use Rattle.pt_shard.specs.Calls.{Calls, Monitors, Bears, BearsChild, link_event, unlink_event, first_match}
 use Rattle.pt_shard.specs.Calls.{take_event, demonitor_event, new_ref}

@@ -3,7 +3,6 @@
 //! A struct with a code is looked at before the desk is asked for anything. If the code is none of its enumeration, the
 //! call returns `BAD_CODE`, and nothing has changed.
 
-ghost use Rattle.std.specs.Prelude.{◌≡◌};
 ghost use Rattle.pt_table.specs.Answers.{SpawnsOnDesk, SpawnsChild, SendsOnDesk, SendsExit, Links, Unlinks, WatchesOnDesk, UnwatchesOnDesk, AsksOnDesk};
 ghost use Rattle.pt_table.specs.Answers.{Traps, TakesOnDesk, Exits, TurnsOnce};
 

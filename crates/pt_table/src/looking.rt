@@ -1,6 +1,6 @@
 //! The values that are read, as the structs that cross.
 
-ghost use Rattle.std.specs.Prelude.{◌≡◌, length, reverse, slice_get};
+ghost use Rattle.std.specs.Prelude.{length, reverse, slice_get};
 ghost use Rattle.pt_table.specs.Answers.{ShowsCode};
 ghost use Rattle.pt_shard.specs.Living.{living_in};
 ghost use Rattle.pt_table.specs.Reading.{event_numbered, item_numbered, linked_on_desk, waits_in};

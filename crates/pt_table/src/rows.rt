@@ -1,6 +1,6 @@
 //! The handles of desks, in a row.
 
-ghost use Rattle.std.specs.Prelude.{◌≡◌, ◌≤◌, [], map, length, replicate, None, IfOk, vec_len};
+ghost use Rattle.std.specs.Prelude.{◌≡◌, ◌≤◌, [], map, length, replicate, None, IfOk};
 ghost use Rattle.std.specs.Vec.{vec_capacity};
 ghost use Rattle.pt_table.specs.Answers.{value_behind, values, full};
 ghost use Rattle.pt_table.specs.InOrder.{are_in_order, is_desk_at};

@@ -1,1 +1,2 @@
--- The crate needs no lemmas of its own.
+-- The lemmas that more than one function of the crate uses.
+mod Handles

@@ -1,7 +1,9 @@
 //! The calls of crews in the table of rows.
 
 use super::{or_none, pick, pid, reason, refused, text, turned_text};
-use pundewo::supervisors::{Child, ChildSpec, Origin, Restart, Shutdown, Strategy, SupervisorSpec};
+use pundewo::supervisors::{
+    Child, ChildCounts, ChildFault, ChildSpec, GaveUp, Origin, Restart, Shutdown, Strategy, SupervisorSpec,
+};
 use pundewo::{Crew, Desk, Fault, Job, Loss, Next, Pid, What};
 
 fn next(words: &[&str]) -> Next {
@@ -116,6 +118,32 @@ fn children_of(crew: &Crew, p: Pid) -> String {
     children.iter().map(child_text).collect::<Vec<_>>().join("; ")
 }
 
+/// What came of a call about a child: a place, or nothing.
+fn asked<T>(answer: Result<T, ChildFault>, done: impl Fn(T) -> String) -> String {
+    match answer {
+        Ok(value) => done(value),
+        Err(ChildFault::NotFound) => "nothing".to_string(),
+        Err(ChildFault::Running) => "child running".to_string(),
+        Err(ChildFault::Restarting) => "child restarting".to_string(),
+        Err(ChildFault::Present) => "child present".to_string(),
+        Err(ChildFault::Memory) => "memory".to_string(),
+    }
+}
+
+fn at(place: usize) -> String {
+    format!("place {place}")
+}
+
+fn counts_of(crew: &Crew, p: Pid) -> Option<String> {
+    let ChildCounts { specs, active, restarting } = crew.count_children(p)?;
+    Some(format!("{specs} {active} {restarting}"))
+}
+
+fn cause_of(crew: &Crew, p: Pid) -> Option<String> {
+    let GaveUp { tag, place, reason, restarts, span, timed } = crew.gave_up(p)?;
+    Some(format!("{tag} {place} {reason} {restarts} {span}{}", if timed { " of time" } else { "" }))
+}
+
 /// What a process does next.
 pub fn next_of(crew: &Crew, word: &str) -> String {
     crew.next(pid(word)).map_or("none".to_string(), next_text)
@@ -133,6 +161,12 @@ pub fn on_crew(crew: &mut Crew, desk: &mut Desk, name: &str, w: &[&str]) -> Stri
         }
         "crew_supervise" => text(crew.supervise(pid(w[1]), spec(&w[2..]), &children(&w[6..])).map(|()| "ok")),
         "crew_children" => children_of(crew, pid(w[1])),
+        "crew_start_child" => asked(crew.start_child(pid(w[1]), children(&w[2..])[0]), at),
+        "crew_terminate_child" => asked(crew.terminate_child(pid(w[1]), w[2].parse().unwrap()), |()| "ok".to_string()),
+        "crew_restart_child" => asked(crew.restart_child(pid(w[1]), w[2].parse().unwrap()), |()| "ok".to_string()),
+        "crew_delete_child" => asked(crew.delete_child(pid(w[1]), w[2].parse().unwrap()), at),
+        "crew_count_children" => or_none(counts_of(crew, pid(w[1]))),
+        "crew_gave_up" => or_none(cause_of(crew, pid(w[1]))),
         "crew_step" => text(step(crew, desk, w[1].parse().unwrap(), w[2].parse().unwrap())),
         "crew_answer" => answer(crew, &w[1..]),
         "crew_losses" => text(losses(crew, desk)),

@@ -1,12 +1,11 @@
 -- `run_to_pause_on_threads`: its contract, and its loop over `left`.
-use Rattle.std.proofs.Common.{◌≡◌, ◌<◌, ◌≤◌, Some, None, Err, List, max, rules, sym, subst, arith}
-use Rattle.pt_desk.specs.DeskState.{DeskState}
+use Rattle.std.proofs.Common.{◌≡◌, Some, None, Err, max, rules, sym, subst, arith}
 use Rattle.pt_crew.specs.declared.crew.Crew.{Crew}
 use Rattle.pt_epochs.specs.Driving.{lets_short}
 use Rattle.pt_epochs.specs.Idle.{InTurns, Worked}
-use Rattle.pt_epochs.specs.Running.{GoesFurther, PausesAs, RunsToPause}
-use Rattle.pt_epochs.proofs.Legs.{one_more, spent}
-use Rattle.pt_epochs.proofs.Pausing.{goes_further, pause_failed, paused}
+use Rattle.pt_epochs.specs.Running.{GoesFurther, RunsToPause}
+use Rattle.pt_epochs.proofs.Legs.{spent}
+use Rattle.pt_epochs.proofs.Pausing.{goes_far, pause_failed, paused, pauses_alike}
 use Rattle.pt_epochs.proofs.on_threads.run_to_pause_on_threads.Goals as goal
 
 pub returns-in_err-rested : goal.returns-in_err-rested
@@ -28,8 +27,7 @@ returns-in-Some g c =
     let did = c.in_ok-rested.rested in
     let inv = c.loop-left.invariant in
     paused runs c.args.plan old c.loop-left.left c.min-count.result now did new inv.so_far (omega (arith, c.min-count.ensures)) (omega (arith, c.min-count.ensures, inv.some, c.loop-left-test.true)) c.in_ok-rested.ensures c.in-Some.pause
-    (subst (λ (crews : List (Crew g.row.B.Denot)). PausesAs c.args.plan.events crews new.desks did.stopped (Some c.in-Some.pause)) c.as_slice.ensures.value
-    (subst (λ (desks : List DeskState). PausesAs c.args.plan.events c.as_slice.result.now desks did.stopped (Some c.in-Some.pause)) c.desks.ensures.desks c.in-Some.ensures))
+    (pauses_alike c.args.plan.events did.stopped (Some c.in-Some.pause) c.as_slice.result.now new.works c.desks.result.now new.desks c.as_slice.ensures.value c.desks.ensures.desks c.in-Some.ensures)
 
 pub loop-left-preserved : goal.loop-left-preserved
 loop-left-preserved g c =
@@ -38,16 +36,10 @@ loop-left-preserved g c =
     let now : Worked (Crew g.row.B.Denot) = record { desks = c.loop-left.node; works = c.loop-left.crews.items } in
     let new : Worked (Crew g.row.B.Denot) = record { desks = c.one_leg_on_threads.new.node; works = c.one_leg_on_threads.new.crews.items } in
     let did = c.in_ok-rested.rested in
-    let done = c.in_ok-rested.ensures in
     let inv = c.loop-left.invariant in
-    let le : c.min-count.result ≤ c.loop-left.left = omega (arith, c.min-count.ensures) in
-    let some : 0 < c.min-count.result = omega (arith, c.min-count.ensures, inv.some, c.loop-left-test.true) in
-    let none : PausesAs c.args.plan.events new.works new.desks did.stopped None =
-    subst (λ (crews : List (Crew g.row.B.Denot)). PausesAs c.args.plan.events crews new.desks did.stopped None) c.as_slice.ensures.value
-    (subst (λ (desks : List DeskState). PausesAs c.args.plan.events c.as_slice.result.now desks did.stopped None) c.desks.ensures.desks c.in_default.ensures) in
     record {
-      so_far = one_more runs c.args.plan.budget (GoesFurther c.args.plan.events) (max c.args.plan.turns 1) old c.loop-left.left c.min-count.result now did new inv.so_far le done none.0
-          (goes_further runs c.args.plan old c.loop-left.left c.min-count.result now did new inv.so_far le some done none);
+      so_far = goes_far runs c.args.plan old c.loop-left.left c.min-count.result now did new inv.so_far (omega (arith, c.min-count.ensures)) (omega (arith, c.min-count.ensures, inv.some, c.loop-left-test.true)) c.in_ok-rested.ensures
+          (pauses_alike c.args.plan.events did.stopped None c.as_slice.result.now new.works c.desks.result.now new.desks c.as_slice.ensures.value c.desks.ensures.desks c.in_default.ensures);
       some = c.longer-leg.ensures;
     }
 

@@ -1,8 +1,7 @@
 -- `count_full`: its loop over `k`, and its checked operations.
-use Rattle.std.proofs.Common.{◌≡◌, ℕ, ◌+◌, ◌<◌, length, map, get_or, refl, sym, ap, ◌∙◌, arith, cond, []}
-use Rattle.std.proofs.lemmas.List.{length-map, length-append, get_or_default}
-use mir.Val.{bool_byte}
-use Rattle.pt_table.proofs.InRow.{counted, values_few, byte_is, one_at_most}
+use Rattle.std.proofs.Common.{◌+◌, ◌<◌, length, map, get_or, refl, ap, ◌∙◌, arith, cond, []}
+use Rattle.std.proofs.lemmas.List.{get_or_default}
+use Rattle.pt_places.proofs.InRow.{counted, values_few, byte_is, one_at_most}
 use Rattle.pt_table.proofs.rows.count_full.Goals as goal
 
 pub loop-k-init : goal.loop-k-init

@@ -1,5 +1,5 @@
 -- `count_full`: what holds in its loop over `k`.
-use Rattle.std.proofs.Common.{◌≡◌, ℕ, List, ◌++◌, map, length}
+use Rattle.std.proofs.Common.{◌≡◌, List, ◌++◌, map, length}
 use Rattle.pt_desk.specs.DeskState.{DeskState}
 use Rattle.pt_table.specs.Answers.{HandlePlace, values}
 use Rattle.pt_table.proofs.rows.count_full.Given as goal

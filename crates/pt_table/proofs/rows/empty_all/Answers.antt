@@ -1,8 +1,8 @@
 -- `empty_all`: its loop over `k`, and what its call of `unwrap` asks, and its checked operations.
-use Rattle.std.proofs.Common.{◌≡◌, ℕ, ◌+◌, ◌<◌, ◌++◌, ◌∷◌, [], length, map, get_or, refl, sym, ap, ◌∙◌, arith}
+use Rattle.std.proofs.Common.{◌≡◌, ◌+◌, ◌<◌, ◌++◌, ◌∷◌, [], length, map, get_or, refl, sym, ap, ◌∙◌, arith}
 use Rattle.std.proofs.lemmas.List.{length-map, length-append, get_or_default}
 use Rattle.pt_table.specs.Answers.{values}
-use Rattle.pt_table.proofs.InRow.{emptied, some_from, told_by}
+use Rattle.pt_places.proofs.InRow.{emptied, some_from, told_by}
 use Rattle.pt_table.proofs.rows.empty_all.Goals as goal
 
 pub loop-k-init : goal.loop-k-init

@@ -1,5 +1,5 @@
 -- `empty_all`: what holds in its loop over `k`.
-use Rattle.std.proofs.Common.{◌≡◌, ℕ, ◌+◌, ◌≤◌, List, ◌++◌, None, map, length}
+use Rattle.std.proofs.Common.{◌≡◌, ◌+◌, ◌≤◌, List, ◌++◌, None, map, length}
 use Rattle.std.specs.Prelude.{replicate}
 use Rattle.std.specs.Vec.{vec_capacity}
 use Rattle.pt_desk.specs.DeskState.{DeskState}

@@ -1,9 +1,8 @@
 -- `fill_all`: its loop over `desk`.
-use Rattle.std.proofs.Common.{◌≡◌, ℕ, ◌+◌, ◌-◌, ◌++◌, ◌∷◌, [], List, Some, length, map, set, refl, sym, ap, ◌∙◌, subst, arith}
+use Rattle.std.proofs.Common.{◌≡◌, ◌+◌, ◌-◌, ◌++◌, ◌∷◌, [], length, map, sym, ap, ◌∙◌, arith}
 use Rattle.std.specs.Option.{option_to_list}
 use Rattle.std.proofs.lemmas.List.{length-map, length-append, append-nil}
-use Rattle.pt_table.specs.Answers.{HandlePlace, full}
-use Rattle.pt_table.proofs.InRow.{filled_more}
+use Rattle.pt_places.proofs.InRow.{filled_more}
 use Rattle.pt_table.proofs.rows.fill_all.Goals as goal
 
 pub loop-desk-init : goal.loop-desk-init

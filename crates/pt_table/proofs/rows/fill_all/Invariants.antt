@@ -1,5 +1,5 @@
 -- `fill_all`: what holds in its loop over `desk`.
-use Rattle.std.proofs.Common.{◌≡◌, ℕ, List, ◌++◌, map, length}
+use Rattle.std.proofs.Common.{◌≡◌, List, ◌++◌, map, length}
 use Rattle.pt_desk.specs.DeskState.{DeskState}
 use Rattle.pt_table.specs.Answers.{HandlePlace, full}
 use Rattle.pt_table.proofs.rows.fill_all.Given as goal

@@ -1,5 +1,5 @@
 -- `Crew::set_next`: its clauses `set`, `knows`, `room` and `timers`.
-use Rattle.std.proofs.Common.{Some, ap, sym, refl, ◌∙◌, arith}
+use Rattle.std.proofs.Common.{ap, sym, refl, ◌∙◌, arith}
 use Rattle.std.specs.Option.{option_map}
 use Rattle.pt_crew.specs.declared.crew.Member.{Member}
 use Rattle.pt_crew.specs.declared.behaviour.Next.{Next}

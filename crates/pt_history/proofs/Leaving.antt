@@ -17,10 +17,10 @@ use Rattle.pt_events.specs.declared.event.Event.TheVariants.{Born, Said, Came, T
 use Rattle.pt_events.specs.declared.event.Stamped.{Stamped}
 use Rattle.pt_events.specs.History.{is_between, landed, sent_by}
 use Rattle.pt_events.specs.Journal.{events, letter, content, in_lane}
+use Rattle.pt_gathered.specs.LeftOvers.{joined_letters, from_to}
 use Rattle.pt_auditor.specs.Lanes.{is_lane, goes_between, lane, letters_flying, letters_landed, letters_still}
 use Rattle.pt_auditor.specs.Foreigners.{last_lane, IsInTurnOf, IsLeftByNode, AllLeftByNode}
 use Rattle.pt_auditor.specs.Hearings.{left_flying, still, IsOldest, IsOfItsDesks, LettersAreTold}
-use Rattle.pt_auditor.specs.Passing.{each_below, left_in_lane}
 use Rattle.pt_auditor.proofs.Carried.{landed_lane}
 use Rattle.pt_auditor.proofs.Laid.{lane_is}
 
@@ -109,7 +109,7 @@ head_passes P (x ∷ xs) ys y h = go (P x) refl h (head_passes P xs ys y)
 record TellsLane (d e : ℕ) (over : List Letter) (ls : List Letter) (b : ℕ × ℕ) : Type 0 where
   rest : List Letter
   last : ℕ × ℕ
-  tells : Tells (map (left_in_lane d e) over) ls b rest last
+  tells : Tells (map (from_to d e) over) ls b rest last
   none : lane d e rest ≡ []
   same : (i j : ℕ) → is_lane d e (i, j) ≡ false → lane i j rest ≡ lane i j ls
   turn : AtMost last (d, e)
@@ -128,7 +128,7 @@ tell_lane d e (l ∷ over) ls b is t =
     }
   where
     left : LeftOver
-    left = left_in_lane d e l
+    left = from_to d e l
 
     le_of : (m n : ℕ) → m ≡ n → m ≤ n
     le_of m n h = omega (arith, h)
@@ -148,10 +148,10 @@ tell_lane d e (l ∷ over) ls b is t =
     between : goes_between l.from l.to l ≡ true
     between = rw (same_pid_refl l.from, same_pid_refl l.to) refl
 
-    moved : (i j : ℕ) → lane i j (without (left_in_lane d e l) ls) ≡ cond (is_lane l.from.shard l.to.shard (i, j)) (drop 1 (lane l.from.shard l.to.shard ls)) (lane i j ls)
+    moved : (i j : ℕ) → lane i j (without (from_to d e l) ls) ≡ cond (is_lane l.from.shard l.to.shard (i, j)) (drop 1 (lane l.from.shard l.to.shard ls)) (lane i j ls)
     moved i j = landed_lane l.from l.to ls l (ap (λ z. slice_get z 0) own) between i j
 
-    next : lane d e (without (left_in_lane d e l) ls) ≡ over
+    next : lane d e (without (from_to d e l) ls) ≡ over
     next = moved d e ∙ rw (and_from (l.from.shard == d) (l.to.shard == e) parts.0 parts.1) (ap (drop 1) own)
 
     other : (i j : ℕ) → is_lane d e (i, j) ≡ false → is_lane l.from.shard l.to.shard (i, j) ≡ false
@@ -163,17 +163,17 @@ tell_lane d e (l ∷ over) ls b is t =
         and_from (m.from.shard == l.from.shard) (m.to.shard == l.to.shard)
         (eq-eqb _ _ (sym (ap (λ (z : Pid). z.shard) (same_pid_is l.from m.from p.0)))) (eq-eqb _ _ (sym (ap (λ (z : Pid). z.shard) (same_pid_is l.to m.to p.1))))
 
-    oldest : IsOldest (map content ls) (left_in_lane d e l)
+    oldest : IsOldest (map content ls) (from_to d e l)
     oldest =
         find_map l.from l.to ls l
         (sym (first_wider (goes_between l.from l.to) (λ (m : Letter). in_lane l.from.shard l.to.shard (content m)) wide ls)
         ∙ ap (find (goes_between l.from l.to)) own ∙ rw between refl)
 
-    in_turn : AtMost b (d, e) → IsInTurnOf b (left_in_lane d e l)
+    in_turn : AtMost b (d, e) → IsInTurnOf b (from_to d e l)
     in_turn (inl h) = inl (omega (arith, h, from_is))
     in_turn (inr h) = inr (h.0 ∙ sym from_is, omega (arith, h.1, to_is))
 
-    by_node : IsLeftByNode ls b (left_in_lane d e l)
+    by_node : IsLeftByNode ls b (from_to d e l)
     by_node = record {
       order = record { first = l; there = ap (λ z. slice_get z 0) own; between = between };
       stamp = λ m h. let k : Some l ≡ Some m = sym (ap (λ z. slice_get z 0) own) ∙ h in let is : l ≡ m = cc in ap (λ (z : Letter). z.stamp) is;
@@ -191,7 +191,7 @@ apart d e i j h = go (is_lane d e (i, j)) refl
 
 module _ (over : ℕ → ℕ → List Letter) (n : ℕ) where
   abbrev row : ℕ → ℕ → List LeftOver
-  row d k = each_below (λ e. map (left_in_lane d e) (over d e)) k
+  row d k = joined_letters (λ e. map (from_to d e) (over d e)) k
 
   record TellsRow (d k : ℕ) (ls : List Letter) (b : ℕ × ℕ) : Type 0 where
     rest : List Letter
@@ -209,7 +209,7 @@ module _ (over : ℕ → ℕ → List Letter) (n : ℕ) where
       record {
         rest = l.rest;
         last = l.last;
-        tells = tells_both (row d k) (map (left_in_lane d k) (over d k)) ls r.rest l.rest b r.last l.last r.tells l.tells;
+        tells = tells_both (row d k) (map (from_to d k) (over d k)) ls r.rest l.rest b r.last l.last r.tells l.tells;
         none = λ j h. none_of r l j h (j == k) refl;
         same = λ i j h. l.same i j (apart d k i j (λ q. h (q.0, omega (arith, q.1)))) ∙ r.same i j (λ q. h (q.0, omega (arith, q.1)));
         turn = later l.turn;
@@ -226,7 +226,7 @@ module _ (over : ℕ → ℕ → List Letter) (n : ℕ) where
       later (inr h) = inr (h.0, omega (arith, h.1))
 
   abbrev rows : ℕ → List LeftOver
-  rows m = each_below (λ d. row d n) m
+  rows m = joined_letters (λ d. row d n) m
 
   record TellsRows (m : ℕ) (ls : List Letter) : Type 0 where
     rest : List Letter

@@ -19,9 +19,9 @@ use Rattle.pt_auditor.specs.declared.foreign.Foreign.{Foreign}
 use Rattle.pt_auditor.specs.Lanes.{lane, letters_flying, clock_of}
 use Rattle.pt_auditor.specs.Seen.{has_seen, shows_end}
 use Rattle.pt_auditor.specs.Foreigners.{GoesToNoEnded, GoesToNoneSeen, IsStillBelow, MayBegin, IsInTime, IsOrigin}
-use Rattle.pt_auditor.specs.Passing.{IsToldByCalls, AllToldByCalls, IsInTimeHere, IsCalledHere, AllCalledHere, AreOfOneNode, left_in_turn}
-use Rattle.pt_auditor.proofs.Flying.{AllAgreed, IsAgreedAt, laid_out}
-use Rattle.pt_auditor.proofs.Passing.{passes, locals, agree}
+use Rattle.pt_history.specs.Passing.{IsToldByCalls, AllToldByCalls, IsInTimeHere, IsCalledHere, AllCalledHere, AreOfOneNode, left_in_turn}
+use Rattle.pt_history.proofs.Flying.{AllAgreed, IsAgreedAt, laid_out}
+use Rattle.pt_history.proofs.Passing.{passes, locals, agree}
 
 -- which exits a desk has seen, its own events tell
 seen_home : (d : ℕ) (p : Pid) (merged : List Stamped) → AllHome merged → has_seen (events (of_desk d merged)) d p ≡ has_seen (events merged) d p

@@ -1,6 +1,6 @@
 -- The history of a node passes: the audit objects to no line of it, and names none for a reason of which the journals of
 -- the desks tell.
-use Rattle.std.specs.Prelude.{◌≡◌, ℕ, zero, suc, ◌+◌, ◌≤◌, max, Option, Some, None, List, [], ◌∷◌, ◌++◌, length, map, reverse}
+use Rattle.std.specs.Prelude.{◌≡◌, ℕ, ◌+◌, ◌≤◌, max, Option, Some, None, List, [], ◌∷◌, length, map, reverse}
 use Rattle.std.specs.Prelude.{slice_get, ⊤}
 use Rattle.pt_signal.specs.declared.letter.Letter.{Letter}
 use Rattle.pt_signal.specs.declared.letter.LeftOver.{LeftOver}
@@ -9,6 +9,7 @@ use Rattle.pt_events.specs.declared.event.Event.TheVariants.{Came, Refused}
 use Rattle.pt_events.specs.declared.event.Stamped.{Stamped}
 use Rattle.pt_events.specs.Journal.{Journals, IsHome, IsLocal, IsMerge, IsNewAt, LanesAgree, clock, events, gots, posts}
 use Rattle.pt_events.specs.Refusals.{RefusalsAreTrue}
+use Rattle.pt_gathered.specs.LeftOvers.{joined_letters, from_to}
 use Rattle.pt_auditor.specs.declared.foreign.Foreign.{Foreign}
 use Rattle.pt_auditor.specs.declared.foreign.NoNode.{NoNode}
 use Rattle.pt_auditor.specs.declared.foreign.NoNode.TheVariants.{Slot, NoVersion, Ended, Seen, OtherStamp}
@@ -91,17 +92,9 @@ pub record PassesAudit (past : List Stamped) (left : List LeftOver) : Type 0 whe
 
 -- the journals of a node ---------------------------------------------------------------------------
 
--- the lists f 0, f 1, up to below n, one after the other
-abbrev pub each_below : (ℕ → List LeftOver) → ℕ → List LeftOver
-each_below f zero = []
-each_below f (suc n) = each_below f n ++ f n
-
-abbrev pub left_in_lane : ℕ → ℕ → Letter → LeftOver
-left_in_lane d e l = record { from_desk = d; to_desk = e; letter = l }
-
 -- what is left over between so many desks: by the desk of the sender, then by that of the receiver, the oldest first
 abbrev pub left_in_turn : (ℕ → ℕ → List Letter) → ℕ → List LeftOver
-left_in_turn over n = each_below (λ d. each_below (λ e. map (left_in_lane d e) (over d e)) n) n
+left_in_turn over n = joined_letters (λ d. joined_letters (λ e. map (from_to d e) (over d e)) n) n
 
 -- the journals of so many desks of a node on which nobody was before, which send to no other desk; these letters are left
 -- over

@@ -25,9 +25,9 @@ use Rattle.pt_auditor.specs.declared.objection.Objection.TheVariants.{Behind, Si
 use Rattle.pt_auditor.specs.Lanes.{letters_flying, letters_still}
 use Rattle.pt_auditor.specs.Foreigners.{IsToDesk, IsNoNode, IsNoLeft, IsLeftByNode, AllLeftByNode, last_lane, IsFirstForeign, IsFirstLeft, IsOrigin, top_of}
 use Rattle.pt_auditor.specs.Hearings.{follows, newest, is_above, EventsAreRising, left_flying, still, LettersAreTold, AllTold, IsObjection, IsMisfit, IsUntold}
-use Rattle.pt_auditor.specs.Passing.{IsToldByJournals, IsToldByCalls, AllToldByJournals, AllToldByCalls, IsOfCalls, NamesForCalls, heard_of, NoneObjected, NoneMisfits, PassesAudit, left_in_turn, AreOfOneNode}
-use Rattle.pt_auditor.proofs.Flying.{AllInOrder, laid_out}
-use Rattle.pt_auditor.proofs.Leaving.{told_all, flying_is}
+use Rattle.pt_history.specs.Passing.{IsToldByJournals, IsToldByCalls, AllToldByJournals, AllToldByCalls, IsOfCalls, NamesForCalls, heard_of, NoneObjected, NoneMisfits, PassesAudit, left_in_turn, AreOfOneNode}
+use Rattle.pt_history.proofs.Flying.{AllInOrder, laid_out}
+use Rattle.pt_history.proofs.Leaving.{told_all, flying_is}
 
 -- no objection ---------------------------------------------------------------------------------
 

@@ -1,0 +1,12 @@
+-- `delete_child`: its clauses `holds` and `remembers`.
+use Rattle.std.proofs.Common.{sym, subst, ◌∙◌}
+use Rattle.pt_supervisor.specs.Changed.{RemembersWhere}
+use Rattle.pt_supervisor.specs.Hearing.{standing}
+use Rattle.pt_supervisor.specs.Keeping.{HoldsWhere}
+use Rattle.pt_scheduler.proofs.plan.delete_child.Goals as goal
+
+pub returns-clause-holds : goal.returns-clause-holds
+returns-clause-holds c = subst (HoldsWhere (standing c.args.boss.now)) (sym (c.replace_start.ensures.standing ∙ c.replace_start-plan.ensures.standing)) c.delete_child.ensures.holds
+
+pub returns-clause-remembers : goal.returns-clause-remembers
+returns-clause-remembers c = subst (RemembersWhere (standing c.args.boss.now)) (sym (c.replace_start.ensures.standing ∙ c.replace_start-plan.ensures.standing)) c.delete_child.ensures.remembers

@@ -1,0 +1,19 @@
+-- `Scheduler::start_child`: its clauses `asks`, `attends` and `upholds`.
+use Rattle.pt_supervisor.specs.Hearing.{standing}
+use Rattle.pt_scheduler.specs.Asking.{BossStarts}
+use Rattle.pt_scheduler.proofs.Asking.{asked_attends, asked_upholds, asks, starts_err}
+use Rattle.pt_scheduler.proofs.scheduler.Scheduler.start_child.Goals as goal
+
+pub returns-clause-asks : goal.returns-clause-asks
+returns-clause-asks c =
+    asks c.args.p c.in_ok-boss.boss c.start_child-result.new.self c.in_ok-boss.member c.args.self.now c.take_boss.new.self c.put_boss.new.self c.in_ok-boss.ensures c.is_ok.result c.put_boss.ensures
+    (λ r old new. BossStarts c.args.child old r new) c.start_child-result.result c.is_ok.ensures.value c.start_child-result.ensures.starts
+
+pub returns-clause-attends : goal.returns-clause-attends
+returns-clause-attends c = asked_attends c.args.p c.in_ok-boss.boss c.start_child-result.new.self c.in_ok-boss.member c.args.self.now c.take_boss.new.self c.put_boss.new.self c.in_ok-boss.ensures c.is_ok.result c.put_boss.ensures
+
+pub returns-clause-upholds : goal.returns-clause-upholds
+returns-clause-upholds c =
+    asked_upholds c.args.p c.in_ok-boss.boss c.start_child-result.new.self c.in_ok-boss.member c.args.self.now c.take_boss.new.self c.put_boss.new.self c.in_ok-boss.ensures c.is_ok.result c.put_boss.ensures
+    c.start_child-result.result c.is_ok.ensures.value c.start_child-result.ensures.holds c.start_child-result.ensures.remembers
+    (starts_err c.args.child (standing c.in_ok-boss.boss) c.start_child-result.result (standing c.start_child-result.new.self) c.start_child-result.ensures.starts.0)
