@@ -35,8 +35,9 @@
 # - OTP's count_children asks whether each process is alive. The driver counts no child whose exit is still unheard.
 # - A child that a call added, and that did not start, keeps its place. The driver deletes it at once.
 # - Children that wait for another one whose start failed are to be started, and OTP's are not. The driver shows them so.
-#   Where starts fail under one_for_all and rest_for_one, no call starts, restarts or deletes a child, or ends one whose
-#   starts fail.
+#   Where starts fail under one_for_all and rest_for_one, no call changes the children.
+# - What comes behind a try is handled before the next one, and OTP's behind it. So nothing comes between the two that is
+#   behind: where starts fail under one_for_one, no child takes time to exit.
 # - OTP counts restarts by whole seconds. Restarts are less than a short span apart, just as much, or at least twice.
 # - Which orphan exits first behind its supervisor is chance. compare.py puts them in order.
 # - OTP allows no two children with one id, and none of these scenarios has them.

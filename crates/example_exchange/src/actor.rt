@@ -1,7 +1,5 @@
 //! The processes of the exchange.
 
-ghost use Rattle.std.specs.Prelude.{◌≡◌};
-
 use crate::caller::Caller;
 use crate::clerk::Clerk;
 use crate::enquiries::Enquiries;

@@ -8,7 +8,7 @@ use crate::facts;
 use crate::words::{
     BUSY, HANG_UP, NO_ANSWER, NOISE, Office, PICKED_UP, RING, WHEREIS, message, tell,
 };
-use pt_crew::{Next, demonitor, monitor};
+use pt_crew::{Next, monitor};
 use pt_node::{Body, Desk, Item, Pick, Pid, Reason, Ref};
 use pt_pending::{Heard, Pending};
 

@@ -3,7 +3,6 @@
 //! No clock is read. Once nothing is left to do at a moment, the next one is that at which a process has waited long
 //! enough, or at which a caller calls.
 
-ghost use Rattle.std.specs.Prelude.{◌≡◌};
 ghost use Rattle.pt_desk.specs.DeskState.{GoesOn};
 
 use crate::actor::{Actor, supervisor};

@@ -1,6 +1,5 @@
 //! A day of the exchange, and what is printed of it.
 
-ghost use Rattle.std.specs.Prelude.{◌≡◌};
 ghost use Rattle.pt_pending.specs.Ending.{EndsFirst};
 ghost use Rattle.pt_registry.specs.Past.{KeepMonitors};
 

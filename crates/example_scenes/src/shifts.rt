@@ -11,7 +11,7 @@ ghost use Rattle.pt_pauses.specs.Gathering.{AllChildrenLive};
 ghost use Rattle.example_scenes.specs.Team.{AreTeams, boss_of};
 
 use crate::stage::{BUDGET, Curtain, DESKS, rested};
-use crate::team::{CRASHES, Member, Teams, finish, opened};
+use crate::team::{CRASHES, Teammate, Teams, finish, opened};
 use anyhow::{Result, bail};
 use pt_crew::Crew;
 use pt_epochs::{Call, Plan, Refused, Rounds, Sink, run_epochs};
@@ -51,7 +51,7 @@ impl Sink for Book {
 fn work_on<'a>(
     alloc: Global,
     node: Node,
-    crews: &mut Vec<Crew<Member<'a>>>,
+    crews: &mut Vec<Crew<Teammate<'a>>>,
     book: &mut Book,
 ) -> Result<Node>
     requires { book.old.events.items ≡ [] }
@@ -60,7 +60,7 @@ fn work_on<'a>(
     ensures legal { AreTeams [] crews.old.items node
         → IfOk result (λ _. IsLegal [] (events (reverse book.new.events.items))) }
 {
-    epochs_children_live::<Member<'a>, Rounds, Book>(&Rounds);
+    epochs_children_live::<Teammate<'a>, Rounds, Book>(&Rounds);
     let call = Call::new();
     match run_epochs(&Rounds, alloc, node, crews, PLAN, &call, book) {
         Ok((node, _)) => Ok(node),

@@ -15,7 +15,7 @@ ghost use Rattle.pt_supervisor.specs.Keeping.{AnswerAs, SupervisorBegins, Keeps}
 ghost use Rattle.pt_pauses.specs.Still.{IsStillNode};
 ghost use Rattle.pt_pauses.specs.Gathering.{AllChildrenLive};
 ghost use Rattle.pt_pauses.specs.Stopping.{StoppedChildrenEnded};
-ghost use Rattle.example_scenes.specs.declared.team.Member.{Member};
+ghost use Rattle.example_scenes.specs.declared.team.Teammate.{Teammate};
 ghost use Rattle.example_scenes.specs.Team.{AreTeams, boss_of};
 
 use crate::stage::{BUDGET, Curtain, DESKS, first_of, rested};
@@ -47,12 +47,12 @@ struct Workers<'a> {
     curtain: &'a Curtain,
 }
 
-impl<'a> Start<Member<'a>> for Workers<'a> {
-    ghost starts = { λ old boss place result new. (b : Member) (first : Next) → result ≡ Ok (b, first)
+impl<'a> Start<Teammate<'a>> for Workers<'a> {
+    ghost starts = { λ old boss place result new. (b : Teammate) (first : Next) → result ≡ Ok (b, first)
         → SupervisorBegins (boss_of b) first };
 
-    fn start(&mut self, _supervisor: Pid, _place: usize) -> Result<(Member<'a>, Next), Fault> {
-        let worker = Member { boss: None };
+    fn start(&mut self, _supervisor: Pid, _place: usize) -> Result<(Teammate<'a>, Next), Fault> {
+        let worker = Teammate { boss: None };
         if self.crashes == 0 {
             self.curtain.part_is_played();
             return Ok((worker, Next::Wait(Pick::Any)));
@@ -64,18 +64,18 @@ impl<'a> Start<Member<'a>> for Workers<'a> {
 
 /// A supervisor, or a worker, which keeps what it gets.
 #[derive(Drop)]
-pub struct Member<'a> {
+pub struct Teammate<'a> {
     boss: Option<Supervisor<Workers<'a>>>,
 }
 
-impl<'a> Behaviour for Member<'a> {
+impl<'a> Behaviour for Teammate<'a> {
     ghost answers = { AnswerAs boss_of };
 
     #[tactic(auto, using(pt_workers::proofs::GoingOn::stays))]
     fn handle(
         &mut self,
         desk: &mut Desk,
-        births: &mut Births<Member<'a>>,
+        births: &mut Births<Teammate<'a>>,
         me: Pid,
         item: Option<Item>,
     ) -> Next {
@@ -86,14 +86,14 @@ impl<'a> Behaviour for Member<'a> {
     }
 }
 
-impl<'a> Supervised for Member<'a> {
+impl<'a> Supervised for Teammate<'a> {
     ghost supervisor = { boss_of };
 
     ghost supervises = { λ time b d me item next now e births h. h };
 }
 
 /// A supervisor of three permanent children, which starts each again by itself, at most a hundred times.
-fn team<'a>(alloc: Global, curtain: &'a Curtain) -> Result<Member<'a>, AllocError>
+fn team<'a>(alloc: Global, curtain: &'a Curtain) -> Result<Teammate<'a>, AllocError>
     ensures { IfOk result (λ b. SupervisorBegins (boss_of b) Next.Proceed) }
 {
     let child = Child::new(Restart::Permanent);
@@ -104,15 +104,15 @@ fn team<'a>(alloc: Global, curtain: &'a Curtain) -> Result<Member<'a>, AllocErro
         curtain,
     };
     let boss = Supervisor::new(workers, Strategy::OneForOne, children, limit);
-    Ok(Member { boss: Some(boss) })
+    Ok(Teammate { boss: Some(boss) })
 }
 
 /// The crew of a desk, which its supervisor has entered.
-fn staffed<'a>(alloc: Global, desk: &mut Desk, curtain: &'a Curtain) -> Result<Crew<Member<'a>>>
+fn staffed<'a>(alloc: Global, desk: &mut Desk, curtain: &'a Curtain) -> Result<Crew<Teammate<'a>>>
     ensures upholds { IfOk result (λ c. UpholdsOn (Keeps [] boss_of) c desk.new.shard) }
     ensures goes_on { GoesOn desk.old desk.new }
 {
-    quiet_children_live::<Member<'a>>();
+    quiet_children_live::<Teammate<'a>>();
     let mut crew = Crew::new(alloc, 8);
     let boss = team(alloc, curtain)?;
     crew.enter(desk, boss, Next::Proceed)?;
@@ -124,7 +124,7 @@ fn all_staffed<'a>(
     alloc: Global,
     desks: &mut Vec<Desk>,
     curtain: &'a Curtain,
-) -> Result<Vec<RestingWork<'a, Crew<Member<'a>>>>>
+) -> Result<Vec<RestingWork<'a, Crew<Teammate<'a>>>>>
     ensures upholds { IfOk result (λ crews. AllUphold (Keeps [] boss_of) crews.items desks.new.items) }
     ensures from { GoOnFrom [] desks.old.items → GoOnFrom [] desks.new.items }
 {
@@ -141,7 +141,7 @@ fn all_staffed<'a>(
 pub fn opened<'a>(
     alloc: Global,
     curtain: &'a Curtain,
-) -> Result<(Node, Vec<RestingWork<'a, Crew<Member<'a>>>>)>
+) -> Result<(Node, Vec<RestingWork<'a, Crew<Teammate<'a>>>>)>
     ensures { IfOk result (λ r. AreTeams [] r.1.items r.0) }
 {
     let mut desks = open(alloc, Config::DEFAULT.with_desks(DESKS).with_slots(16))?;
@@ -155,13 +155,13 @@ pub fn opened<'a>(
 fn perform<'a, R: Threads + Wait + Sync>(
     rt: &R,
     node: &mut Node,
-    crews: &mut Vec<RestingWork<'a, Crew<Member<'a>>>>,
+    crews: &mut Vec<RestingWork<'a, Crew<Teammate<'a>>>>,
     curtain: &Curtain,
 ) -> Result<()>
     ensures { IfOk result (λ _. AreTeams [] crews.old.items node.old → AreTeams [] crews.new.items node.new) }
 {
     let gate = curtain.gate(rt);
-    paused_children_live::<Member<'a>, RestGate<'_, R>>(&gate);
+    paused_children_live::<Teammate<'a>, RestGate<'_, R>>(&gate);
     if node.run(rt, crews, u64::MAX, BUDGET, &gate).is_err() {
         bail!("the scene does not run");
     }
@@ -170,12 +170,12 @@ fn perform<'a, R: Threads + Wait + Sync>(
 
 /// Lets the processes that are there do what they have to, in rounds on the calling thread. Then no process has anything
 /// to do, and no letter is in flight.
-fn come_to_rest<'a>(node: &mut Node, crews: &mut Vec<Crew<Member<'a>>>) -> Result<()>
+fn come_to_rest<'a>(node: &mut Node, crews: &mut Vec<Crew<Teammate<'a>>>) -> Result<()>
     ensures holds { IfOk result (λ _. (past : Past)
         → AreTeams past crews.old.items node.old → AreTeams past crews.new.items node.new) }
     ensures still { IfOk result (λ _. AreIdle crews.new.items node.new × AreStill node.new) }
 {
-    paused_children_live::<Member<'a>, FreeGate>(&FreeGate);
+    paused_children_live::<Teammate<'a>, FreeGate>(&FreeGate);
     if node.run_single(crews, 8, BUDGET, &FreeGate).is_err() {
         bail!("the scene does not run");
     }
@@ -202,7 +202,7 @@ fn settled(node: Node) -> Result<Quiet>
 /// The crews of a node that is still, and the settled node.
 #[derive(Drop)]
 pub struct Teams<'a> {
-    crews: Vec<Crew<Member<'a>>>,
+    crews: Vec<Crew<Teammate<'a>>>,
     quiet: Quiet,
 }
 
@@ -212,11 +212,11 @@ pub fn curtain(alloc: Global) -> Result<Curtain, AllocError> {
 }
 
 /// Lets a node come to rest, and settles it. Then each child that its supervisor wants alive is alive.
-pub fn finish<'a>(node: Node, crews: Vec<Crew<Member<'a>>>) -> Result<Teams<'a>>
+pub fn finish<'a>(node: Node, crews: Vec<Crew<Teammate<'a>>>) -> Result<Teams<'a>>
     ensures { IfOk result (λ t. (past : Past) → AreTeams past crews.entry.items node
         → AllChildrenLive past boss_of t.crews.items t.quiet.gathered) }
 {
-    gathered_children_live::<Member<'a>, FreeGate>(&FreeGate);
+    gathered_children_live::<Teammate<'a>, FreeGate>(&FreeGate);
     let (mut node, mut crews) = (node, crews);
     come_to_rest(&mut node, &mut crews)?;
     let quiet = settled(node)?;
@@ -233,7 +233,7 @@ pub fn play<'a, R: Threads + Wait + Sync>(
     ensures live { IfOk result (λ t. AllChildrenLive [] boss_of t.crews.items t.quiet.gathered) }
     ensures stopped { StoppedChildrenEnded boss_of }
 {
-    stopped_children_ended::<Member<'a>>();
+    stopped_children_ended::<Teammate<'a>>();
     let (mut node, mut works) = opened(alloc, curtain)?;
     perform(rt, &mut node, &mut works, curtain)?;
     let crews = rested(alloc, works)?;
@@ -248,7 +248,7 @@ impl<'a> Teams<'a> {
             return &[];
         };
         match crew.behaviour(first_of(desk)) {
-            Some(Member { boss: Some(boss) }) => boss.children(),
+            Some(Teammate { boss: Some(boss) }) => boss.children(),
             _ => &[],
         }
     }

@@ -1,4 +1,4 @@
 -- The lemmas that more than one function of the crate uses.
 pub mod InCrew
-pub mod InRow
 pub mod AlongRow
+mod Handles

@@ -2,3 +2,4 @@
 pub mod Joining
 pub mod Kept
 pub mod GoingOn
+mod Handles

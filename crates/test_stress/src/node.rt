@@ -1,6 +1,6 @@
 //! A node for a crowd: its desks with their workers, and what is gathered of them.
 
-ghost use Rattle.std.specs.Prelude.{◌≡◌, map};
+ghost use Rattle.std.specs.Prelude.{map};
 ghost use Rattle.pt_workers.specs.Desks.{AreDesks};
 
 use crate::board::{DESKS, SLOTS};

@@ -7,7 +7,7 @@ use example_uses::desks_on_threads::{Sender, ring};
 use example_uses::epochs::{Lines, Plan, epochs};
 use example_uses::two_processes::two_processes;
 use example_uses::until_quiet::{UntilQuiet, ends_behind_quiet_turns};
-use pt_node::{Body, Config, FreeGate, Gathered, Node, Pid, Standing, Task, Work};
+use pt_node::{Config, FreeGate, Gathered, Node, Pid, Standing, Task, Work};
 use std::alloc::Global;
 use std::process::Abort;
 use std::thread::Threads;

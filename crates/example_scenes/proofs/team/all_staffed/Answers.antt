@@ -5,7 +5,7 @@ use Rattle.pt_crew.specs.declared.crew.Crew.{Crew}
 use Rattle.pt_crew.proofs.Runs.{FirstUphold, one_more}
 use Rattle.pt_crew.specs.Running.{UpholdsOn}
 use Rattle.pt_supervisor.specs.Keeping.{Keeps}
-use Rattle.example_scenes.specs.declared.team.Member.{Member}
+use Rattle.example_scenes.specs.declared.team.Teammate.{Teammate}
 use Rattle.example_scenes.specs.Team.{boss_of}
 use Rattle.example_scenes.proofs.Staffing.{one_keeps}
 use Rattle.example_scenes.proofs.team.all_staffed.Goals as goal
@@ -17,16 +17,16 @@ loop-place-preserved c =
     let desks = c.loop-place.desks.items in
     let place = c.loop-place.place in
     let desk = c.staffed.new.desk in
-    let crew : Crew Member = c.new-work.result in
+    let crew : Crew Teammate = c.new-work.result in
     let within : place < length desks = omega (arith, c.loop-place-test.true, inv.same, c.len-place-end.ensures) in
-    let upholds = subst (λ (w : Crew Member). UpholdsOn (Keeps [] boss_of) w desk.shard) (sym c.new-work.ensures) c.in_ok-crew.ensures.upholds in
+    let upholds = subst (λ (w : Crew Teammate). UpholdsOn (Keeps [] boss_of) w desk.shard) (sym c.new-work.ensures) c.in_ok-crew.ensures.upholds in
     let more = c.in_ok-push.ensures.items in
     let grown : FirstUphold (Keeps [] boss_of) (crews ++ crew ∷ []) (set desks (length crews) desk) =
     one_more (Keeps [] boss_of) crews desks crew desk (omega (arith, within, inv.count)) inv.first upholds in
     record {
       count = let l = ap length more in let a = length-append crews (crew ∷ []) in omega (arith, l, a, inv.count);
       same = length-set desks place desk ∙ inv.same;
-      first = subst (λ (cs : List (Crew Member)). FirstUphold (Keeps [] boss_of) cs (set desks place desk)) (sym more)
+      first = subst (λ (cs : List (Crew Teammate)). FirstUphold (Keeps [] boss_of) cs (set desks place desk)) (sym more)
           (subst (λ n. FirstUphold (Keeps [] boss_of) (crews ++ crew ∷ []) (set desks n desk)) inv.count grown);
       from = λ f. one_keeps desks place c.index_mut.result.now desk within c.index_mut.ensures.value c.staffed.ensures.goes_on (inv.from f);
     }

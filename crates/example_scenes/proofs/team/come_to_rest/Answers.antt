@@ -3,7 +3,7 @@ use Rattle.std.proofs.Common.{◌≡◌, false, List, Option, Some, None, is_som
 use Rattle.pt_desk.specs.DeskState.{DeskState}
 use Rattle.pt_crew.specs.declared.crew.Crew.{Crew}
 use Rattle.pt_crew.specs.Running.{AreIdle}
-use Rattle.example_scenes.specs.declared.team.Member.{Member}
+use Rattle.example_scenes.specs.declared.team.Teammate.{Teammate}
 use Rattle.example_scenes.proofs.team.come_to_rest.Goals as goal
 
 none_of : {X : Type 0} (o : Option X) → is_some o ≡ false → o ≡ None
@@ -21,6 +21,6 @@ returns-clause-still c =
     let idle : AreIdle crews c.turn_until_still.new.self =
     subst (λ (ds : List DeskState). AreIdle crews ds) c.desks.ensures.desks c.if-not-are_idle.ensures in
     let none = none_of c.turn_until_still.result.stopped (sym c.is_some.ensures ∙ c.if-is_some.false) in (
-      subst (λ (cs : List (Crew Member)). AreIdle cs c.turn_until_still.new.self) c.as_slice.ensures.value idle,
+      subst (λ (cs : List (Crew Teammate)). AreIdle cs c.turn_until_still.new.self) c.as_slice.ensures.value idle,
       c.turn_until_still.ensures.still none,
     )
