@@ -64,9 +64,8 @@ def argument(kind: str) -> str:
     if kind == "Global":
         return "rt.alloc()"
     if row := ROW.fullmatch(kind):
-        handle = {"DeskHandle": "pt_table::desk_handle", "CrewHandle": "pt_c_crews::crew_handle",
-                  "PtJob": "pt_c_crews::types", "PtChildSpec": "pt_c_crews::types"}.get(row[2])
-        item = row[2] if row[2] in PLAIN else f"{handle or 'pt_structs::types'}::{row[2]}"
+        handle = {"DeskHandle": "pt_c_desks::desk_handle", "CrewHandle": "pt_c_crews::crew_handle"}.get(row[2])
+        item = row[2] if row[2] in PLAIN else f"{handle or 'pt_c_values::types'}::{row[2]}"
         return f"{row[1]}any::<[{item}; 1]>(&rt)"
     return "&mut any(&rt)" if kind.startswith("&mut ") else "any(&rt)"
 

@@ -25,13 +25,13 @@ FIELD = re.compile(r"^    pub (\w+): ([^,\n]+),$", re.M)
 ARRAY = re.compile(r"\[(\w+); (\d+)\]")
 # The records of the definitions that the library is proved to say of itself, and where their structs are.
 RECORDS = {
-    "PtCodes": ("pt_calls/specs/About.antt", "all_codes"),
-    "PtSizes": ("pt_calls/specs/About.antt", "all_sizes"),
-    "PtSupervisorCodes": ("pt_calls/specs/AboutSupervisors.antt", "all_supervisor_codes"),
-    "PtAskingAbout": ("pt_asking/specs/About.antt", "asking_about"),
+    "PtCodes": ("pt_c_tools/specs/About.antt", "all_codes"),
+    "PtSizes": ("pt_c_tools/specs/About.antt", "all_sizes"),
+    "PtSupervisorCodes": ("pt_c_tools/specs/AboutSupervisors.antt", "all_supervisor_codes"),
+    "PtAskingAbout": ("pt_c_tools/specs/AboutAsking.antt", "asking_about"),
 }
 # A code that no such record has: the function that makes it.
-CASES = {"Heard": ("pt_asking/src/hearing.rt", r"Heard::(\w+)(?:\(\w+\))? => PtHeard \{\s*code: (\d+)")}
+CASES = {"Heard": ("pt_c_tools/src/hearing.rt", r"Heard::(\w+)(?:\(\w+\))? => PtHeard \{\s*code: (\d+)")}
 SIZES = {"u8": 1, "bool": 1, "u32": 4, "u64": 8, "i64": 8, "usize": 8}
 
 

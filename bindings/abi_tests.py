@@ -19,23 +19,23 @@ RAW = "bindings/rust/src/raw.rs"
 PYTHON = "bindings/python/pundewo/_abi.py"
 LAYOUT = "bindings/c/layout.c"
 ALL = (HEADER, LAYOUT, RAW, PYTHON)
-TYPES = "crates/pt_structs/src/types.rt"
+TYPES = "crates/pt_c_values/src/types.rt"
 # What is changed in which file, and what has to be said of which files.
 CASES = [
     ("a field of the sources has another type", TYPES, "pub posted: u64,", "pub posted: i64,", (HEADER, RAW, PYTHON),
      "posted"),
     ("a field of the sources is smaller", TYPES, "pub handled: u64,", "pub handled: u32,", (),
      "PtTurned has 16 bytes by its fields, and the library is proved to say 24"),
-    ("two fields of the sources change names", "crates/pt_c_crews/src/types.rt", "pub restart: u32",
+    ("two fields of the sources change names", TYPES, "pub restart: u32",
      "pub again: u32", ALL, "again"),
-    ("a struct of the sources has one field more", "crates/pt_c_crews/src/types.rt", "    pub was: PtNext,\n",
+    ("a struct of the sources has one field more", TYPES, "    pub was: PtNext,\n",
      "    pub was: PtNext,\n    pub more: u64,\n", (),
      "PtJob has 200 bytes by its fields, and the library is proved to say 192"),
     ("a struct of the sources is new", TYPES, "/// An exit reason.",
      "#[repr(C)]\npub struct PtNew {\n    pub a: u8,\n}\n\n/// ", (), "bindings/abi.txt has no [struct PtNew]"),
-    ("a code of the sources has another number", "crates/pt_calls/specs/About.antt", "  pick_any = 5;",
+    ("a code of the sources has another number", "crates/pt_c_tools/specs/About.antt", "  pick_any = 5;",
      "  pick_any = 6;", (), "the codes of pt_pick_code are not those from 0 on, in order"),
-    ("a code of the sources is new", "crates/pt_calls/src/about.rt", "    pub bad_places: u32,\n",
+    ("a code of the sources is new", "crates/pt_c_tools/src/about.rt", "    pub bad_places: u32,\n",
      "    pub bad_places: u32,\n    pub late: u32,\n", (), "PtCodes has 268 bytes by its fields"),
     ("a code of the table is gone", "bindings/abi.txt",
      "- PT_CHILD_PRESENT child_present: the supervisor has a child with this tag, which is not running\n", "", (),

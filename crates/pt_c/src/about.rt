@@ -1,23 +1,25 @@
 //! What the library reports of itself, so that a header or a wrapper can be compared with it.
 
 ghost use Rattle.std.specs.Prelude.{◌≡◌};
-ghost use Rattle.pt_calls.specs.About.{all_codes, all_sizes, sample_event, sample_left_over, sample_turned, sample_account, sample_loss};
-ghost use Rattle.pt_calls.specs.About.{sample_config};
-ghost use Rattle.pt_calls.specs.About.{sample_job, sample_answer};
-ghost use Rattle.pt_calls.specs.About.{sample_fired, sample_holder};
+ghost use Rattle.pt_c_tools.specs.About.{all_codes, all_sizes, sample_fired, sample_holder};
+ghost use Rattle.pt_c_values.specs.Samples.{sample_event, sample_left_over, sample_turned, sample_account, sample_loss};
+ghost use Rattle.pt_c_values.specs.Samples.{sample_config, sample_job, sample_answer};
 
-use pt_c_crews::types::PtJob;
-use pt_calls::about::{self, PtCodes, PtSizes};
-use pt_calls::naming::PtHolder;
-use pt_structs::types::{PtAccount, PtAnswer, PtConfig, PtEvent, PtLeftOver, PtLoss, PtTurned};
-use pt_tools::types::PtFired;
+use pt_c_crews::about_crews;
+use pt_c_tools::about::{self, PtCodes, PtSizes};
+use pt_c_tools::naming::PtHolder;
+use pt_c_tools::types::PtFired;
+use pt_c_values::samples;
+use pt_c_values::types::{
+    PtAccount, PtAnswer, PtConfig, PtEvent, PtJob, PtLeftOver, PtLoss, PtTurned,
+};
 
 /// Writes each code, from the same functions as the calls.
 #[unsafe(no_mangle)]
 pub extern "C" fn pt_about_codes(out: &mut PtCodes)
     ensures { out.new ≡ all_codes }
 {
-    about::codes(out);
+    about_crews::codes(out);
 }
 
 /// Writes the size of each struct that crosses.
@@ -33,7 +35,7 @@ pub extern "C" fn pt_about_sizes(out: &mut PtSizes)
 pub extern "C" fn pt_about_event(out: &mut PtEvent)
     ensures { out.new ≡ sample_event }
 {
-    about::event(out);
+    samples::event(out);
 }
 
 /// Writes a sample of a letter left over: its fields have the numbers 1, 2, 3 and so on in order, and each bool is
@@ -42,7 +44,7 @@ pub extern "C" fn pt_about_event(out: &mut PtEvent)
 pub extern "C" fn pt_about_left_over(out: &mut PtLeftOver)
     ensures { out.new ≡ sample_left_over }
 {
-    about::left_over(out);
+    samples::left_over(out);
 }
 
 /// Writes a sample of a turn: its fields have the numbers 1, 2, 3 and so on in order, a bool being true.
@@ -50,7 +52,7 @@ pub extern "C" fn pt_about_left_over(out: &mut PtLeftOver)
 pub extern "C" fn pt_about_turned(out: &mut PtTurned)
     ensures { out.new ≡ sample_turned }
 {
-    about::turned(out);
+    samples::turned(out);
 }
 
 /// Writes a sample of an account: its fields have the numbers 1, 2, 3 and so on in order, a bool being true.
@@ -58,7 +60,7 @@ pub extern "C" fn pt_about_turned(out: &mut PtTurned)
 pub extern "C" fn pt_about_account(out: &mut PtAccount)
     ensures { out.new ≡ sample_account }
 {
-    about::account(out);
+    samples::account(out);
 }
 
 /// Writes a sample of a loss: its fields have the numbers 1, 2, 3 and so on in order, a bool being true.
@@ -66,7 +68,7 @@ pub extern "C" fn pt_about_account(out: &mut PtAccount)
 pub extern "C" fn pt_about_loss(out: &mut PtLoss)
     ensures { out.new ≡ sample_loss }
 {
-    about::loss(out);
+    samples::loss(out);
 }
 
 /// Writes a sample of a timer that is due: its fields have the numbers 1, 2, 3 in order.
@@ -90,7 +92,7 @@ pub extern "C" fn pt_about_holder(out: &mut PtHolder)
 pub extern "C" fn pt_about_config(out: &mut PtConfig)
     ensures { out.new ≡ sample_config }
 {
-    about::config(out);
+    samples::config(out);
 }
 
 /// Writes a sample of a job: its fields have the numbers 1, 2, 3 and so on in order, a bool being true.
@@ -98,7 +100,7 @@ pub extern "C" fn pt_about_config(out: &mut PtConfig)
 pub extern "C" fn pt_about_job(out: &mut PtJob)
     ensures { out.new ≡ sample_job }
 {
-    about::job(out);
+    samples::job(out);
 }
 
 /// Writes a sample of an answer: its fields have the numbers 1, 2, 3 and so on in order.
@@ -106,5 +108,5 @@ pub extern "C" fn pt_about_job(out: &mut PtJob)
 pub extern "C" fn pt_about_answer(out: &mut PtAnswer)
     ensures { out.new ≡ sample_answer }
 {
-    about::answer(out);
+    samples::answer(out);
 }

@@ -1,18 +1,19 @@
 //! What the library reports of the codes and structs of supervisors, so that a header or a wrapper can be compared with it.
 
 ghost use Rattle.std.specs.Prelude.{◌≡◌};
-ghost use Rattle.pt_calls.specs.AboutSupervisors.{all_supervisor_codes, sample_child, sample_child_spec, sample_supervisor_spec};
-ghost use Rattle.pt_calls.specs.AboutSupervisors.{sample_child_counts, sample_gave_up};
+ghost use Rattle.pt_c_tools.specs.AboutSupervisors.{all_supervisor_codes, sample_child, sample_child_spec, sample_supervisor_spec};
+ghost use Rattle.pt_c_tools.specs.AboutSupervisors.{sample_child_counts, sample_gave_up};
 
-use pt_c_crews::types::{PtChild, PtChildCounts, PtChildSpec, PtGaveUp, PtSupervisorSpec};
-use pt_calls::about_supervisors::{self, PtSupervisorCodes};
+use pt_c_crews::about_crews;
+use pt_c_tools::about_supervisors::{self, PtSupervisorCodes};
+use pt_c_values::types::{PtChild, PtChildCounts, PtChildSpec, PtGaveUp, PtSupervisorSpec};
 
 /// Writes each code, from the same functions as the calls, and the sizes.
 #[unsafe(no_mangle)]
 pub extern "C" fn pt_about_supervisors(out: &mut PtSupervisorCodes)
     ensures { out.new ≡ all_supervisor_codes }
 {
-    about_supervisors::supervisors(out);
+    about_crews::supervisors(out);
 }
 
 /// Writes a sample of a supervisor: its fields have the numbers 1, 2, 3 and so on in order, a bool being true.

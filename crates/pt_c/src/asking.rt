@@ -4,18 +4,18 @@
 //! next if its code, or that of its reason, is none of its enumeration.
 
 ghost use Rattle.std.specs.Prelude.{◌≡◌, true, false};
-ghost use Rattle.pt_table.specs.Answers.{CallsThrough};
-ghost use Rattle.pt_structs.specs.Crossing.{pid_crossed};
-ghost use Rattle.pt_asking.specs.Calls.{AsksServer, ExpiresCode, HearsItem, ReadsRequest, RepliesCode, TellsIfCall};
-ghost use Rattle.pt_asking.specs.About.{asking_about};
+ghost use Rattle.pt_c_values.specs.Places.{CallsThrough};
+ghost use Rattle.pt_c_values.specs.Crossing.{pid_crossed};
+ghost use Rattle.pt_c_tools.specs.Asking.{AsksServer, ExpiresCode, HearsItem, ReadsRequest, RepliesCode, TellsIfCall};
+ghost use Rattle.pt_c_tools.specs.AboutAsking.{asking_about};
 
-use pt_asking::about::{PtAskingAbout, about};
-use pt_asking::replying::request_of;
-use pt_asking::telling::is_call;
-use pt_asking::types::{PtCall, PtHeard, PtRequest};
-use pt_calls::asking;
-use pt_structs::types::{PtItem, PtPid};
-use pt_table::desk_handle::DeskHandle;
+use pt_c_desks::desk_handle::DeskHandle;
+use pt_c_tools::about_asking::{PtAskingAbout, about};
+use pt_c_tools::replying::request_of;
+use pt_c_tools::requests;
+use pt_c_tools::telling::is_call;
+use pt_c_tools::types::{PtCall, PtHeard, PtRequest};
+use pt_c_values::types::{PtItem, PtPid};
 use std::alloc::Global;
 
 /// Asks a server, as `Pending::ask` does: it monitors the server, and sends the request under the monitor's number. It
@@ -32,7 +32,7 @@ pub extern "C" fn pt_ask(
     ensures { CallsThrough h.old.state h.new.state result (out.new ≡ out.old)
         (AsksServer (pid_crossed me) (pid_crossed server) asks false 0 result out.old out.new) }
 {
-    asking::ask(alloc, h, me, server, asks, out)
+    requests::ask(alloc, h, me, server, asks, out)
 }
 
 /// Asks a server, as `Pending::ask_until` does: the call ends at the moment `deadline` if it is open then.
@@ -49,7 +49,7 @@ pub extern "C" fn pt_ask_until(
     ensures { CallsThrough h.old.state h.new.state result (out.new ≡ out.old)
         (AsksServer (pid_crossed me) (pid_crossed server) asks true deadline result out.old out.new) }
 {
-    asking::ask_until(alloc, h, me, server, asks, deadline, out)
+    requests::ask_until(alloc, h, me, server, asks, deadline, out)
 }
 
 /// Reads an item that the client got, as `Pending::hear` does. It writes to `out` what the item means to the call, and the
@@ -65,7 +65,7 @@ pub extern "C" fn pt_hear(
     ensures { CallsThrough h.old.state h.new.state result ((call.new ≡ call.old) × (out.new ≡ out.old))
         (HearsItem item result call.old call.new out.old out.new) }
 {
-    asking::hear(alloc, h, call, item, out)
+    requests::hear(alloc, h, call, item, out)
 }
 
 /// Reports the time, as `Pending::expire` does. It writes to `out` whether the call ends by its deadline now.
@@ -80,7 +80,7 @@ pub extern "C" fn pt_expire(
     ensures { CallsThrough h.old.state h.new.state result ((call.new ≡ call.old) × (out.new ≡ out.old))
         (ExpiresCode now result call.old call.new out.new) }
 {
-    asking::expire(alloc, h, call, now, out)
+    requests::expire(alloc, h, call, now, out)
 }
 
 /// The request that the item is, as `request_of` returns it; 8 if it is none.
@@ -110,7 +110,7 @@ pub extern "C" fn pt_reply(
 ) -> u32
     ensures { CallsThrough h.old.state h.new.state result (Unit {0}) (RepliesCode (pid_crossed me) request n result) }
 {
-    asking::reply(alloc, h, me, request, n)
+    requests::reply(alloc, h, me, request, n)
 }
 
 /// Writes a sample of each struct of calls, and its size: the fields have the numbers 1, 2, 3 and so on in order, a bool being

@@ -5,13 +5,14 @@
 //! 16, and 16 before each other refusal.
 
 ghost use Rattle.std.specs.Prelude.{◌≡◌};
-ghost use Rattle.pt_table.specs.Answers.{CallsThrough, SpawnsOnDesk, SpawnsChild, SendsOnDesk, SendsExit, Links, Unlinks, WatchesOnDesk, UnwatchesOnDesk};
-ghost use Rattle.pt_table.specs.Answers.{AsksOnDesk, Traps, TakesOnDesk, Exits, TurnsOnce};
-ghost use Rattle.pt_structs.specs.Crossing.{pid_crossed, ref_in, body_in};
+ghost use Rattle.pt_c_values.specs.Places.{CallsThrough};
+ghost use Rattle.pt_c_desks.specs.Answers.{SpawnsOnDesk, SpawnsChild, SendsOnDesk, SendsExit, Links, Unlinks, WatchesOnDesk, UnwatchesOnDesk};
+ghost use Rattle.pt_c_desks.specs.Answers.{AsksOnDesk, Traps, TakesOnDesk, Exits, TurnsOnce};
+ghost use Rattle.pt_c_values.specs.Crossing.{pid_crossed, ref_in, body_in};
 
-use pt_calls::desks;
-use pt_structs::types::{PtBody, PtItem, PtPick, PtPid, PtReason, PtRef, PtTurned};
-use pt_table::desk_handle::DeskHandle;
+use pt_c_desks::desk_handle::DeskHandle;
+use pt_c_desks::desks;
+use pt_c_values::types::{PtBody, PtItem, PtPick, PtPid, PtReason, PtRef, PtTurned};
 use std::alloc::Global;
 
 /// Spawns a process without a parent, as `Desk::spawn` does. It writes the pid to `out` if it returns 0.

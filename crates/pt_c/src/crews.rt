@@ -6,25 +6,26 @@
 
 ghost use Rattle.std.specs.Prelude.{◌≡◌, length};
 ghost use Rattle.pt_crew.specs.Crews.{crew_size, queue, was_refused};
-ghost use Rattle.pt_table.specs.Answers.{CallsThrough, ReadsThrough, ShowsCode};
-ghost use Rattle.pt_structs.specs.Crossing.{pid_crossed};
-ghost use Rattle.pt_structs.specs.Nexts.{next_out};
+ghost use Rattle.pt_c_values.specs.Places.{CallsThrough, ReadsThrough, ShowsCode};
+ghost use Rattle.pt_c_values.specs.Crossing.{pid_crossed};
+ghost use Rattle.pt_c_tools.specs.Nexts.{next_out};
 ghost use Rattle.pt_scheduler.specs.Scheduling.{member_views, crew_of};
 ghost use Rattle.pt_c_crews.specs.Crewing.{CrewBeginsAgain, CrewSupervises, CrewTells, NotesIfOwn, SpawnsBossInCrew};
 ghost use Rattle.pt_c_crews.specs.Crewing.{SpawnsChildInCrew, SpawnsInCrew, TellsChild, TellsChildCount, TellsTime};
 ghost use Rattle.pt_c_crews.specs.Children.{CrewDeletesChild, CrewRestartsChild, CrewStartsChild, CrewTerminatesChild};
 ghost use Rattle.pt_c_crews.specs.Children.{TellsCause, TellsCounts};
 ghost use Rattle.pt_c_crews.specs.Through.{AnswersInOrder, GoesOnIn, OpensCrew, SetsCrewTime, StepsIfOwn};
-ghost use Rattle.pt_places.specs.Filling.{GivesUp};
+ghost use Rattle.pt_c_values.specs.Filling.{GivesUp};
 
-use pt_c_crews::calls;
 use pt_c_crews::crew_handle::CrewHandle;
-use pt_c_crews::types::{PtChild, PtChildCounts, PtChildSpec, PtGaveUp, PtJob, PtSupervisorSpec};
-use pt_calls::crews;
-use pt_structs::crossing::pid_in;
-use pt_structs::types::{PtAnswer, PtNext, PtPid, PtTurned};
-use pt_table::desk_handle::DeskHandle;
-use pt_table::history_handle::HistoryHandle;
+use pt_c_crews::{calls, crews};
+use pt_c_desks::desk_handle::DeskHandle;
+use pt_c_desks::history_handle::HistoryHandle;
+use pt_c_values::crossing::pid_in;
+use pt_c_values::types::{
+    PtAnswer, PtChild, PtChildCounts, PtChildSpec, PtGaveUp, PtJob, PtNext, PtPid,
+    PtSupervisorSpec, PtTurned,
+};
 use std::alloc::Global;
 
 /// Begins a crew, with no process and at the time 0. It is that of the desk on which it spawns its first process or makes

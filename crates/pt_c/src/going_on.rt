@@ -2,16 +2,16 @@
 
 ghost use Rattle.std.specs.Prelude.{map};
 ghost use Rattle.pt_workers.specs.Desks.{AreDesks};
-ghost use Rattle.pt_table.specs.Answers.{values};
-ghost use Rattle.pt_nodes.specs.Nodes.{IsWholeNode};
-ghost use Rattle.pt_nodes.specs.GoingOn.{NodeGoesOn};
+ghost use Rattle.pt_c_values.specs.Places.{values};
+ghost use Rattle.pt_c_nodes.specs.Nodes.{IsWholeNode};
+ghost use Rattle.pt_c_crews.specs.NodeGoingOn.{NodeGoesOn};
 
 use pt_c_crews::crew_handle::CrewHandle;
-use pt_nodes::gathered_handle::GatheredHandle;
-use pt_nodes::going_on;
-use pt_nodes::settled_handle::SettledHandle;
-use pt_table::desk_handle::DeskHandle;
-use pt_table::history_handle::HistoryHandle;
+use pt_c_crews::going_on;
+use pt_c_desks::desk_handle::DeskHandle;
+use pt_c_desks::history_handle::HistoryHandle;
+use pt_c_nodes::gathered_handle::GatheredHandle;
+use pt_c_nodes::settled_handle::SettledHandle;
 use std::alloc::Global;
 
 /// Continues with a node and its crews. It gathers the desks and settles the node, takes its history, and resumes it. Then

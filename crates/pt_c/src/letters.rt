@@ -1,11 +1,11 @@
 //! Where the letters of a desk are: whom to wake after its next turn, and whether it has something to do.
 
 ghost use Rattle.std.specs.Prelude.{◌≡◌};
-ghost use Rattle.pt_table.specs.Answers.{CallsThrough, ReadsThrough};
-ghost use Rattle.pt_doors.specs.Letters.{HasLettersCode, desks_with};
+ghost use Rattle.pt_c_values.specs.Places.{CallsThrough, ReadsThrough};
+ghost use Rattle.pt_c_desks.specs.Letters.{HasLettersCode, desks_with};
 
-use pt_calls::letters;
-use pt_table::desk_handle::DeskHandle;
+use pt_c_desks::desk_handle::DeskHandle;
+use pt_c_desks::letters;
 use std::alloc::Global;
 
 /// The desks for which letters wait in the outbox of the desk, a bit for each, the lowest that of desk 0. The next turn

@@ -6,10 +6,9 @@
 //! contract, its code and what it writes are that call's answer, and if it fails, all is as it was. An empty handle is a
 //! code, too.
 //!
-//! Values with an enum or an option in Rattle cross as plain structs with a code (`pt_structs::types`). `about` reports
-//! codes, sizes and fields, to be compared with a header. `pt_calls` has the calls on a desk and names, and on a crew with
-//! its desk, `pt_c_crews` those on a crew alone, `pt_nodes` those on a node, `pt_tools` those of timers, and `pt_doors`
-//! those of a way in.
+//! Values with an enum or an option in Rattle cross as plain structs with a code (`pt_c_values::types`). `about` reports
+//! codes, sizes and fields, to be compared with a header. The calls are in one library for each object: `pt_c_desks`,
+//! `pt_c_nodes`, `pt_c_crews`, and `pt_c_tools` for timers, names and ways in.
 //!
 //! Tests: `bindings/run.sh`.
 //!
@@ -29,7 +28,7 @@
 //! - **Calls.** Asking, hearing and replying are those of `pt_pending`, and a call ends once. The messages of calls are told
 //!   from others. (`AsksServer`, `HearsItem`, `TellsIfCall`)
 //! - **Letters and doors.** The next turn posts to no other desks than those told. What is taken out of a way in is what was
-//!   handed in, in order, each message once. (`PostsWhereLettersWait`, `TakesCode`, `meet` of `pt_doors`)
+//!   handed in, in order, each message once. (`PostsWhereLettersWait`, `TakesCode`, `meet` of `pt_c_tools`)
 //! - **Nodes.** Opening, gathering, settling and resuming leave in the handles what `open`, `gather`, `settle` and
 //!   `resume` promise, or `settle_unlisted` and `resume_settled`.
 //! - **Going on.** A node and its crews go through the stages of a pause in one call. Whichever is refused, its code says

@@ -4,14 +4,13 @@
 //! Each call returns 9 if the handle has no desk, and nothing has changed then.
 
 ghost use Rattle.std.specs.Prelude.{◌≡◌};
-ghost use Rattle.pt_table.specs.Answers.{CallsThrough, ReadsThrough, ShowsCode};
-ghost use Rattle.pt_structs.specs.Crossing.{item_out};
-ghost use Rattle.pt_structs.specs.Crossing.{loss_numbered};
-ghost use Rattle.pt_table.specs.Losing.{KeepsLosses, PassesLoss, item_lost, loss_out};
+ghost use Rattle.pt_c_values.specs.Places.{CallsThrough, ReadsThrough, ShowsCode};
+ghost use Rattle.pt_c_values.specs.Crossing.{item_out, loss_numbered};
+ghost use Rattle.pt_c_desks.specs.Losing.{KeepsLosses, PassesLoss, item_lost, loss_out};
 
-use pt_calls::losses;
-use pt_structs::types::{PtItem, PtLoss};
-use pt_table::desk_handle::DeskHandle;
+use pt_c_desks::desk_handle::DeskHandle;
+use pt_c_desks::losses;
+use pt_c_values::types::{PtItem, PtLoss};
 use std::alloc::Global;
 
 /// Sets whether what the desk loses from now on is kept until it is told, as `Desk::keep_losses` does.

@@ -5,17 +5,16 @@
 
 ghost use Rattle.std.specs.Prelude.{◌≡◌, length};
 ghost use Rattle.pt_names.specs.State.{name_at, pid_of};
-ghost use Rattle.pt_table.specs.Answers.{CallsThrough, ReadsThrough, ShowsCode};
-ghost use Rattle.pt_structs.specs.Crossing.{pid_crossed, pid_out, ref_in};
-ghost use Rattle.pt_calls.specs.Naming.{ChecksName, ForgetsHolder, IfIsName, RegistersName, UnregistersName};
-ghost use Rattle.pt_calls.specs.Naming.{name_crossed, name_out};
-ghost use Rattle.pt_places.specs.Filling.{GivesUp};
-ghost use Rattle.pt_calls.specs.Naming.{OpensNames};
+ghost use Rattle.pt_c_values.specs.Places.{CallsThrough, ReadsThrough, ShowsCode};
+ghost use Rattle.pt_c_values.specs.Crossing.{pid_crossed, pid_out, ref_in};
+ghost use Rattle.pt_c_tools.specs.Naming.{ChecksName, ForgetsHolder, IfIsName, RegistersName, UnregistersName};
+ghost use Rattle.pt_c_tools.specs.Naming.{name_crossed, name_out, OpensNames};
+ghost use Rattle.pt_c_values.specs.Filling.{GivesUp};
 
-use pt_calls::names;
-use pt_calls::naming::{PtHolder, PtName};
-use pt_structs::types::{PtPid, PtRef};
-use pt_tools::names_handle::NamesHandle;
+use pt_c_tools::names;
+use pt_c_tools::names_handle::NamesHandle;
+use pt_c_tools::naming::{PtHolder, PtName};
+use pt_c_values::types::{PtPid, PtRef};
 use std::alloc::Global;
 
 /// Begins names, of which no process has one. The handle must be empty: it returns 10 if it is not.

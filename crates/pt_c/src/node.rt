@@ -2,17 +2,17 @@
 
 ghost use Rattle.std.specs.Prelude.{◌≡◌, map};
 ghost use Rattle.pt_workers.specs.Desks.{AreDesks};
-ghost use Rattle.pt_table.specs.Answers.{value_behind, values};
-ghost use Rattle.pt_nodes.specs.Nodes.{OpensAs, IsWholeNode, GathersAs, SettlesAs, HandleTells};
-ghost use Rattle.pt_places.specs.Filling.{GivesUp};
-ghost use Rattle.pt_nodes.specs.Nodes.{IsHistoryOf, IsQuietHistoryOf};
+ghost use Rattle.pt_c_values.specs.Places.{value_behind, values};
+ghost use Rattle.pt_c_nodes.specs.Nodes.{OpensAs, IsWholeNode, GathersAs, SettlesAs, HandleTells};
+ghost use Rattle.pt_c_values.specs.Filling.{GivesUp};
+ghost use Rattle.pt_c_nodes.specs.Nodes.{IsHistoryOf, IsQuietHistoryOf};
 
-use pt_nodes::gathered_handle::GatheredHandle;
-use pt_nodes::node;
-use pt_structs::types::PtConfig;
-use pt_table::desk_handle::DeskHandle;
-use pt_table::history_handle::HistoryHandle;
-use pt_table::quiet_handle::QuietHandle;
+use pt_c_desks::desk_handle::DeskHandle;
+use pt_c_desks::history_handle::HistoryHandle;
+use pt_c_desks::quiet_handle::QuietHandle;
+use pt_c_nodes::gathered_handle::GatheredHandle;
+use pt_c_nodes::node;
+use pt_c_values::types::PtConfig;
 use std::alloc::Global;
 
 /// Opens a node: each handle gets one of its desks, in order, as `open` makes them.

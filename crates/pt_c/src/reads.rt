@@ -6,21 +6,21 @@ ghost use Rattle.std.specs.Prelude.{◌≡◌, length, reverse, slice_get};
 ghost use Rattle.pt_shard.specs.ShardState.{lives};
 ghost use Rattle.pt_shard.specs.Known.{knows};
 ghost use Rattle.pt_shard.specs.Living.{living_in};
-ghost use Rattle.pt_table.specs.Answers.{ReadsThrough, ShowsCode};
-ghost use Rattle.pt_table.specs.Reading.{event_numbered, item_numbered, linked_on_desk, waits_in, pending_in, event_count_in};
-ghost use Rattle.pt_table.specs.Reading.{nth_link, links_on_desk, nth_monitor, monitors_on_desk};
-ghost use Rattle.pt_table.specs.Reading.{traps_on_desk, watchers_on_desk};
-ghost use Rattle.pt_table.specs.Waking.{Woken, NobodyIsMissed};
-ghost use Rattle.pt_table.specs.Reading.{TellsCount, TellsPid, TellsAccount, TellsLinked, TellsKept, TellsWatching};
-ghost use Rattle.pt_structs.specs.Crossing.{pid_crossed, pid_out, ref_in, ref_out, ids_out, item_out, event_out, left_out};
+ghost use Rattle.pt_c_values.specs.Places.{ReadsThrough, ShowsCode};
+ghost use Rattle.pt_c_desks.specs.Reading.{event_numbered, item_numbered, linked_on_desk, waits_in, pending_in, event_count_in};
+ghost use Rattle.pt_c_desks.specs.Reading.{nth_link, links_on_desk, nth_monitor, monitors_on_desk};
+ghost use Rattle.pt_c_desks.specs.Reading.{traps_on_desk, watchers_on_desk};
+ghost use Rattle.pt_c_desks.specs.Waking.{Woken, NobodyIsMissed};
+ghost use Rattle.pt_c_desks.specs.Reading.{TellsCount, TellsPid, TellsAccount, TellsLinked, TellsKept, TellsWatching};
+ghost use Rattle.pt_c_values.specs.Crossing.{pid_crossed, pid_out, ref_in, ref_out, ids_out, item_out, event_out, left_out};
 
-use pt_calls::reads;
-use pt_nodes::gathered_handle::GatheredHandle;
-use pt_nodes::reads as node_reads;
-use pt_structs::types::{PtAccount, PtEvent, PtIds, PtItem, PtLeftOver, PtPid, PtRef};
-use pt_table::desk_handle::DeskHandle;
-use pt_table::history_handle::HistoryHandle;
-use pt_table::quiet_handle::QuietHandle;
+use pt_c_desks::desk_handle::DeskHandle;
+use pt_c_desks::history_handle::HistoryHandle;
+use pt_c_desks::quiet_handle::QuietHandle;
+use pt_c_desks::reads;
+use pt_c_nodes::gathered_handle::GatheredHandle;
+use pt_c_nodes::reads as node_reads;
+use pt_c_values::types::{PtAccount, PtEvent, PtIds, PtItem, PtLeftOver, PtPid, PtRef};
 use std::alloc::Global;
 
 /// The stamp of the newest event, or the start of the clock.

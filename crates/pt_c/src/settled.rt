@@ -1,16 +1,16 @@
 //! A settled node without the list of its pids: settling, reading, listing, resuming and giving up.
 
 ghost use Rattle.std.specs.Prelude.{◌≡◌, length, map};
-ghost use Rattle.pt_table.specs.Answers.{ReadsThrough, value_behind};
-ghost use Rattle.pt_nodes.specs.Nodes.{SettlesAs, ListsAs, ResumesAs, HandleTells, IsQuietHistoryOf};
-ghost use Rattle.pt_places.specs.Filling.{GivesUp};
+ghost use Rattle.pt_c_values.specs.Places.{ReadsThrough, value_behind};
+ghost use Rattle.pt_c_nodes.specs.Nodes.{SettlesAs, ListsAs, ResumesAs, HandleTells, IsQuietHistoryOf};
+ghost use Rattle.pt_c_values.specs.Filling.{GivesUp};
 
-use pt_nodes::gathered_handle::GatheredHandle;
-use pt_nodes::settled;
-use pt_nodes::settled_handle::SettledHandle;
-use pt_table::desk_handle::DeskHandle;
-use pt_table::history_handle::HistoryHandle;
-use pt_table::quiet_handle::QuietHandle;
+use pt_c_desks::desk_handle::DeskHandle;
+use pt_c_desks::history_handle::HistoryHandle;
+use pt_c_desks::quiet_handle::QuietHandle;
+use pt_c_nodes::gathered_handle::GatheredHandle;
+use pt_c_nodes::settled;
+use pt_c_nodes::settled_handle::SettledHandle;
 use std::alloc::Global;
 
 /// Settles the node, as `Gathered::settle_unlisted` does: without the list of all pids that ever were. `out` has the

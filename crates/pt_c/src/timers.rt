@@ -5,14 +5,14 @@
 
 ghost use Rattle.std.specs.Prelude.{◌≡◌, length};
 ghost use Rattle.pt_timers.specs.State.{body_of};
-ghost use Rattle.pt_table.specs.Answers.{CallsThrough, ReadsThrough, ShowsCode};
-ghost use Rattle.pt_tools.specs.Timing.{CancelsTimer, FiresTimer, ShowsDue, ShowsNextTimer, StartsTimer, timer_in};
-ghost use Rattle.pt_places.specs.Filling.{GivesUp};
-ghost use Rattle.pt_tools.specs.Opening.{OpensTimers};
+ghost use Rattle.pt_c_values.specs.Places.{CallsThrough, ReadsThrough, ShowsCode};
+ghost use Rattle.pt_c_tools.specs.Timing.{CancelsTimer, FiresTimer, ShowsDue, ShowsNextTimer, StartsTimer, timer_in};
+ghost use Rattle.pt_c_values.specs.Filling.{GivesUp};
+ghost use Rattle.pt_c_tools.specs.Opening.{OpensTimers};
 
-use pt_tools::timers;
-use pt_tools::timers_handle::TimersHandle;
-use pt_tools::types::{PtFired, PtTimer};
+use pt_c_tools::timers;
+use pt_c_tools::timers_handle::TimersHandle;
+use pt_c_tools::types::{PtFired, PtTimer};
 use std::alloc::Global;
 
 /// Begins timers, of which none is pending. The handle must be empty: it returns 10 if it is not.

@@ -4,15 +4,15 @@
 //! 9 if the handle has nothing, and nothing has changed then.
 
 ghost use Rattle.std.specs.Prelude.{◌≡◌};
-ghost use Rattle.pt_table.specs.Answers.{CallsThrough};
-ghost use Rattle.pt_places.specs.Filling.{GivesUp};
-ghost use Rattle.pt_doors.specs.Crossing.{LooksInCode, OpensWayIn, PostsCode, TakesCode, post_in, sample_post};
+ghost use Rattle.pt_c_values.specs.Places.{CallsThrough};
+ghost use Rattle.pt_c_values.specs.Filling.{GivesUp};
+ghost use Rattle.pt_c_tools.specs.WaysIn.{LooksInCode, OpensWayIn, PostsCode, TakesCode, post_in, sample_post};
 
-use pt_calls::doors;
-use pt_doors::door_handle::DoorHandle;
-use pt_doors::through::{len, open_both, post as post_at, sample, take};
-use pt_doors::types::PtPost;
-use pt_doors::way_in_handle::WayInHandle;
+use pt_c_tools::door_handle::DoorHandle;
+use pt_c_tools::doors;
+use pt_c_tools::through::{len, open_both, post as post_at, sample, take};
+use pt_c_tools::types::PtPost;
+use pt_c_tools::way_in_handle::WayInHandle;
 use std::alloc::Global;
 use std::mem::size_of;
 

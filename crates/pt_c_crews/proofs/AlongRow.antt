@@ -2,9 +2,9 @@
 use Rattle.std.proofs.Common.{◌≡◌, ℕ, ◌+◌, ◌<◌, true, List, [], ◌∷◌, ◌++◌, length, map, set, get_or, refl, sym, ap, ◌∙◌, subst}
 use Rattle.std.proofs.lemmas.List.{append-nil, append_assoc, length-append}
 use Rattle.pt_events.specs.declared.event.Stamped.{Stamped}
-use Rattle.pt_places.specs.Places.{HandlePlace}
-use Rattle.pt_places.proofs.InRow.{changed}
-use Rattle.pt_places.proofs.AlongRow.{Looked, looked_all, nothing_more}
+use Rattle.pt_c_values.specs.Places.{HandlePlace}
+use Rattle.pt_c_values.proofs.InRow.{changed}
+use Rattle.pt_c_values.proofs.AlongRow.{Looked, looked_all, nothing_more}
 use Rattle.pt_scheduler.specs.declared.scheduler.Scheduler.{Scheduler}
 use Rattle.pt_c_crews.specs.GoingOn.{AllCrewsGoOn, CrewGoesOn}
 use Rattle.pt_c_crews.specs.Owning.{are_own}

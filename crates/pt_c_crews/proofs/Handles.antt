@@ -1,6 +1,6 @@
 -- That the handles of crews are handles: each is a pointer, and owns what is held there.
 use Rattle.std.proofs.Common.{refl}
-use Rattle.pt_places.proofs.Walks.{IsHandle}
+use Rattle.pt_c_values.proofs.Walks.{IsHandle}
 use Rattle.pt_c_crews.specs.contracts.held.HeldCrew as crew_held
 use Rattle.pt_c_crews.specs.contracts.crew_handle.CrewHandle as crew_handle
 

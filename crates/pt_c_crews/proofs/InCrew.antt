@@ -12,13 +12,13 @@ use Rattle.pt_scheduler.specs.declared.member.What.TheVariants.{Timeout}
 use Rattle.pt_scheduler.specs.declared.scheduler.Scheduler.{Scheduler}
 use Rattle.pt_scheduler.specs.Scheduling.{SchedulerAttends}
 use Rattle.pt_scheduler.proofs.Filling.{FilledSo, all_filled, fills_into, none_filled}
-use Rattle.pt_structs.specs.declared.types.PtAnswer.{PtAnswer}
-use Rattle.pt_c_crews.specs.declared.types.PtJob.{PtJob}
-use Rattle.pt_structs.specs.Crossing.{no_pid}
-use Rattle.pt_structs.specs.Nexts.{no_next}
-use Rattle.pt_c_crews.specs.declared.types.PtChildSpec.{PtChildSpec}
+use Rattle.pt_c_values.specs.declared.types.PtAnswer.{PtAnswer}
+use Rattle.pt_c_values.specs.declared.types.PtJob.{PtJob}
+use Rattle.pt_c_values.specs.Crossing.{no_pid}
+use Rattle.pt_c_tools.specs.Nexts.{no_next}
+use Rattle.pt_c_values.specs.declared.types.PtChildSpec.{PtChildSpec}
 use Rattle.pt_c_crews.specs.Crossing.{child_in, child_or, children_in, job_out}
-use Rattle.pt_structs.specs.Codes.{IfCrosses, IfOwn}
+use Rattle.pt_c_values.specs.Codes.{IfCrosses, IfOwn}
 use Rattle.pt_c_crews.specs.Crewing.{AnswersAll, AnswersOne, HandsOutRow, KeepsCrew, PullsRow, TakesAnswers}
 
 -- a row of jobs --------------------------------------------------------------------------

@@ -2,3 +2,4 @@
 pub mod InCrew
 pub mod AlongRow
 mod Handles
+pub mod NodeGoingOn

@@ -9,12 +9,12 @@ use Rattle.pt_scheduler.specs.declared.plan.Plan.{Plan}
 use Rattle.pt_scheduler.specs.declared.scheduler.Scheduler.{Scheduler}
 use Rattle.pt_scheduler.specs.Asking.{AsksBoss, BossDeletes, BossRestarts, BossStarts, BossTerminates, cause_seen, counts_seen}
 use Rattle.pt_scheduler.specs.Scheduling.{member_views}
-use Rattle.pt_structs.specs.Codes.{IfCrosses}
-use Rattle.pt_structs.specs.Crossing.{reason_out}
-use Rattle.pt_places.specs.Places.{ShowsCode}
-use Rattle.pt_c_crews.specs.declared.types.PtChildCounts.{PtChildCounts}
-use Rattle.pt_c_crews.specs.declared.types.PtChildSpec.{PtChildSpec}
-use Rattle.pt_c_crews.specs.declared.types.PtGaveUp.{PtGaveUp}
+use Rattle.pt_c_values.specs.Codes.{IfCrosses}
+use Rattle.pt_c_values.specs.Crossing.{reason_out}
+use Rattle.pt_c_values.specs.Places.{ShowsCode}
+use Rattle.pt_c_values.specs.declared.types.PtChildCounts.{PtChildCounts}
+use Rattle.pt_c_values.specs.declared.types.PtChildSpec.{PtChildSpec}
+use Rattle.pt_c_values.specs.declared.types.PtGaveUp.{PtGaveUp}
 use Rattle.pt_c_crews.specs.Crewing.{KeepsCrew}
 use Rattle.pt_c_crews.specs.Crossing.{child_in}
 

@@ -24,18 +24,18 @@ use Rattle.pt_scheduler.specs.declared.scheduler.Scheduler.{Scheduler}
 use Rattle.pt_scheduler.specs.Owning.{desk_after, desk_of}
 use Rattle.pt_scheduler.specs.Scheduling.{AreAllQueued, SchedulerAttends, BecomesBoss, Fills, IsNoBoss, NoneNoted, NotesLoss, SpawnsBoss}
 use Rattle.pt_scheduler.specs.Scheduling.{Pulls, SchedulerUpholds, children_seen, member_views, new_member, crew_of}
-use Rattle.pt_structs.specs.declared.types.PtAnswer.{PtAnswer}
-use Rattle.pt_structs.specs.declared.types.PtNext.{PtNext}
-use Rattle.pt_structs.specs.declared.types.PtPid.{PtPid}
-use Rattle.pt_structs.specs.declared.types.PtTurned.{PtTurned}
-use Rattle.pt_structs.specs.Codes.{GivesCode, IfCrosses, IfOwn, not_running, some_code}
-use Rattle.pt_structs.specs.Crossing.{loss_numbered, pid_crossed, pid_out, turned_out}
-use Rattle.pt_structs.specs.Nexts.{next_in}
-use Rattle.pt_places.specs.Places.{ShowsCode}
-use Rattle.pt_c_crews.specs.declared.types.PtChild.{PtChild}
-use Rattle.pt_c_crews.specs.declared.types.PtChildSpec.{PtChildSpec}
-use Rattle.pt_c_crews.specs.declared.types.PtJob.{PtJob}
-use Rattle.pt_c_crews.specs.declared.types.PtSupervisorSpec.{PtSupervisorSpec}
+use Rattle.pt_c_values.specs.declared.types.PtAnswer.{PtAnswer}
+use Rattle.pt_c_values.specs.declared.types.PtNext.{PtNext}
+use Rattle.pt_c_values.specs.declared.types.PtPid.{PtPid}
+use Rattle.pt_c_values.specs.declared.types.PtTurned.{PtTurned}
+use Rattle.pt_c_values.specs.Codes.{GivesCode, IfCrosses, IfOwn, not_running, some_code}
+use Rattle.pt_c_values.specs.Crossing.{loss_numbered, pid_crossed, pid_out, turned_out}
+use Rattle.pt_c_tools.specs.Nexts.{next_in}
+use Rattle.pt_c_values.specs.Places.{ShowsCode}
+use Rattle.pt_c_values.specs.declared.types.PtChild.{PtChild}
+use Rattle.pt_c_values.specs.declared.types.PtChildSpec.{PtChildSpec}
+use Rattle.pt_c_values.specs.declared.types.PtJob.{PtJob}
+use Rattle.pt_c_values.specs.declared.types.PtSupervisorSpec.{PtSupervisorSpec}
 use Rattle.pt_c_crews.specs.Crossing.{child_out, children_in, job_out, spec_in}
 use Rattle.pt_c_crews.specs.Owning.{is_own}
 

@@ -16,12 +16,12 @@ use Rattle.pt_scheduler.specs.declared.member.Job.{Job}
 use Rattle.pt_scheduler.specs.declared.plan.ChildSpec.{ChildSpec}
 use Rattle.pt_scheduler.specs.declared.plan.Origin.{Origin}
 use Rattle.pt_scheduler.specs.declared.plan.SupervisorSpec.{SupervisorSpec}
-use Rattle.pt_structs.specs.Crossing.{item_out, no_item, no_pid, no_reason, pid_crossed, pid_or_none, pid_out, reason_out}
-use Rattle.pt_structs.specs.Nexts.{next_out, no_next}
-use Rattle.pt_c_crews.specs.declared.types.PtChild.{PtChild}
-use Rattle.pt_c_crews.specs.declared.types.PtChildSpec.{PtChildSpec}
-use Rattle.pt_c_crews.specs.declared.types.PtJob.{PtJob}
-use Rattle.pt_c_crews.specs.declared.types.PtSupervisorSpec.{PtSupervisorSpec}
+use Rattle.pt_c_values.specs.Crossing.{item_out, no_item, no_pid, no_reason, pid_crossed, pid_or_none, pid_out, reason_out}
+use Rattle.pt_c_tools.specs.Nexts.{next_out, no_next}
+use Rattle.pt_c_values.specs.declared.types.PtChild.{PtChild}
+use Rattle.pt_c_values.specs.declared.types.PtChildSpec.{PtChildSpec}
+use Rattle.pt_c_values.specs.declared.types.PtJob.{PtJob}
+use Rattle.pt_c_values.specs.declared.types.PtSupervisorSpec.{PtSupervisorSpec}
 
 -- what is passed in: none, where a code is none of its enumeration -----------------------
 

@@ -3,7 +3,7 @@ use Rattle.std.specs.Prelude.{⊤, ◌≡◌, List, [], ◌∷◌, Some}
 use Rattle.pt_events.specs.declared.event.Stamped.{Stamped}
 use Rattle.pt_scheduler.specs.declared.scheduler.Scheduler.{Scheduler}
 use Rattle.pt_scheduler.specs.Scheduling.{SchedulerGoesOn}
-use Rattle.pt_places.specs.Places.{HandlePlace}
+use Rattle.pt_c_values.specs.Places.{HandlePlace}
 
 -- the crew of a handle goes on with this history, whose newest event is in front; a handle that has none stays so
 abbrev pub CrewGoesOn : List Stamped → HandlePlace Scheduler → HandlePlace Scheduler → Type 0

@@ -4,3 +4,4 @@ pub mod Owning
 pub mod Crewing
 pub mod Through
 pub mod Children
+pub mod NodeGoingOn

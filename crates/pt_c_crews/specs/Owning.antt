@@ -3,8 +3,8 @@ use Rattle.std.specs.Prelude.{ℕ, ◌+◌, ◌&&◌, Bool, true, List, [], ◌�
 use Rattle.pt_desk.specs.DeskState.{DeskState}
 use Rattle.pt_scheduler.specs.declared.scheduler.Scheduler.{Scheduler}
 use Rattle.pt_scheduler.specs.Owning.{desk_of}
-use Rattle.pt_places.specs.Places.{HandlePlace, value_behind}
-use Rattle.pt_structs.specs.Codes.{is_number_of}
+use Rattle.pt_c_values.specs.Places.{HandlePlace, value_behind}
+use Rattle.pt_c_values.specs.Codes.{is_number_of}
 
 abbrev pub is_own : Scheduler → DeskState → Bool
 is_own t d = is_number_of (desk_of t) d.shard.number

@@ -10,12 +10,12 @@ use Rattle.pt_crew.specs.Visiting.{AreSame}
 use Rattle.pt_scheduler.specs.declared.scheduler.Scheduler.{Scheduler}
 use Rattle.pt_scheduler.specs.Owning.{desk_of}
 use Rattle.pt_scheduler.specs.Scheduling.{SchedulerAttends, SchedulerGoesOn, SchedulerUpholds, crew_of}
-use Rattle.pt_places.specs.Places.{HandlePlace, full}
-use Rattle.pt_places.specs.Filling.{IfEmpty}
-use Rattle.pt_structs.specs.declared.types.PtAnswer.{PtAnswer}
-use Rattle.pt_structs.specs.declared.types.PtTurned.{PtTurned}
-use Rattle.pt_structs.specs.Codes.{IfOwn, filled}
-use Rattle.pt_c_crews.specs.declared.types.PtJob.{PtJob}
+use Rattle.pt_c_values.specs.Places.{HandlePlace, full}
+use Rattle.pt_c_values.specs.Filling.{IfEmpty}
+use Rattle.pt_c_values.specs.declared.types.PtAnswer.{PtAnswer}
+use Rattle.pt_c_values.specs.declared.types.PtTurned.{PtTurned}
+use Rattle.pt_c_values.specs.Codes.{IfOwn, filled}
+use Rattle.pt_c_values.specs.declared.types.PtJob.{PtJob}
 use Rattle.pt_c_crews.specs.Owning.{is_own}
 use Rattle.pt_c_crews.specs.Crewing.{CrewSteps, KeepsCrew, TakesAnswers}
 

@@ -4,10 +4,10 @@
 //! if the handle has none, and nothing has changed then.
 
 ghost use Rattle.std.specs.Prelude.{◌≡◌, length};
-ghost use Rattle.pt_places.specs.Places.{CallsThrough, ReadsThrough, ShowsCode};
-ghost use Rattle.pt_places.specs.Filling.{GivesUp};
+ghost use Rattle.pt_c_values.specs.Places.{CallsThrough, ReadsThrough, ShowsCode};
+ghost use Rattle.pt_c_values.specs.Filling.{GivesUp};
 ghost use Rattle.pt_crew.specs.Crews.{crew_size, queue, was_refused};
-ghost use Rattle.pt_structs.specs.Nexts.{next_out};
+ghost use Rattle.pt_c_tools.specs.Nexts.{next_out};
 ghost use Rattle.pt_scheduler.specs.Scheduling.{member_views, crew_of};
 ghost use Rattle.pt_c_crews.specs.Crewing.{NotesIfOwn, SpawnsBossInCrew, SpawnsChildInCrew, SpawnsInCrew};
 ghost use Rattle.pt_c_crews.specs.Crewing.{CrewBeginsAgain, CrewSupervises, CrewTells, TellsChild, TellsChildCount, TellsTime};
@@ -16,14 +16,16 @@ ghost use Rattle.pt_c_crews.specs.Children.{TellsCause, TellsCounts};
 ghost use Rattle.pt_c_crews.specs.Through.{AnswersInOrder, GoesOnIn, OpensCrew, SetsCrewTime, StepsIfOwn};
 
 use crate::crew_handle::{CrewHandle, claim, filled, hold, is_full, spare};
-use crate::types::{PtChild, PtChildCounts, PtChildSpec, PtGaveUp, PtJob, PtSupervisorSpec};
 use crate::{children, crewing};
+use pt_c_values::codes::{DONE, EMPTY, FILLED, MEMORY};
+use pt_c_values::ending::end_code;
+use pt_c_values::types::{
+    PtAnswer, PtChild, PtChildCounts, PtChildSpec, PtGaveUp, PtJob, PtNext, PtPid,
+    PtSupervisorSpec, PtTurned,
+};
 use pt_events::Stamped;
 use pt_node::{Desk, Pid};
-use pt_places::ending::end_code;
 use pt_scheduler::Scheduler;
-use pt_structs::codes::{DONE, EMPTY, FILLED, MEMORY};
-use pt_structs::types::{PtAnswer, PtNext, PtPid, PtTurned};
 use std::alloc::Global;
 
 /// Begins a crew.

@@ -6,21 +6,14 @@ ghost use Rattle.pt_c_crews.specs.Children.{CrewDeletesChild, CrewRestartsChild,
 ghost use Rattle.pt_c_crews.specs.Children.{TellsCause, TellsCounts, child_code, cause_out, counts_out, child_fault_code, place_after};
 
 use crate::crossing::child_in;
-use crate::types::{PtChildCounts, PtChildSpec, PtGaveUp};
+use pt_c_values::codes::{
+    BAD_CODE, CHILD_PRESENT, CHILD_RESTARTING, CHILD_RUNNING, DONE, MEMORY, NOTHING,
+};
+use pt_c_values::crossing::reason_out;
+use pt_c_values::types::{PtChildCounts, PtChildSpec, PtGaveUp};
 use pt_node::Pid;
 use pt_scheduler::Scheduler;
-use pt_structs::codes::{BAD_CODE, DONE, MEMORY, NOTHING};
-use pt_structs::crossing::reason_out;
 use pt_supervisor::{ChildCounts, ChildFault, GaveUp};
-
-/// The child is running.
-pub const CHILD_RUNNING: u32 = 23;
-
-/// The child is not running, and its supervisor is to start it.
-pub const CHILD_RESTARTING: u32 = 24;
-
-/// The supervisor has a child with this tag, which is not running.
-pub const CHILD_PRESENT: u32 = 25;
 
 pub fn child_fault_code(fault: ChildFault) -> u32
     ensures { result ≡ child_fault_code fault }

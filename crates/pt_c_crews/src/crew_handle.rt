@@ -4,11 +4,11 @@ ghost use Rattle.std.specs.Prelude.{◌≡◌, Option, Some, None, IfOk, is_some
 ghost use Rattle.std.specs.Coded.{coded_option};
 ghost use Rattle.std.specs.Option.{option_map};
 ghost use Rattle.pt_c_crews.specs.contracts.held.HeldCrew.{the_row as row};
-ghost use Rattle.pt_places.specs.Places.{value_behind, full};
-ghost use Rattle.pt_places.specs.Held.{held_on_heap};
+ghost use Rattle.pt_c_values.specs.Places.{value_behind, full};
+ghost use Rattle.pt_c_values.specs.Held.{held_on_heap};
 
 use crate::held::HeldCrew;
-use pt_places::loose::{Loose, Opaque};
+use pt_c_values::loose::{Loose, Opaque};
 use pt_scheduler::Scheduler;
 use std::alloc::{AllocError, Global};
 use std::marker::Model;

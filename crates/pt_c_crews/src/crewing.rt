@@ -10,8 +10,8 @@ ghost use Rattle.pt_desk.specs.DeskState.{GoesOn};
 ghost use Rattle.pt_crew.specs.Crews.{time_of};
 ghost use Rattle.pt_scheduler.specs.Scheduling.{SchedulerAttends, SchedulerUpholds, member_views, crew_of};
 ghost use Rattle.pt_scheduler.specs.Owning.{desk_of};
-ghost use Rattle.pt_places.specs.Places.{ShowsCode};
-ghost use Rattle.pt_structs.specs.Nexts.{next_out};
+ghost use Rattle.pt_c_values.specs.Places.{ShowsCode};
+ghost use Rattle.pt_c_tools.specs.Nexts.{next_out};
 ghost use Rattle.pt_c_crews.specs.Crewing.{AnswersOne, HandsOutRow, KeepsCrew, NotesIfOwn, PullsRow, SpawnsBossInCrew};
 ghost use Rattle.pt_c_crews.specs.Crewing.{SpawnsChildInCrew, SpawnsInCrew, CrewSupervises, TakesAnswers, CrewBeginsAgain};
 ghost use Rattle.pt_c_crews.specs.Crewing.{CrewSteps, CrewTells, TellsChild, TellsChildCount, TellsTime};
@@ -19,15 +19,16 @@ ghost use Rattle.pt_c_crews.specs.Owning.{is_own};
 ghost use Rattle.pt_c_crews.specs.Through.{StepsIfOwn};
 
 use crate::crossing::{are_children, child_out, children_in, job_out, spec_in};
-use crate::types::{PtChild, PtChildSpec, PtJob, PtSupervisorSpec};
-use pt_node::{Desk, Pid};
-use pt_scheduler::Scheduler;
-use pt_structs::codes::{
+use pt_c_tools::crossing_nexts::{next_in, next_out};
+use pt_c_values::codes::{
     BAD_CODE, DONE, MEMORY, NOT_RUNNING, NOTHING, WRONG_DESK, code_of, stop_code,
 };
-use pt_structs::crossing::{pid_in, pid_out};
-use pt_structs::crossing_nexts::{next_in, next_out};
-use pt_structs::types::{PtAnswer, PtNext, PtPid, PtTurned};
+use pt_c_values::crossing::{pid_in, pid_out};
+use pt_c_values::types::{
+    PtAnswer, PtChild, PtChildSpec, PtJob, PtNext, PtPid, PtSupervisorSpec, PtTurned,
+};
+use pt_node::{Desk, Pid};
+use pt_scheduler::Scheduler;
 use std::alloc::Global;
 
 /// Whether the desk is the crew's own, or the crew may be that of any desk.

@@ -5,14 +5,14 @@ ghost use Rattle.std.specs.List.{list_all};
 ghost use Rattle.pt_c_crews.specs.Crossing.{child_in, child_or, child_out, job_of, job_out, start_out};
 ghost use Rattle.pt_c_crews.specs.Crossing.{restart_code, restart_in, shutdown_code, shutdown_in, shutdown_time};
 ghost use Rattle.pt_c_crews.specs.Crossing.{spec_in, strategy_code, strategy_in};
-ghost use Rattle.pt_structs.specs.Crossing.{pid_or_none};
 
-use crate::types::{PtChild, PtChildSpec, PtJob, PtSupervisorSpec};
+use pt_c_tools::crossing_nexts::{next_out, no_next};
+use pt_c_values::crossing::{
+    item_out, no_item, no_reason, pid_in, pid_or_none, pid_out, reason_out,
+};
+use pt_c_values::types::{PtChild, PtChildSpec, PtJob, PtPid, PtSupervisorSpec};
 use pt_node::Pid;
 use pt_scheduler::{ChildSpec, Job, Origin, SupervisorSpec, What};
-use pt_structs::crossing::{item_out, no_item, no_reason, pid_in, pid_out, reason_out};
-use pt_structs::crossing_nexts::{next_out, no_next};
-use pt_structs::types::PtPid;
 use pt_supervisor::{Child, Restart, Shutdown, Strategy};
 use std::alloc::{AllocError, Global};
 
@@ -157,20 +157,6 @@ fn shutdown_time(shutdown: Shutdown) -> u64
     match shutdown {
         Shutdown::After(time) => time,
         _ => 0,
-    }
-}
-
-/// The process, if there is one; else all fields are zero.
-fn pid_or_none(pid: Option<Pid>) -> PtPid
-    ensures { result ≡ pid_or_none pid }
-{
-    match pid {
-        Some(pid) => pid_out(pid),
-        None => PtPid {
-            shard: 0,
-            slot: 0,
-            version: 0,
-        },
     }
 }
 

@@ -1,8 +1,7 @@
-//! Crews for C without their exports: the handle, and the calls of a crew with plain structs and codes.
+//! Crews for C without their exports: the handle, and the calls of a crew alone, with its desk or with a node.
 //!
 //! A crew is a `Scheduler` of `pt_scheduler`: the processes of one desk whose handlers are outside, with their supervisors.
-//! `pt_calls` and `pt_c` export these calls. The crate depends on nothing of `pt_table`, so that the check of either stays
-//! small.
+//! `pt_c` exports these calls. Whatever needs no crew is in the crates below, which are proved beside the scheduler.
 //!
 //! Tests: `bindings/run.sh`.
 //!
@@ -23,15 +22,24 @@
 //!   code. (`CrewAsks`)
 //! - **Handles.** Opening, the time and a row of answers leave in the handle what `Scheduler` promises. If a call fails, the
 //!   handle is as it was. (`OpensCrew`, `SetsCrewTime`, `AnswersInOrder`)
+//! - **Through handles.** A call with a crew's desk, or with a history, is that of the crew on what both handles have. It
+//!   returns that call's code and writes its answer. An empty handle is a code, and a call that fails changes nothing.
+//!   (`StepsIfOwn`, `SpawnsBossInCrew`, `GoesOnIn`, `CallsThrough`)
 //! - **Going on.** Each crew of a row goes on with the history, as `Scheduler` does. (`AllCrewsGoOn`)
+//! - **A node goes on.** A node and its crews go through the stages of a pause in one call. Whichever is refused, its code says
+//!   so, and the node is in the handle where that stage leaves it. (`NodeGoesOn`)
 //! - **Children live.** Each call keeps what both theorems on the children of a crew need. (`StillUpholds`, `KeepsCrew`)
+//! - **About.** Each code of the library is told by the function that the calls take it from. (`all_codes`,
+//!   `all_supervisor_codes`)
 #![tactic(auto)]
 
+pub mod about_crews;
 pub mod calls;
 pub mod children;
 pub mod crew_handle;
 pub mod crewing;
+pub mod crews;
 pub mod crossing;
+pub mod going_on;
 pub mod held;
 pub mod rows;
-pub mod types;

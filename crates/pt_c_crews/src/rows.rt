@@ -1,9 +1,9 @@
 //! The handles of crews, in a row.
 
 ghost use Rattle.std.specs.Prelude.{◌≡◌, length, map, reverse};
-ghost use Rattle.pt_places.specs.Places.{value_behind, values};
+ghost use Rattle.pt_c_values.specs.Places.{value_behind, values};
 ghost use Rattle.pt_c_crews.specs.GoingOn.{AllCrewsGoOn, CrewGoesOn};
-ghost use Rattle.pt_structs.specs.Codes.{is_number_of};
+ghost use Rattle.pt_c_values.specs.Codes.{is_number_of};
 ghost use Rattle.pt_c_crews.specs.Owning.{are_own, fits_at};
 ghost use Rattle.pt_scheduler.specs.Owning.{desk_of};
 

@@ -1,6 +1,6 @@
 -- `open`: its contract, where there was memory.
 use Rattle.std.proofs.Common.{inl, refl, sym, ◌∙◌}
-use Rattle.pt_places.proofs.Empty.{if_empty}
+use Rattle.pt_c_values.proofs.Empty.{if_empty}
 use Rattle.pt_c_crews.proofs.calls.open.Goals as goal
 
 pub returns : goal.returns

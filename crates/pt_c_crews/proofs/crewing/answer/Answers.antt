@@ -1,7 +1,7 @@
 -- `answer`: its clause `does`.
 use Rattle.std.proofs.Common.{◌≡◌, inr, refl, sym, subst, ◌∙◌}
-use Rattle.pt_structs.specs.Crossing.{pid_crossed}
-use Rattle.pt_structs.specs.Codes.{IfCrosses}
+use Rattle.pt_c_values.specs.Crossing.{pid_crossed}
+use Rattle.pt_c_values.specs.Codes.{IfCrosses}
 use Rattle.pt_c_crews.specs.Crewing.{AnswersNext}
 use Rattle.pt_c_crews.proofs.crewing.answer.Goals as goal
 

@@ -1,6 +1,6 @@
 -- `spawn_child`: its contract, once what is passed in and the desk fit.
 use Rattle.std.proofs.Common.{Ok, Err, refl, sym, ◌∙◌}
-use Rattle.pt_structs.specs.Nexts.{next_in}
+use Rattle.pt_c_tools.specs.Nexts.{next_in}
 use Rattle.pt_c_crews.specs.Owning.{is_own}
 use Rattle.pt_c_crews.proofs.InCrew.{codes_fit, desk_fits}
 use Rattle.pt_c_crews.proofs.crewing.spawn_child.Goals as goal

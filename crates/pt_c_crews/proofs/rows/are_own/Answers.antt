@@ -3,7 +3,7 @@ use Rattle.std.proofs.Common.{◌+◌, ◌<◌, [], length, map, get_or, refl, s
 use Rattle.std.specs.Prelude.{◌&&◌}
 use Rattle.std.proofs.lemmas.List.{get_or_default}
 use Rattle.pt_c_crews.specs.Owning.{are_own, fits_at}
-use Rattle.pt_places.proofs.AlongRow.{look_one}
+use Rattle.pt_c_values.proofs.AlongRow.{look_one}
 use Rattle.pt_c_crews.proofs.rows.are_own.Goals as goal
 
 pub loop-k-init : goal.loop-k-init

@@ -1,7 +1,7 @@
 -- `count_crews`: its loop over `k`, and its checked operations.
 use Rattle.std.proofs.Common.{◌+◌, ◌<◌, length, map, get_or, refl, ap, ◌∙◌, arith, cond, []}
 use Rattle.std.proofs.lemmas.List.{get_or_default}
-use Rattle.pt_places.proofs.InRow.{counted, values_few, byte_is, one_at_most}
+use Rattle.pt_c_values.proofs.InRow.{counted, values_few, byte_is, one_at_most}
 use Rattle.pt_c_crews.proofs.rows.count_crews.Goals as goal
 
 pub loop-k-init : goal.loop-k-init

@@ -1,7 +1,7 @@
 -- `count_crews`: what holds in its loop over `k`.
 use Rattle.std.proofs.Common.{◌≡◌, List, ◌++◌, map, length}
 use Rattle.pt_scheduler.specs.declared.scheduler.Scheduler.{Scheduler}
-use Rattle.pt_places.specs.Places.{HandlePlace, values}
+use Rattle.pt_c_values.specs.Places.{HandlePlace, values}
 use Rattle.pt_c_crews.proofs.rows.count_crews.Given as goal
 
 abbrev pub invariant-loop-k : goal.invariant-loop-k

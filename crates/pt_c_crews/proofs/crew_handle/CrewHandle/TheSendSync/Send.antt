@@ -12,7 +12,7 @@ use Rattle.std_alloc.proofs.SendSync.{quiet, lies}
 use Rattle.std_heap.proofs.Handle.{handle}
 use Rattle.pt_c_crews.specs.contracts.held.HeldCrew as value
 use Rattle.pt_c_crews.proofs.held.HeldCrew.TheSendSync.{the_send}
-use Rattle.pt_places.specs.Held.{held_on_heap}
+use Rattle.pt_c_values.specs.Held.{held_on_heap}
 use Rattle.pt_c_crews.specs.contracts.crew_handle.CrewHandle.{the_row, the_type}
 
 keyless : (d : Option (value.the_row).Denot) (p : Ptr) → Keyless (held_on_heap value.the_row d p)

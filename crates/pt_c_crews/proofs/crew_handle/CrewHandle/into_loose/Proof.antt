@@ -1,5 +1,5 @@
 -- `into_loose` takes the pointer out of a handle, and tests it.
-use Rattle.pt_places.proofs.Walks.{takes_out}
+use Rattle.pt_c_values.proofs.Walks.{takes_out}
 use Rattle.pt_c_crews.specs.contracts.crew_handle.CrewHandle.{the_row}
 use Rattle.pt_c_crews.specs.contracts.held.HeldCrew.{the_row as row}
 use Rattle.pt_c_crews.specs.contracts.crew_handle.CrewHandle.into_loose.Key.{name as #self}

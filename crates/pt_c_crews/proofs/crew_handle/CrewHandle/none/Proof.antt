@@ -1,5 +1,5 @@
 -- `none` makes a handle that owns nothing.
-use Rattle.pt_places.proofs.Walks.{makes_none}
+use Rattle.pt_c_values.proofs.Walks.{makes_none}
 use Rattle.pt_c_crews.specs.contracts.crew_handle.CrewHandle.{the_row}
 use Rattle.pt_c_crews.specs.contracts.held.HeldCrew.{the_row as row}
 use Rattle.pt_c_crews.specs.contracts.crew_handle.CrewHandle.none.Key.{name as #self}

@@ -1,5 +1,5 @@
 -- `of` makes a handle of the pointer to a value.
-use Rattle.pt_places.proofs.Walks.{makes_of}
+use Rattle.pt_c_values.proofs.Walks.{makes_of}
 use Rattle.pt_c_crews.specs.contracts.crew_handle.CrewHandle.{the_row}
 use Rattle.pt_c_crews.specs.contracts.held.HeldCrew.{the_row as row}
 use Rattle.pt_c_crews.specs.contracts.crew_handle.CrewHandle.of.Key.{name as #self}

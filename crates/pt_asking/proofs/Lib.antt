@@ -1,2 +1,0 @@
--- The lemmas that the functions use.
-mod Told

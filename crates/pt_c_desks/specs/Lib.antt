@@ -1,0 +1,6 @@
+pub mod Answers
+pub mod InOrder
+pub mod Reading
+pub mod Losing
+pub mod Waking
+pub mod Letters

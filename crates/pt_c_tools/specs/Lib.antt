@@ -1,0 +1,11 @@
+pub mod Nexts
+pub mod Timing
+pub mod Opening
+pub mod Doors
+pub mod WaysIn
+pub mod Items
+pub mod Asking
+pub mod AboutAsking
+pub mod Naming
+pub mod About
+pub mod AboutSupervisors

@@ -1,0 +1,66 @@
+//! Timers, names, ways in and calls that are answered, for C without their exports: handles, and calls with plain structs.
+//!
+//! The body of a timer is a number of the program's own. A way in takes messages from threads that have no desk. It has two
+//! ends: such a thread holds its [`Door`](door::Door), and the thread of a desk the [`WayIn`](door::WayIn). Each is in a
+//! handle of its own.
+//!
+//! The calls that are answered are those of `pt_pending` ([`Pending`](pt_pending::Pending), [`reply`](pt_pending::reply)),
+//! with a call and a request as plain structs that the program keeps. [`about`] is what the library says of itself. `pt_c`
+//! exports all of them.
+//!
+//! Tests: `bindings/run.sh`.
+//!
+//! # What is proved
+//!
+//! - **Timers.** Each call answers what `Timers` answers, as a code and a struct, and a call that fails changes nothing.
+//!   (`OpensTimers`, `StartsTimer`, `FiresTimer`)
+//! - **Names.** Each call answers what `Names` answers. If the bytes are no name, the code says so, and nothing has changed.
+//!   (`IfIsName`, `RegistersName`)
+//! - **The way in.** The messages taken out, followed by those that wait, are the messages handed in at the door: in
+//!   order, each once. (`PostsAtDoor`, `TakesPost`, `meet`)
+//! - **A full way in.** `post` fails only if the door knows of no free place, or is told that its way in was given up. Nothing
+//!   has changed then. (`PostsCode`)
+//! - **Places.** A way in of no places is refused, and nothing has changed. (`OpensWayIn`)
+//! - **Asking.** `ask` does what `Pending::ask_until` does, and writes the call that it would return. If a request was
+//!   not sent and its monitor could not be cancelled, it writes the call, ended and with `left_open`. (`AsksServer`)
+//! - **Hearing.** An item means to a call what it means to a `Pending`, and the call ends as that does, with its monitor
+//!   cancelled or `left_open`. (`HearsItem`, `ExpiresCode`)
+//! - **Once.** A call ends once: by its answer, by the exit of its server or by its deadline. (`CallsEndOnce`)
+//! - **Replying.** A request is what `request_of` returns for the item, and a reply is that of `reply`. (`ReadsRequest`,
+//!   `RepliesCode`)
+//! - **Messages of calls.** Each request and each answer is told from the program's own messages, and no other message
+//!   means anything to a server or to a call. (`TellsIfCall`, `CallsAreTold`)
+//! - **Items.** What `item_out` makes of an item is read as that item, and no other code is. (`ItemsCross`)
+//! - **Refusals.** An item with a code that means nothing is refused, and nothing has changed.
+//! - **What a process does next.** It crosses to its struct and back. A field that has no meaning for its code is zero. (`Nexts`)
+//! - **Through handles.** A call returns the code of the call that it makes on its handle's value, and writes that call's
+//!   answer. An empty handle is a code, and a call that fails leaves each handle and struct as it was. (`CallsThrough`,
+//!   `ReadsThrough`)
+//! - **Handles.** What is put into a handle is what is taken out of it. Each may go to another thread.
+//! - **About.** Each code that needs no crew is told by the function that the calls take it from. Each size is that of the
+//!   struct, and the fields of a sample have the numbers 1, 2, 3 and so on. (`with_answers`, `all_sizes`, `asking_about`)
+#![tactic(auto)]
+
+pub mod about;
+pub mod about_asking;
+pub mod about_supervisors;
+pub mod asking;
+pub mod crossing_nexts;
+pub mod door;
+pub mod door_handle;
+pub mod doors;
+pub mod hearing;
+pub mod held;
+pub mod items;
+pub mod names;
+pub mod names_handle;
+pub mod naming;
+pub mod replying;
+pub mod requests;
+pub mod telling;
+pub mod through;
+pub mod timers;
+pub mod timers_handle;
+pub mod timing;
+pub mod types;
+pub mod way_in_handle;

@@ -1,0 +1,6 @@
+pub mod Held
+pub mod Places
+pub mod Filling
+pub mod Crossing
+pub mod Codes
+pub mod Samples

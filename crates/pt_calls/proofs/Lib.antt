@@ -1,1 +1,0 @@
--- The crate needs no lemmas of its own.

@@ -1,5 +1,0 @@
--- The lemmas that more than one function of the crate uses.
-pub mod Joining
-pub mod Kept
-pub mod GoingOn
-mod Handles

@@ -1,3 +1,0 @@
-pub mod Crossing
-pub mod Nexts
-pub mod Codes

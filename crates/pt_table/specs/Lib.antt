@@ -1,5 +1,0 @@
-pub mod Answers
-pub mod InOrder
-pub mod Reading
-pub mod Losing
-pub mod Waking

@@ -1,2 +1,0 @@
-pub mod Timing
-pub mod Opening
