@@ -22,7 +22,7 @@ PAGE = ROOT / "docs" / "API.md"
 # the crates whose calls a program makes; one that is not there is passed over
 CRATES = (
     "pt_node", "pt_custody", "pt_crew", "pt_pending", "pt_supervisor", "pt_scheduler", "pt_resting", "pt_epochs",
-    "pt_pauses", "pt_timers", "pt_names", "pt_registry",
+    "pt_pauses", "pt_scheduler_laws", "pt_timers", "pt_names", "pt_registry",
 )
 
 HEAD = """# What a program calls

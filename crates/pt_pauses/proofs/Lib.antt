@@ -7,7 +7,6 @@ pub mod Trapping
 pub mod Stopping
 pub mod Still
 pub mod AllLive
-pub mod Quieting
 pub mod Receipts
 pub mod Resuming
 pub mod Pausing
@@ -15,4 +14,3 @@ pub mod Going
 pub mod Passing
 pub mod Settling
 pub mod Halting
-pub mod Scheduling

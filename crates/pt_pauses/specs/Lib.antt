@@ -1,7 +1,5 @@
 pub mod Still
 pub mod Stopping
 pub mod Gathering
-pub mod Quieting
 pub mod Pauses
 pub mod Halts
-pub mod Schedulers

@@ -1,7 +1,7 @@
 //! What supervisors uphold on their node, and over its pauses.
 //!
 //! [`quiet_children_live`], [`gathered_children_live`] and [`stopped_children_ended`] speak of the children of
-//! supervisors on a whole node. [`scheduler_children_live`] and [`node_children_live`] say so of schedulers.
+//! supervisors on a whole node.
 //!
 //! A node pauses if it is gathered, settled and resumed, and its crews begin again: by separate calls, or at the end of
 //! an epoch ([`pt_epochs`]). Its journals then begin anew, but the supervisors and their children live on. So what
@@ -17,16 +17,8 @@
 //!   has time left to. (`quiet_children_live`, `gathered_children_live`)
 //! - **No orphans.** No child of a supervisor that stopped by itself is alive, unless that child sent it an exit
 //!   signal. (`stopped_children_ended`)
-//! - **Children of schedulers.** What both theorems need of a crew, each call of a scheduler keeps; and so does the
-//!   program, if it does nothing for a supervisor. So they hold of every program with a scheduler.
-//!   (`scheduler_children_live`, `SchedulerUpholds`)
-//! - **Whole nodes of schedulers.** Once no scheduler of a node has anything to do, and the node was gathered and
-//!   settled, each child that a supervisor wants alive lives, on each desk, or unlinked itself; unless the supervisor is
-//!   ending one that traps exits and lives on. (`SchedulersChildrenLive`)
 //! - **Pauses.** What supervisors uphold, they uphold behind a pause. So each child that a supervisor wants alive is
 //!   linked with it, or the supervisor gets its exit; or it unlinked itself, at any time. (`PausesHold`)
-//! - **Schedulers.** So it is of schedulers, whose processes have their handlers in C, Rust or Python, if each goes on
-//!   with the node's history. (`SchedulerPausesHold`)
 //! - **Left supervisors.** A supervisor that stopped still forgets no child behind a pause. (`PausesKeepLeft`)
 //! - **Epochs.** So it is over a run of epochs, on one thread or on many, and all that its sink took is what happened
 //!   before. (`EpochsHold`, `RunsHold`)
@@ -43,16 +35,10 @@ mod epochs;
 mod gathering;
 mod halts;
 mod pauses;
-mod resting_node;
-mod scheduler_laws;
-mod schedulers;
 mod supervised;
 
 pub use epochs::epochs_children_live;
 pub use gathering::gathered_children_live;
 pub use halts::halted_children_live;
 pub use pauses::paused_children_live;
-pub use resting_node::node_children_live;
-pub use scheduler_laws::scheduler_children_live;
-pub use schedulers::paused_scheduler_children_live;
 pub use supervised::{quiet_children_live, stopped_children_ended};

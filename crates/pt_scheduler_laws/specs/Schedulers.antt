@@ -10,7 +10,7 @@ use Rattle.pt_node.specs.Gathering.{Gathers}
 use Rattle.pt_node.specs.Pasts.{GoOnFrom}
 use Rattle.pt_node.specs.Resuming.{Resumes}
 use Rattle.pt_scheduler.specs.declared.scheduler.Scheduler.{Scheduler}
-use Rattle.pt_pauses.specs.Quieting.{AllSchedulersUphold}
+use Rattle.pt_scheduler_laws.specs.Quieting.{AllSchedulersUphold}
 use Rattle.pt_scheduler.specs.Scheduling.{SchedulerGoesOn}
 
 -- each scheduler goes on with this history

@@ -1,6 +1,6 @@
 //! Schedulers over a pause of their node, as the contract of a function that does nothing.
 
-ghost use Rattle.pt_pauses.specs.Schedulers.{SchedulerPausesHold};
+ghost use Rattle.pt_scheduler_laws.specs.Schedulers.{SchedulerPausesHold};
 
 /// What the supervisors of schedulers uphold on the desks of a node, they uphold behind a pause. The function does nothing:
 /// its contract is the promise.

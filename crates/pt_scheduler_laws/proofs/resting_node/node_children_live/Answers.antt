@@ -3,8 +3,8 @@ use Rattle.std.proofs.Common.{map}
 use Rattle.pt_pauses.proofs.AllLive.{all_children_live}
 use Rattle.pt_scheduler.specs.Members.{boss_part}
 use Rattle.pt_scheduler.specs.Scheduling.{crew_of}
-use Rattle.pt_pauses.proofs.Quieting.{crews_idle, crews_uphold}
-use Rattle.pt_pauses.proofs.resting_node.node_children_live.Goals as goal
+use Rattle.pt_scheduler_laws.proofs.Quieting.{crews_idle, crews_uphold}
+use Rattle.pt_scheduler_laws.proofs.resting_node.node_children_live.Goals as goal
 
 pub returns : goal.returns
 returns c = λ past schedulers desks g u idle.

@@ -1,6 +1,6 @@
 //! What holds of the schedulers of all desks of a node that is still, as the contract of a function that does nothing.
 
-ghost use Rattle.pt_pauses.specs.Quieting.{SchedulersChildrenLive};
+ghost use Rattle.pt_scheduler_laws.specs.Quieting.{SchedulersChildrenLive};
 
 use pt_laws::{laws, links};
 

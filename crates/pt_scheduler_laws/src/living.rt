@@ -13,7 +13,7 @@ ghost use Rattle.pt_scheduler.specs.declared.scheduler.Scheduler.{Scheduler};
 ghost use Rattle.pt_scheduler.specs.Members.{boss_part};
 ghost use Rattle.pt_scheduler.specs.Scheduling.{AreLeftAlone, SchedulerUpholds};
 
-use crate::supervised::{quiet_children_live, stopped_children_ended};
+use pt_pauses::{quiet_children_live, stopped_children_ended};
 use pt_scheduler::Member;
 
 /// In a node that is still, each child that a supervisor of a scheduler wants alive is alive, or unlinked itself from the

@@ -19,7 +19,7 @@ use Rattle.pt_scheduler.specs.Members.{boss_part, member_answers}
 use Rattle.pt_scheduler.specs.Scheduling.{SchedulerAttends, SchedulerGoesOn, SchedulerUpholds}
 use Rattle.pt_scheduler.proofs.Exits.{exit_before, none_before}
 use Rattle.pt_pauses.specs.Pauses.{Pauses}
-use Rattle.pt_pauses.specs.Schedulers.{SchedulersPause, SchedulerPausesHold}
+use Rattle.pt_scheduler_laws.specs.Schedulers.{SchedulersPause, SchedulerPausesHold}
 use Rattle.pt_pauses.proofs.Pausing.{born_at, count_both, crew_from_at, goes_on, journal_at}
 
 -- a history that has no exit of p has none in a part of it ----------------------------------------------

@@ -10,7 +10,7 @@ use Rattle.pt_scheduler.specs.declared.member.Member.{Member}
 use Rattle.pt_scheduler.specs.declared.scheduler.Scheduler.{Scheduler}
 use Rattle.pt_scheduler.specs.Members.{boss_part}
 use Rattle.pt_scheduler.specs.Scheduling.{crew_of}
-use Rattle.pt_pauses.specs.Quieting.{AllSchedulersUphold, AreSchedulersIdle}
+use Rattle.pt_scheduler_laws.specs.Quieting.{AllSchedulersUphold, AreSchedulersIdle}
 
 first_scheduler : (ts : List Scheduler) → 0 < length ts → Scheduler
 first_scheduler [] l = absurd (omega (arith, l))

@@ -1,6 +1,0 @@
--- `paused_scheduler_children_live`: its contract.
-use Rattle.pt_pauses.proofs.Scheduling.{scheduler_pauses_hold}
-use Rattle.pt_pauses.proofs.schedulers.paused_scheduler_children_live.Goals as goal
-
-pub returns : goal.returns
-returns c = scheduler_pauses_hold

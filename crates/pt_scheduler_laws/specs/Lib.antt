@@ -1,0 +1,2 @@
+pub mod Quieting
+pub mod Schedulers
