@@ -38,6 +38,8 @@
 #   Where starts fail under one_for_all and rest_for_one, no call changes the children.
 # - What comes behind a try is handled before the next one, and OTP's behind it. So nothing comes between the two that is
 #   behind: where starts fail under one_for_one, no child takes time to exit.
+# - OTP's start_link returns when the children that were started have exited again, if a first one does not start. In a scenario
+#   in which that may be, no child takes time to exit.
 # - OTP counts restarts by whole seconds. Restarts are less than a short span apart, just as much, or at least twice.
 # - Which orphan exits first behind its supervisor is chance. compare.py puts them in order.
 # - OTP allows no two children with one id, and none of these scenarios has them.

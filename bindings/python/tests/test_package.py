@@ -18,7 +18,7 @@ from typing import Any, Callable, Optional
 from unittest import mock
 
 import pundewo as p
-from pundewo.supervisors import SupervisorSpec
+from pundewo.supervisors import ChildSpec, SupervisorSpec
 
 
 class Faults(unittest.TestCase):
@@ -44,7 +44,7 @@ class Faults(unittest.TestCase):
         words: dict[str, Any] = {
             "pid": pid, "parent": pid, "sender": pid, "to": pid, "p": pid, "peer": pid, "watcher": pid, "target": pid,
             "monitor": ref, "body": p.Body(1, 1), "reason": p.KILL, "slot": 0, "start": 0, "desk": desk, "tag": 1,
-            "linked": False, "does": p.PROCEED, "answers": [], "now": 0, "spec": SupervisorSpec(), "children": [], "place": 0,
+            "linked": False, "does": p.PROCEED, "answers": [], "now": 0, "spec": SupervisorSpec(), "children": [], "child": ChildSpec(1), "place": 0,
             "history": history}
         count = 0
         for held in (desk, crew, gathered, settled, quiet, history):

@@ -1,10 +1,10 @@
 -- What a supervisor of a scheduler makes of a question about its children, and what stays.
-use Rattle.std.proofs.Common.{◌≡◌, inl, inr, ℕ, Bool, true, false, cond, List, [], ◌++◌, append-nil, slice_get, Option, Some, None, Result, Ok, Err, refl, sym, ap, subst, ◌∙◌}
+use Rattle.std.proofs.Common.{◌≡◌, inl, inr, ℕ, Bool, true, false, cond, List, [], ◌++◌, append-nil, length, slice_get, Option, Some, None, Result, Ok, Err, refl, sym, ap, subst, ◌∙◌}
 use Rattle.std.specs.Prelude.{MatchBool, OnErr, is_ok, is_some}
 use Rattle.std.specs.Option.{option_map}
 use Rattle.pt_signal.specs.declared.pid.Pid.{Pid}
 use Rattle.pt_signal.proofs.Same.{same_pid_refl}
-use Rattle.pt_events.specs.History.{Past, is_unborn}
+use Rattle.pt_events.specs.History.{Past, Phase, is_unborn}
 use Rattle.pt_shard.specs.ShardState.{ShardState, phase_of}
 use Rattle.pt_desk.proofs.Turning.{extends}
 use Rattle.pt_crew.specs.declared.behaviour.Next.{Next}
@@ -14,15 +14,21 @@ use Rattle.pt_crew.specs.Redirecting.{IsRedirected}
 use Rattle.pt_crew.specs.Upholding.{AllFirst}
 use Rattle.pt_crew.proofs.Visiting.{rest_then}
 use Rattle.pt_crew.proofs.Waking.{same_some, there}
+use Rattle.pt_supervisor.specs.declared.asked.Stage.{Stage}
+use Rattle.pt_supervisor.specs.declared.asked.Stage.TheVariants.{Gone, Watched, Waiting, Until, Killed}
 use Rattle.pt_supervisor.specs.declared.child_fault.ChildFault.{ChildFault}
 use Rattle.pt_supervisor.specs.declared.children.Child.{Child}
+use Rattle.pt_supervisor.specs.declared.children.Shutdown.{Shutdown}
+use Rattle.pt_supervisor.specs.declared.children.Shutdown.TheVariants.{Infinity, After, BrutalKill}
 use Rattle.pt_supervisor.specs.declared.seen.ChildState.{ChildState}
 use Rattle.pt_supervisor.specs.declared.seen.ChildState.TheVariants.{Running, Restarting, Undefined}
 use Rattle.pt_supervisor.specs.declared.supervisor.Supervisor.{Supervisor}
 use Rattle.pt_supervisor.specs.Calling.{AddsAt, DeletesAs, DeletesAt, DeletesChild, DeletesIn, FindsPresent, RestartsAs, RestartsAt, RestartsChild, RestartsIn, TerminatesAt, TerminatesChild, place_of_id}
-use Rattle.pt_supervisor.specs.Changed.{RemembersWhere, next_due}
+use Rattle.pt_supervisor.specs.Changed.{RemembersWhere, due_at, due_for, next_due}
+use Rattle.pt_supervisor.specs.Children.{last_alive}
+use Rattle.pt_supervisor.specs.Ending.{stage_of}
 use Rattle.pt_supervisor.specs.Hearing.{Standing, standing}
-use Rattle.pt_supervisor.specs.Keeping.{HoldsAs, HoldsWhere, Keeps}
+use Rattle.pt_supervisor.specs.Keeping.{HoldsAs, HoldsWhere, IsReady, Keeps}
 use Rattle.pt_supervisor.specs.Seen.{state_of_child}
 use Rattle.pt_supervisor.proofs.Due.{due_proceeds, due_supervises}
 use Rattle.pt_scheduler.specs.declared.member.Member.{Member}
@@ -101,6 +107,24 @@ deletes_err id s (Err f) t h = go (place_of_id id s.children) h
 
 -- what a supervisor upholds ------------------------------------------------------------------------
 
+-- it takes no item without one to take
+at_ready : (stage : Option Stage) (shutdown : Shutdown) (f : Phase) → IsReady (due_at stage shutdown) f
+at_ready None shutdown f = tt
+at_ready (Some Gone) shutdown f = tt
+at_ready (Some (Watched m)) shutdown f = tt
+at_ready (Some (Waiting m)) Infinity f = tt
+at_ready (Some (Waiting m)) (After time) f = tt
+at_ready (Some (Waiting m)) BrutalKill f = tt
+at_ready (Some (Until m at)) shutdown f = tt
+at_ready (Some (Killed m)) shutdown f = tt
+
+for_ready : (s : Standing) (o : Option (Pid × Shutdown)) (f : Phase) → IsReady (due_for o s) f
+for_ready s None f = tt
+for_ready s (Some (p, shutdown)) f = at_ready (stage_of s.asked p) shutdown f
+
+due_ready : (s : Standing) (f : Phase) → IsReady (next_due s) f
+due_ready s f = for_ready s (last_alive s.children s.ending (length s.children)) f
+
 module _ (past : Past) (s t : Standing) (before : Next) (p : Pid) (d : ShardState) where
   -- one that was changed so does what is due next
   due_holds : HoldsWhere s t → RemembersWhere s t → is_unborn (phase_of d p) ≡ false → HoldsAs past (Some s) before p d → HoldsAs past (Some t) (next_due t) p d
@@ -110,6 +134,7 @@ module _ (past : Past) (s t : Standing) (before : Next) (p : Pid) (d : ShardStat
         let is = holds past before p d (record { remembers = was.remembers; traps = was.traps; family = was.family; asks = was.asks }) in
         record {
           waits = due_supervises t;
+          ready = due_ready t (phase_of d p);
           remembers = is.remembers;
           traps = elim is.traps [
             | inl on ↦ inl on

@@ -370,18 +370,6 @@ none_set old new p r none is = subst (λ (t : Scheduler). NotesExit (Left p r) o
   attends = λ d a. a;
 })
 
--- an event that is no exit
-pub other_noted : (e : Event) (t : Scheduler) → ((q : Pid) (before : Option Reason) → exit_by q e before ≡ before) → NotesExit e t t
-other_noted e t none = record {
-  members = λ q b n at. (b, at, ap (λ (o : Option Reason). record b { notes = record (b.notes) { ended = o } }) (sym (none q b.notes.ended)));
-  views = λ q. refl;
-  read = refl;
-  desk = refl;
-  queue = refl;
-  rest = rest_same t.crew;
-  attends = λ d a. a;
-}
-
 -- one more event was read
 pub noted_next : (old mid new : Scheduler) (d : ShardState) (shown : List Stamped) (x : Stamped) → shown ≡ reverse d.journal → old.read < length shown → NotesExit (get_or shown old.read x).event old mid
     → new.crew ≡ mid.crew → new.read ≡ mid.read + 1 → SchedulerAttends old d → SchedulerAttends new d

@@ -452,7 +452,3 @@ module _ (old noted : Scheduler) (d e : ShardState) (run : Crew Member) (p : Pid
 
     pub attends_job : Attends mid.crew e → mid.read ≡ noted.read → SchedulerAttends new e
     attends_job crew reads = elim w.comes [ inl h ↦ attends_handed h crew reads | inr k ↦ elim k [ inl h ↦ attends_boss h crew reads | inr j ↦ elim j [ inl h ↦ attends_nothing h crew reads | inr h ↦ gone_not h ] ] ]
-
--- where nobody left nobody is left
-pub left_both : (was now : List (Role Member)) → was ≡ now ++ [] → was ≡ [] → now ≡ []
-left_both was now is none = sym (append-nil now) ∙ sym is ∙ none
