@@ -337,7 +337,7 @@ def bad_input(world: World) -> None:
     refused("PREFIX is 'here', and must be an absolute path", [*install, f"LIBRARY={world.library}", "PREFIX=here"], at)
     refused("no program pt_run in .*: PROGRAMS names the folder", [*dist, f"LIBRARY={world.library}", f"PROGRAMS={at}"], at)
     for name, old, new, says in (
-            ("changed", b"", b"\n", "the library in .* is not as it was built"),
+            ("changed", b"", b"\n", "the library in .* is not as it was built|this is not what the gate built"),
             ("older", f"pundewo {world.version}, ".encode(), b"pundewo 0.0.1, ", "is of version 0.0.1, and .*pundewo.h is of"),
             ("silent", b"pundewo ", b"nothing ", "does not say what it is"),
             ("false", world.said.encode(), f"pundewo {world.version}, proved: 00".encode(),
@@ -349,7 +349,7 @@ def bad_input(world: World) -> None:
         archive.write_bytes(text.replace(old, new) if old else text + new)
         refused(says, [*dist, f"LIBRARY={other}", f"PROGRAMS={world.programs}"], at)
         if name == "changed":
-            refused(says, [*install, f"LIBRARY={other}"], at)
+            refused("the library in .* is not as it was built", [*install, f"LIBRARY={other}"], at)
     wheel_of_nothing: list[str | Path] = [sys.executable, "-B", "-c", "import build_wheel as b; b.build_wheel('.')"]
     refused("pundewo: no shared library at /nowhere", wheel_of_nothing, at, PYTHONPATH=str(HERE / "python"), PUNDEWO_SO="/nowhere")
     left = [str(path) for path in at.rglob("*") if path.suffix in (".whl", ".deb", ".crate") or "installed" in path.parts]
