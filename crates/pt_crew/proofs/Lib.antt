@@ -12,6 +12,7 @@ pub mod Newborn
 pub mod Telling
 pub mod Takes
 pub mod Visiting
+pub mod Getting
 pub mod Serving
 pub mod Handing
 pub mod Admitting

@@ -6,5 +6,6 @@ pub mod Crews
 pub mod Telling
 pub mod Upholding
 pub mod Stepping
+pub mod Outside
 pub mod Parts
 pub mod Running

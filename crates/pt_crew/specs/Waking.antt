@@ -1,11 +1,12 @@
 -- Who of a crew has something to do, and who of it stands in the queue.
-use Rattle.std.specs.Prelude.{◌≡◌, ℕ, ◌≤◌, nat_le, cond, Bool, true, false, List, length, ◌++◌, Option, Some, None}
+use Rattle.std.specs.Prelude.{◌≡◌, ℕ, ◌≤◌, nat_le, cond, Bool, true, false, ◌&&◌, ◌||◌, List, length, ◌++◌, Option, Some, None}
 use Rattle.std.specs.List.{IsDistinct, list_any}
 use Rattle.std.specs.Option.{option_map}
 use Rattle.pt_timers.specs.declared.Timer.{Timer}
 use Rattle.pt_timers.specs.State.{TimersState, body_of}
 use Rattle.pt_signal.specs.declared.pid.Pid.{Pid}
 use Rattle.pt_signal.specs.declared.item.Pick.{Pick}
+use Rattle.pt_signal.specs.declared.item.Pick.TheVariants.{Any}
 use Rattle.pt_signal.specs.Values.{same_pid}
 use Rattle.pt_events.specs.declared.event.Stamped.{Stamped}
 use Rattle.pt_events.specs.History.{Phase, is_unborn, is_ended}
@@ -40,12 +41,21 @@ abbrev pub wait_is_over : Next → ℕ → Bool
 wait_is_over (WaitUntil k at) time = nat_le at time
 wait_is_over _ time = false
 
+-- whether it waits without an end
+abbrev pub waits_on : Next → Bool
+waits_on (Wait k) = true
+waits_on _ = false
+
 abbrev pub in_queue : Pid → List Pid → Bool
 in_queue p queue = list_any (same_pid p) queue
 
 -- the members by their pids
 abbrev pub Members : Type 0 → Type 0
 Members B = Pid → Option (Member B)
+
+-- it has something to do, or would have if it waited for any item and its mailbox was empty when the outside was told of it
+abbrev pub has_task : {B : Type 0} → Member B → Phase → Bool
+has_task m f = (m.clear && need_not_wait Any f) || has_work m.next f
 
 -- it is marked as one that stands in the queue
 abbrev pub is_queued : {B : Type 0} → Member B → Bool
@@ -66,7 +76,7 @@ pub record Knows {B : Type 0} (members : Members B) (queue : List Pid) (read : �
   pub counted : length seen ≡ read
   pub queued : IsQueue members queue
   pub born : (p : Pid) (m : Member B) → members p ≡ Some m → is_unborn (phase_of d p) ≡ false
-  pub awake : (p : Pid) (m : Member B) → members p ≡ Some m → has_work m.next (phase_of d p) ≡ true
+  pub awake : (p : Pid) (m : Member B) → members p ≡ Some m → has_task m (phase_of d p) ≡ true
       → came_in p more ≡ false → m.queued ≡ true
 
 -- no lost wake-up: each member that has something to do stands in the queue

@@ -8,7 +8,9 @@ ghost use Rattle.pt_shard.specs.ShardState.{ShardState};
 ghost use Rattle.pt_crew.specs.declared.behaviour.Next.{Next};
 ghost use Rattle.pt_crew.specs.declared.births.Role.{Role};
 ghost use Rattle.pt_crew.specs.Births.{bore, born, kept_roles, time_told};
+ghost use Rattle.pt_crew.specs.Stepping.{runs};
 ghost use Rattle.pt_crew.specs.Visiting.{takes};
+ghost use Rattle.pt_crew.specs.Waking.{waits_on};
 
 use crate::births::Births;
 use pt_workers::{Desk, Item, Pick, Pid, Reason};
@@ -29,6 +31,30 @@ pub enum Next {
     Running,
     /// It exits with this reason when it runs next.
     Stop(Reason),
+}
+
+impl Next {
+    /// Whether the process is running.
+    #[inline(always)]
+    pub(crate) fn runs(self) -> bool
+        ensures { result ≡ runs self }
+    {
+        match self {
+            Next::Running => true,
+            Next::Wait(_) | Next::WaitUntil(_, _) | Next::Proceed | Next::Stop(_) => false,
+        }
+    }
+
+    /// Whether the process waits without an end.
+    #[inline(always)]
+    pub(crate) fn waits(self) -> bool
+        ensures { result ≡ waits_on self }
+    {
+        match self {
+            Next::Wait(_) => true,
+            Next::WaitUntil(_, _) | Next::Proceed | Next::Running | Next::Stop(_) => false,
+        }
+    }
 }
 
 /// What a process does with the items of its mailbox: `handle_info` of Erlang's `gen_server`. Each answer has a pick,

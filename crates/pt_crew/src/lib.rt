@@ -46,7 +46,9 @@ mod births;
 mod call_fault;
 mod calls;
 mod crew;
+mod front;
 mod hints;
+mod outside;
 mod running;
 mod upholds;
 
@@ -55,5 +57,6 @@ pub use births::{Births, Role, spawn_child};
 pub use call_fault::CallFault;
 pub use calls::{demonitor, exit_signal, link, monitor, send, trap, unlink};
 pub use crew::Crew;
+pub use outside::Outside;
 pub use running::{are_idle, runs_uphold};
 pub use upholds::{Upheld, crew_upholds};

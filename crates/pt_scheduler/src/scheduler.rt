@@ -369,12 +369,13 @@ impl Scheduler {
         let p = self.crew.first()?;
         self.drop_left();
         self.note(desk);
-        let before = self.crew.next(p);
         let alive = desk.alive_here(p);
-        self.crew.run_first(desk);
+        if let Some(job) = self.crew.serve_first(desk) {
+            return Some(job);
+        }
         match self.crew.take_left() {
             Some(left) => Some(job_of_exit(left, alive)),
-            None => self.take_job(p, before),
+            None => None,
         }
     }
 
@@ -496,30 +497,6 @@ impl Scheduler {
             ..known
         };
         self.set_notes(p, notes);
-    }
-
-    /// What p is told, if it was handed something, which was to do this before. It holds nothing then.
-    fn take_job(&mut self, p: Pid, before: Option<Next>) -> Option<Job>
-        ensures { TakesJob p before self.old result self.new }
-    {
-        let member = self.crew.behaviour(p)?;
-        let item = member.handed()?;
-        let job = Job {
-            pid: p,
-            tag: member.tag(),
-            what: member.what(before, item),
-        };
-        let known = member.notes();
-        let notes = Notes {
-            begun: true,
-            handed: None,
-            ..known
-        };
-        match member.told(notes) {
-            Some(told) => self.put_back(p, told),
-            None => self.set_notes(p, notes),
-        }
-        Some(job)
     }
 
     /// Keeps the reason of each exit in a history.

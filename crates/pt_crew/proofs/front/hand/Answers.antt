@@ -3,7 +3,7 @@ use Rattle.std.proofs.Common.{List, ℕ, subst}
 use Rattle.pt_crew.specs.declared.births.Role.{Role}
 use Rattle.pt_crew.specs.Births.{bore, born, time_told}
 use Rattle.pt_crew.proofs.Bearing.{grown}
-use Rattle.pt_crew.proofs.crew.hand.Goals as goal
+use Rattle.pt_crew.proofs.front.hand.Goals as goal
 
 pub returns-clause-bears : goal.returns-clause-bears
 returns-clause-bears g c = grown c.args.births.now c.begin.new.self c.handle-member.new.births c.begin.ensures.all c.handle-member.ensures.kept
