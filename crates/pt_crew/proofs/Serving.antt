@@ -1,6 +1,6 @@
 -- One that was come to, and where it stands then.
 use Rattle.std.proofs.Common.{◌≡◌, ◌⊎◌, inl, inr, ℕ, ◌+◌, Bool, true, false, ◌&&◌, ◌||◌, cond, not, List, [], ◌∷◌, ◌++◌, length, slice_get, Option, Some, None, is_some, Result, Ok, Err, refl, sym, ap, subst, ◌∙◌, append-nil, arith}
-use Rattle.std.specs.Prelude.{MatchBool, nat_le}
+use Rattle.std.specs.Prelude.{IfSome, MatchBool, nat_le}
 use Rattle.std.specs.Option.{option_map}
 use Rattle.std.specs.VecDeque.{deque_capacity, deque_len}
 use Rattle.indexmap.specs.IndexMap.{IndexMap, get, index_of_by, with_value_at, swap_remove_entry, IsUnique}
@@ -34,7 +34,8 @@ use Rattle.pt_crew.specs.Crews.{HasRoom, HasTimers, KnowsDesk, members, queue, r
 use Rattle.pt_crew.specs.Births.{bore}
 use Rattle.pt_crew.specs.Waking.{IsQueue, Knows, Members, AreTimed, has_task, has_work, in_queue, sleeps_until, timer_of, limit_of}
 use Rattle.pt_crew.specs.Parts.{MemberTends, PutsMember, SleepsUntil, kept_as, sleeper}
-use Rattle.pt_crew.specs.Stepping.{Serves}
+use Rattle.pt_crew.specs.Stepping.{Serves, is_running, runs}
+use Rattle.pt_crew.specs.Outside.{BeginsToRun, next_in_front}
 use Rattle.pt_crew.proofs.Waking.{changed, taken_out, put_back, first_in, no_task, there, some_none, same_some}
 use Rattle.pt_crew.proofs.Timing.{untimed, timed_anew, stops_none, queued_bare}
 use Rattle.pt_crew.proofs.Places.{written_at, held_at}
@@ -237,21 +238,6 @@ kept_handed m Running (living s) = refl
 kept_handed m Running (ended r s) = refl
 kept_handed m (Stop r) f = refl
 
--- what one asked for an item got: none only where its time is over ---------------------------------
-
-none_got : (none : Bool) → false ≡ not none → none ≡ false → ⊥
-none_got true h k = absurd (cc)
-none_got false h k = absurd (cc)
-
-pub passed_on : {B : Type 0} (answers : AnswersNow B) (p : Pid) (r : B × Next) (over none : Bool) (got : Option Item) (d : ShardState)
-    (t : Tended) (now : Option (B × Next)) (e : ShardState) (births : List (Role B))
-    → is_some got ≡ not none → ((none ≡ true × over ≡ true) ⊎ (none ≡ false))
-    → HandsTo answers p r.0 got d t now e births → TakesAs answers p r over d (Ok got) t now e births
-passed_on answers p r over none (Some i) d t now e births some either h = h
-passed_on answers p r true none None d t now e births some either h = h
-passed_on answers p r false none None d t now e births some (inl k) h = let over : false ≡ true = k.1 in absurd (cc)
-passed_on answers p r false none None d t now e births some (inr k) h = absurd (none_got none some k)
-
 -- one that sleeps then, or is refused ---------------------------------------------------------
 
 sleeper_is : (t : Tended) (n : Next) (at : ℕ) → sleeper t n ≡ Some at → (t ≡ Idle) × (limit_of n ≡ Some at)
@@ -285,6 +271,14 @@ module _ {B : Type 0} (p : Pid) (came : Tended) (m0 : Member B) (old : TimersSta
 
     slept_bears : (before after : List (Role B)) → BearsChildren came before after → BearsChildren t before after
     slept_bears before after bears = slept_as (λ x y. BearsChildren x before after) bears (λ u is. subst (λ (x : Tended). BearsChildren x before after) is bears) (λ is. subst (λ (x : Tended). BearsChildren x before after) is bears)
+
+    -- whether its mailbox was empty stays noted
+    pub slept_clear : m.clear ≡ m0.clear
+    slept_clear = slept_as (λ x y. y.clear ≡ m0.clear) refl (λ u is. refl) (λ is. refl)
+
+    -- and one of whom the outside was told stays, and runs
+    slept_runs : leaves_crew came ≡ false → runs m0.next ≡ true → (leaves_crew t ≡ false) × (runs m.next ≡ true)
+    slept_runs stays on = slept_as (λ x y. (leaves_crew x ≡ false) × (runs y.next ≡ true)) (stays, on) (λ u is. (refl, on)) (λ is. (refl, on))
 
     slept_gone : (v : Member B) → (came ≡ Gone → role m0 ≡ role v) → t ≡ Gone → role m ≡ role v
     slept_gone v gone = slept_as (λ x y. x ≡ Gone → role y ≡ role v) gone (λ u is bad. absurd (cc)) (λ is bad. absurd (cc))
@@ -326,7 +320,7 @@ pub record Came {B : Type 0} (p : Pid) (came t : Tended) (old mid new : Crew B) 
   pub puts : PutsMember p t mid new
 
 module _ {B : Type 0} (p : Pid) (came t : Tended) (old mid new : Crew B) (v m0 m w : Member B) (c : Came p came t old mid new v m0 m w) where
-  held : members old p ≡ Some v
+  pub held : members old p ≡ Some v
   held = held_at old.members p c.place c.key v c.index c.value c.unique
 
   entered : (q : Pid) → members mid q ≡ cond (same_pid p q) (Some w) (members old q)
@@ -350,6 +344,23 @@ module _ {B : Type 0} (p : Pid) (came t : Tended) (old mid new : Crew B) (v m0 m
       (c.puts.left ∙ ap (λ (rs : List (Role B)). rs ++ left_as p (roles mid p) t) c.left ∙ ap (λ (o : Option _). left old ++ left_as p o t) its_role
       ∙ ap (λ (rs : List (Role B)). left old ++ rs) (leaver_is p t m v (slept_gone p came m0 old.timers t m mid.timers c.slept v c.gone)))
       (c.puts.refused ∙ ap (λ (b : Bool). b || is_refused t) c.refused)
+
+  -- it was not running, and is running now
+  runs_it : (rest : List Pid) → runs v.next ≡ false → runs m0.next ≡ true → leaves_crew came ≡ false → BeginsToRun (p ∷ rest) (roles old) (roles new)
+  runs_it rest not_yet on stays =
+      let s = slept_runs p came m0 old.timers t m mid.timers c.slept stays on in
+      let here : roles new p ≡ Some (role w) =
+      ap (option_map role) (there (members old) (members new) p (entry_as t w) stands p (same_pid_refl p) ∙ ap (λ (b : Bool). cond b None (Some w)) s.0) in
+      (ap is_running (ap (option_map role) held) ∙ not_yet, ap is_running here ∙ ap (λ (r : B × Next). runs r.1) c.same ∙ s.1)
+
+  pub begins_it : {T : Type 0} (told : Option T) (start rest : List Pid) → start ≡ p ∷ rest → IfSome told (λ x. (runs v.next ≡ false) × (runs m0.next ≡ true) × (leaves_crew came ≡ false))
+      → IfSome told (λ x. BeginsToRun start (roles old) (roles new))
+  begins_it None start rest is h = tt
+  begins_it (Some x) start rest is h = subst (λ (ps : List Pid). BeginsToRun ps (roles old) (roles new)) (sym is) (runs_it rest h.0 h.1 h.2)
+
+  -- what it was to do, as the one in front
+  pub front_next : (start rest : List Pid) → start ≡ p ∷ rest → next_in_front start (roles old) ≡ Some v.next
+  front_next start rest is = ap (λ (ps : List Pid). next_in_front ps (roles old)) is ∙ ap (λ (o : Option (Member B)). option_map (λ (r : B × Next). r.1) (option_map role o)) held
 
   pub knows_it : (rest : List Pid) (d e : ShardState) → Extends d e → queue old ≡ p ∷ rest → queue mid ≡ rest → MemberTends p came m0 e → (w.clear ≡ true → need_not_wait Any (phase_of e p) ≡ false) → KnowsDesk old d → KnowsDesk new e
   knows_it rest d e later is then tends quiet k0 =

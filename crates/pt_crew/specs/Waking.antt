@@ -41,10 +41,10 @@ abbrev pub wait_is_over : Next → ℕ → Bool
 wait_is_over (WaitUntil k at) time = nat_le at time
 wait_is_over _ time = false
 
--- whether it waits without an end
-abbrev pub waits_on : Next → Bool
-waits_on (Wait k) = true
-waits_on _ = false
+-- it waits without an end, and its mailbox was empty
+abbrev pub rests_on : Bool → Next → Bool
+rests_on clear (Wait k) = clear
+rests_on clear _ = false
 
 abbrev pub in_queue : Pid → List Pid → Bool
 in_queue p queue = list_any (same_pid p) queue

@@ -10,7 +10,7 @@ ghost use Rattle.pt_crew.specs.declared.births.Role.{Role};
 ghost use Rattle.pt_crew.specs.Births.{bore, born, kept_roles, time_told};
 ghost use Rattle.pt_crew.specs.Stepping.{runs};
 ghost use Rattle.pt_crew.specs.Visiting.{takes};
-ghost use Rattle.pt_crew.specs.Waking.{waits_on};
+ghost use Rattle.pt_crew.specs.Waking.{rests_on};
 
 use crate::births::Births;
 use pt_workers::{Desk, Item, Pick, Pid, Reason};
@@ -45,13 +45,13 @@ impl Next {
         }
     }
 
-    /// Whether the process waits without an end.
+    /// Whether the process waits without an end, and need not be visited for it, as its mailbox was empty.
     #[inline(always)]
-    pub(crate) fn waits(self) -> bool
-        ensures { result ≡ waits_on self }
+    pub(crate) fn rests(self, clear: bool) -> bool
+        ensures { result ≡ rests_on clear self }
     {
         match self {
-            Next::Wait(_) => true,
+            Next::Wait(_) => clear,
             Next::WaitUntil(_, _) | Next::Proceed | Next::Running | Next::Stop(_) => false,
         }
     }

@@ -350,7 +350,7 @@ impl<B: Behaviour + Drop> Crew<B> {
         if !member.next.runs() {
             return Ok(false);
         }
-        if member.clear && next.waits() {
+        if next.rests(member.clear) {
             member.next = next;
             return Ok(true);
         }
@@ -730,8 +730,12 @@ impl<B: Outside + Drop> Crew<B> {
         ensures time { time_of self.new ≡ time_of self.old }
         ensures goes_on { GoesOn desk.old desk.new }
     {
-        let p = self.queue.pop_front()?;
-        let place = self.hints.place_of(&self.members, p)?;
+        let Some(p) = self.queue.pop_front() else {
+            return None;
+        };
+        let Some(place) = self.hints.place_of(&self.members, p) else {
+            return None;
+        };
         if self.left.reserve(1).is_err() {
             self.refused = true;
             self.queue.push_back_reserved(p);

@@ -45,7 +45,7 @@ module _ (p : Pid) (spec : SupervisorSpec) (children : List ChildSpec) (boss : S
   attends_became d a =
       let here = there (roles old.crew) (roles mid.crew) p (Some (answered.behaviour, Proceed)) answered.does p (same_pid_refl p) in
       attends_then mid new d d a (extends d) (rest.attends d a.crew) (fresh_is (waiting mid.crew) (waiting new.crew) rest.rest.waiting a.fresh) rest.read
-      (changed_comes mid new d p answered.behaviour (record (answered.behaviour) { boss = Some boss }) Proceed Proceed a here (sets.set answered.behaviour Proceed here) refl (a.empty p answered.behaviour Proceed here))
+      (changed_comes mid new d p answered.behaviour (record (answered.behaviour) { boss = Some boss }) Proceed Proceed a here (sets.set answered.behaviour Proceed here) refl)
 
 -- the answer was taken
 pub was_answered : (p : Pid) (old mid : Scheduler) (yes : Bool) → yes ≡ true → MatchBool yes (IsAnswered p Proceed old.crew mid.crew) (IsSame old.crew mid.crew) → IsAnswered p Proceed old.crew mid.crew

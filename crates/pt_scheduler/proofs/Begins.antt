@@ -38,6 +38,6 @@ pub all_fresh : (me : Pid) (rs : List (Role Member)) → AllStarted starts_post 
 all_fresh me [] a = tt
 all_fresh me (r ∷ rs) a =
     let c = is_child_of me (post_at a.0.0 a.0.1) r.behaviour r.next a.0.3.1 in (
-      (ap (λ (b : Member). b.notes.handed) c.1, ap (λ (b : Member). b.notes.ended) c.1),
+      ap (λ (b : Member). b.notes.ended) c.1,
       all_fresh me rs a.1,
     )

@@ -41,7 +41,7 @@ abbrev pub new_child : Post → Pid → Member
 new_child post boss = record {
   tag = post.tag;
   origin = Some (record { supervisor = boss; again = post.again });
-  notes = record { begun = false; handed = None; ended = None; lost = None };
+  notes = record { begun = false; ended = None; lost = None };
   boss = None;
 }
 

@@ -51,7 +51,7 @@ abbrev pub new_member : ℕ → Option (Supervisor Plan) → Member
 new_member tag boss = record {
   tag = tag;
   origin = None;
-  notes = record { begun = false; handed = None; ended = None; lost = None };
+  notes = record { begun = false; ended = None; lost = None };
   boss = boss;
 }
 
@@ -120,15 +120,14 @@ pub record Noted (t : Scheduler) (d : ShardState) : Type 0 where
   pub counted : length seen ≡ t.read
   pub ends : (p : Pid) (b : Member) (n : Next) → roles t.crew p ≡ Some (b, n) → b.notes.ended ≡ exit_in p seen
 
--- of those who wait to enter nothing is known yet
+-- of those who wait to enter no exit is known yet
 abbrev pub AreUntold : List (Role Member) → Type 0
 AreUntold [] = ⊤
-AreUntold (r ∷ rs) = ((r.behaviour.notes.handed ≡ None) × (r.behaviour.notes.ended ≡ None)) × AreUntold rs
+AreUntold (r ∷ rs) = (r.behaviour.notes.ended ≡ None) × AreUntold rs
 
--- The scheduler is one of this desk. It is so as it is made, and each call leaves it so. No member holds anything.
+-- The scheduler is one of this desk. It is so as it is made, and each call leaves it so.
 pub record SchedulerAttends (t : Scheduler) (d : ShardState) : Type 0 where
   pub crew : Attends t.crew d
-  pub empty : (p : Pid) (b : Member) (n : Next) → roles t.crew p ≡ Some (b, n) → b.notes.handed ≡ None
   pub fresh : AreUntold (waiting t.crew)
   pub noted : Noted t d
 

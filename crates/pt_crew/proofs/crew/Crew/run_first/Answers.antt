@@ -62,7 +62,7 @@ pub returns-clause-knows : goal.returns-clause-knows
 returns-clause-knows g c =
     let came : Came c.in-Some.p c.tend-came.result c.sleep-tended.result c.args.self.now _ c.put.new.self c.pair_mut-member.result.1.now c.tend-came.new.member c.sleep-tended.new.member _ =
     record { place = c.in-Some-place_of.place; key = c.pair_mut-member.result.0.now; index = c.in-Some-place_of.ensures.index; value = c.pair_mut-member.ensures.value; unique = c.pair_mut-member.ensures.unique; wrote = refl; same = refl; timer = refl; marked = c.goes_behind-member.ensures; slept = c.sleep-tended.ensures; its = c.tend-came.ensures.timer; done = c.tend-came.ensures.done; gone = c.tend-came.ensures.role; left = c.reserve.ensures.items; refused = refl; read = refl; time = refl; puts = c.put.ensures } in
-    knows_it _ _ _ _ _ _ _ _ _ _ came c.pop_front.new.self.items c.args.desk.now.shard c.tend-came.new.desk.shard c.tend-came.ensures.goes_on.shard c.in-Some.ensures.items refl c.tend-came.ensures.tends
+    knows_it _ _ _ _ _ _ _ _ _ _ came c.pop_front.new.self.items c.args.desk.now.shard c.tend-came.new.desk.shard c.tend-came.ensures.goes_on.shard c.in-Some.ensures.items refl c.tend-came.ensures.tends (λ bad. absurd (cc))
 
 pub returns-clause-room : goal.returns-clause-room
 returns-clause-room g c =
