@@ -63,7 +63,7 @@ abbrev pub is_running : {B : Type 0} → Option (B × Next) → Bool
 is_running None = false
 is_running (Some r) = runs r.1
 
--- the outside has said what p does next, which was running; it stands in the queue then
+-- the outside has said what p does next, which was running
 pub record IsAnswered {B : Type 0} (p : Pid) (next : Next) (old new : Crew B) : Type 0 where
   pub behaviour : B
   pub ran : roles old p ≡ Some (behaviour, Running)

@@ -333,6 +333,8 @@ impl<B: Behaviour + Drop> Crew<B> {
     }
 
     /// Says what a running process ([`Next::Running`]) does next. It joins the queue's end then, unless it is there.
+    /// It stays out of the queue if it waits without an end and has had an empty mailbox since
+    /// [`Crew::serve_first`] told of it.
     ///
     /// It returns `false`, and nothing has changed, if the process is not running or not of the crew. It fails for want
     /// of memory only if the crew attends no desk, and then nothing has changed.

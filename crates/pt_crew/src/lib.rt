@@ -6,6 +6,7 @@
 //! # Handlers outside
 //! A behaviour that answers [`Next::Running`] waits until the program says by [`Crew::answer`] what it does next. With
 //! [`Crew::begin_step`], [`Crew::run_first`] and [`Crew::end_step`] the program takes the step itself.
+//! [`Crew::serve_first`] tells the program what a process gets, if its behaviour says so ([`Outside`]).
 //!
 //! Tests: `checks/tried/test_calls/crews.rt.txt`, `checks/tried/test_calls/timed_crews.rt.txt`,
 //! `crates/test_calls/src/on_a_desk.rt` and
@@ -34,8 +35,10 @@
 //!   or if a spawned process could not enter. (`told`)
 //! - **Invariants.** What a behaviour upholds by its answers, its crew keeps for all its processes, and through runs.
 //!   (`crew_upholds`, `runs_uphold`)
-//! - **Steps from outside.** A step is `begin_step`, `run_first` and `end_step`, each with a contract of its own.
-//!   (`BeginsStep`, `Serves`, `EndsStep`)
+//! - **Steps from outside.** A step is `begin_step`, `run_first` or `serve_first`, and `end_step`, each with a contract
+//!   of its own. (`BeginsStep`, `Serves`, `EndsStep`)
+//! - **Told outside.** What `serve_first` tells is what the process in front of the queue gets, and that process is running
+//!   then. If it tells nothing, the process handled what it got itself, or got nothing. (`tells_or`, `BeginsToRun`)
 //! - **Running.** A process that is running gets nothing until it is answered, and does next what was answered. If it
 //!   exits meanwhile, it leaves. (`IsAnswered`)
 //! - **Idle.** `is_idle` and `are_idle` say whether no process has anything to do.

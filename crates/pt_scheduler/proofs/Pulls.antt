@@ -6,7 +6,7 @@ use Rattle.std.proofs.Math.Seq.{drop-append_seam}
 use Rattle.pt_signal.specs.declared.pid.Pid.{Pid}
 use Rattle.pt_signal.specs.declared.reason.Reason.{Reason}
 use Rattle.pt_signal.specs.Values.{same_pid}
-use Rattle.pt_signal.proofs.Same.{same_pid_refl, same_pid_is}
+use Rattle.pt_signal.proofs.Same.{same_pid_is}
 use Rattle.pt_events.specs.declared.event.Stamped.{Stamped}
 use Rattle.pt_events.specs.History.{Past, is_unborn}
 use Rattle.pt_shard.specs.ShardState.{ShardState, lives, phase_of}
@@ -23,7 +23,7 @@ use Rattle.pt_crew.specs.Crews.{Attends, HasRoom, HasTimers, KnowsDesk, left, qu
 use Rattle.pt_crew.specs.Waking.{in_queue}
 use Rattle.pt_crew.specs.Stepping.{Serves, first_of, is_running}
 use Rattle.pt_crew.specs.Outside.{BeginsToRun, next_in_front}
-use Rattle.pt_crew.proofs.Waking.{by_cases, elsewhere, first_in, same_some, some_none, there}
+use Rattle.pt_crew.proofs.Waking.{by_cases, elsewhere, first_in, same_some, some_none}
 use Rattle.pt_supervisor.specs.declared.supervisor.Supervisor.{Supervisor}
 use Rattle.pt_supervisor.specs.Hearing.{standing}
 use Rattle.pt_supervisor.specs.Keeping.{BearsFrom, HoldsAs, Keeps}

@@ -1,7 +1,7 @@
 //! A process of a scheduler, and what is told of it.
 
 ghost use Rattle.std.specs.Prelude.{◌≡◌, None, Some, false, true};
-ghost use Rattle.std.specs.Option.{ForSome, option_copied, option_map};
+ghost use Rattle.std.specs.Option.{option_copied, option_map};
 ghost use Rattle.pt_crew.specs.declared.behaviour.Next.TheVariants.{Running};
 ghost use Rattle.pt_scheduler.specs.Exits.{noted_reason, reason_told};
 ghost use Rattle.pt_supervisor.specs.Hearing.{standing};

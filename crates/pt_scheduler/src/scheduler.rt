@@ -20,7 +20,7 @@ ghost use Rattle.pt_scheduler.specs.Scheduling.{NotesLost, Pulls, SchedulerAtten
 ghost use Rattle.pt_scheduler.specs.Scheduling.{SpawnsBoss, children_seen, crew_of, member_views, new_member};
 ghost use Rattle.pt_scheduler.specs.Taken.{DropsLeft, IsAllNoted, NotesExit, PullsInto, SetsBoss, SetsMember};
 ghost use Rattle.pt_scheduler.specs.Taken.{KeepsExit, KeepsExits};
-ghost use Rattle.pt_scheduler.specs.Taken.{SetsNotes, StaysElse, TakesMember, TakesJob};
+ghost use Rattle.pt_scheduler.specs.Taken.{SetsNotes, StaysElse, TakesMember};
 
 use crate::boss::Boss;
 use crate::member::{Job, Member, Notes, What, job_of_exit};
@@ -257,7 +257,8 @@ impl Scheduler {
         Ok(true)
     }
 
-    /// Says what a running process does next. It joins the queue's end.
+    /// Says what a running process does next. It joins the queue's end, unless it waits without an end and its mailbox
+    /// has been empty since it was told.
     ///
     /// It returns `false`, and nothing has changed, if the process is not running or is none of these. It fails for
     /// want of memory only if this attends no desk.

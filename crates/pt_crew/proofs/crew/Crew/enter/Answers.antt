@@ -1,5 +1,5 @@
 -- `Crew::enter`: its clauses `knows`, `room` and `timers`.
-use Rattle.std.proofs.Common.{◌≡◌, true, Some, None, ap, sym, refl, ◌∙◌, arith}
+use Rattle.std.proofs.Common.{◌≡◌, false, true, Some, None, ap, sym, refl, ◌∙◌, arith}
 use Rattle.std.specs.Map.{lookup}
 use Rattle.pt_signal.specs.declared.pid.Pid.{Pid}
 use Rattle.pt_signal.specs.Values.{same_pid}
@@ -39,7 +39,7 @@ returns-in-Ok-clause-knows g c =
 pub returns-in-Ok-clause-room : goal.returns-in-Ok-clause-room
 returns-in-Ok-clause-room g c =
     let p = c.in_ok-pid.pid in
-    let v : Member g.row.B.Denot = record { behaviour = c.args.behaviour; next = c.args.first; queued = true; timer = None } in
+    let v : Member g.row.B.Denot = record { behaviour = c.args.behaviour; next = c.args.first; queued = true; clear = false; timer = None } in
     let e : unmarked c.insert.new.self.entries ≡ unmarked (insert_entry same_pid c.reserve.new.self.entries p v) = ap unmarked c.in-Ok.ensures.entries in
     let i = unmarked_insert same_pid c.reserve.new.self.entries p v refl in
     let a = unmarked_all c.reserve.new.self.entries in

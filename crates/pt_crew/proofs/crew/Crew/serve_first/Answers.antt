@@ -66,7 +66,7 @@ returns-clause-serves g c =
     let front = next_in_front (queue old) (roles old) in
     let front_is = front_next _ _ _ _ _ _ _ _ _ _ came (queue old) c.pop_front.new.self.items c.in-Some.ensures.items in
     serves_it _ _ _ _ _ _ _ _ _ _ came (tells front) c.args.self.now.queue.items c.pop_front.new.self.items c.args.desk.now.shard c.serve-came.new.desk.shard c.in-Some.ensures.items refl
-    (subst (λ (o : Option Next). SeesTo (tells o) old.time c.in-Some.p _ _ c.args.desk.now.shard c.serve-came.result.0 (kept_as c.serve-came.result.0 c.serve-came.new.member) c.serve-came.new.desk.shard (bore (born old.births) (born c.serve-came.new.births))) (sym front_is) c.serve-came.ensures.sees)
+    (subst (λ (o : Option Next). SeesTo (tells o) old.time c.in-Some.p c.pair_mut-member.result.1.now.behaviour c.pair_mut-member.result.1.now.next c.args.desk.now.shard c.serve-came.result.0 (kept_as c.serve-came.result.0 c.serve-came.new.member) c.serve-came.new.desk.shard (bore (born old.births) (born c.serve-came.new.births))) (sym front_is) c.serve-came.ensures.sees)
     c.serve-came.ensures.bears
 
 pub returns-clause-knows : goal.returns-clause-knows
