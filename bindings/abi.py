@@ -292,7 +292,8 @@ def layout_of(source: Source, sections: list[Section], _: str) -> str:
     text += "".join(f"    the_{it[3:]} = PT_NO_{it[3:].upper()};\n    assert(the_{it[3:]}.at == NULL);\n"
                     for it in handles)
     text += "    assert(the_config.slots > 0);\n"
-    text += f'    assert(pt_code_name({codes_of(source, sections)[0].codes[-1].name})[0] != \'?\');\n'
+    last = codes_of(source, sections)[0].codes[-1].name
+    text += f"    assert(pt_code_name({last})[0] != '?');\n    assert(pt_code_name({last} + 1)[0] == '?');\n"
     text += "    puts(\"c: layout, 0 wrong\");\n    return 0;\n}\n"
     return text
 

@@ -66,7 +66,7 @@ END
 # it may be any.
 {
     echo '{ global: pundewo_build;'
-    sed -nE 's/^(uint32_t|void|unsigned) (pt_\w+)\(.*/\2;/p' "$folder/include/pundewo.h"
+    sed -nE 's/^(uint32_t |void |unsigned |const char \*)(pt_\w+)\(.*/\2;/p' "$folder/include/pundewo.h"
     echo 'local: *; };'
 } >"$work/exported"
 "$tools/ld.lld" -shared -soname "$soname" --version-script "$work/exported" --build-id=sha1 --gc-sections \

@@ -168,7 +168,7 @@ def exports(world: World) -> None:
     path = world.library / "lib" / f"libpundewo.so.{world.version}"
     rows = [line.split() for line in run(["nm", "-D", "--defined-only", path], world.folder).splitlines()]
     header = (world.library / "include/pundewo.h").read_text()
-    declared = re.findall(r"^(?:uint32_t|void|unsigned) (pt_\w+)\(", header, re.M)
+    declared = re.findall(r"^(?:uint32_t |void |unsigned |const char \*)(pt_\w+)\(", header, re.M)
     is_same("what is exported", "\n".join(sorted(row[-1] for row in rows)), "\n".join(sorted([*declared, "pundewo_build"])))
     dynamic = run(["readelf", "-d", path], world.folder)
     if "soname: [libpundewo.so.0]" not in dynamic or "(NEEDED)" in dynamic:

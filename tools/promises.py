@@ -23,8 +23,8 @@ WITHOUT = {"example_hello"}
 
 # What a reader asks, and the crates that answer it, those to read first in front.
 QUESTIONS = (
-    ("My message arrives once, and in order", ("pt_node", "pt_custody", "pt_laws", "pt_carrier")),
-    ("A message that is lost is reported", ("pt_shard", "pt_gathered", "pt_custody")),
+    ("My message arrives once, and in order", ("pt_node", "pt_history", "pt_laws", "pt_carrier")),
+    ("A message that is lost is reported", ("pt_shard", "pt_gathered", "pt_history")),
     ("A monitor delivers one `DOWN`, a link one exit signal", ("pt_laws", "pt_node", "pt_shard")),
     ("A pid never reaches another process", ("pt_slots", "pt_shard")),
     ("`NoProc` comes only after the exit", ("pt_directory", "pt_desk", "pt_node")),
@@ -32,10 +32,10 @@ QUESTIONS = (
     ("What a turn does, and that turning ends", ("pt_desk", "pt_workers")),
     ("The history is legal, and what it says of a process", ("pt_gathered", "pt_history", "pt_accounts")),
     ("A node resumes with empty journals", ("pt_node", "pt_epochs", "pt_pauses")),
-    ("A handler gets each item, and no wake-up is lost", ("pt_crew", "pt_resting")),
+    ("A handler gets each item, and no wake-up is lost", ("pt_crew", "pt_behaviour", "pt_resting")),
     ("A call is answered, or ends by a `DOWN` or a deadline", ("pt_pending", "pt_c_tools")),
     ("A supervisor starts its children again", ("pt_supervisor", "pt_pauses", "pt_scheduler_laws")),
-    ("A timer is never early; a name leads to its process", ("pt_timers", "pt_names", "pt_registry")),
+    ("A timer is never early; a name leads to its process", ("pt_timers", "pt_names")),
     ("From C, Rust or Python: a desk and its calls", ("pt_c", "pt_c_desks", "pt_c_values")),
     ("From C, Rust or Python: processes that run code", ("pt_scheduler", "pt_c_crews", "pt_c_tools")),
     ("A script is read, run and reported", ("pt_script", "pt_runner", "pt_report", "pt_run")),

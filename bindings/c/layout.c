@@ -316,6 +316,7 @@ int main(void) {
     assert(the_way_in.at == NULL);
     assert(the_config.slots > 0);
     assert(pt_code_name(PT_CHILD_PRESENT)[0] != '?');
+    assert(pt_code_name(PT_CHILD_PRESENT + 1)[0] == '?');
     puts("c: layout, 0 wrong");
     return 0;
 }

@@ -63,6 +63,10 @@ static inline bool pt_version_fits(void) {
     return pt_version() / 100 == PUNDEWO_VERSION_NUMBER / 100 && pt_version() >= PUNDEWO_VERSION_NUMBER;
 }
 
+/* A word for a code of `enum pt_code`, for messages to people: "Full", "NoProc", "bad name". It returns "?" for a number that
+ * is no code. The text is the library's own and is never freed. (tested, not proved) */
+const char *pt_code_name(uint32_t code);
+
 /* [abi: handles] */
 /* Handles: each is one pointer, and null if it is empty. */
 typedef struct pt_desk { void *at; } pt_desk;

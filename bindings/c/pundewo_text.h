@@ -7,14 +7,6 @@
 
 #include "pundewo.h"
 
-static inline const char *pt_code_name(uint32_t code) {
-    static const char *const names[] = {"ok", "Full", "Memory", "Worn", "Gone", "Myself", "NoProc", "unknown",
-        "nothing", "empty", "filled", "bad desks", "bad slots", "bad top version", "bad lane", "bad start",
-        "bad code", "not running", "wrong desk", "bad name", "taken", "has name", "bad places",
-        "child running", "child restarting", "child present"};
-    return code < sizeof names / sizeof *names ? names[code] : "?";
-}
-
 static inline void pt_print_pid(FILE *to, pt_pid p) {
     fprintf(to, "<%u.%" PRIu32 ".%" PRIu32 ">", p.shard, p.slot, p.version);
 }

@@ -79,7 +79,7 @@ mkdir -p "$work/crates/$name/src" "$work/bin/.sums" "$root/bin/.sums"
 for file in "$here"/driver/*.rt.txt; do
     cp "$file" "$work/crates/$name/src/$(basename "$file" .txt)"
 done
-echo "$name: pt_node pt_crew pt_supervisor anyhow" >>"$work/crates.txt"
+echo "$name: pt_node pt_behaviour pt_crew pt_supervisor anyhow" >>"$work/crates.txt"
 if [ -e "$root/bin/$name" ] && [ -e "$root/bin/.sums/$name" ]; then
     cp "$root/bin/$name" "$work/bin/$name"
     cp "$root/bin/.sums/$name" "$work/bin/.sums/$name"

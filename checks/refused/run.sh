@@ -43,7 +43,7 @@ try_calls() {
     for file in "$here"/calls/*.rt.txt; do
         cp "$file" "$work/crates/pt_refused/src/$(basename "$file" .txt)"
     done
-    echo pt_refused: pt_{heap,signal,slots,timers,names,schedules,process,accounts,carrier,directory,history,texts,auditor,shard,node,crew,pending,registry,supervisor,scheduler,resting,epochs,script,runner,render,report} >>"$work/crates.txt"
+    echo pt_refused: pt_{heap,signal,slots,timers,names,schedules,process,accounts,carrier,directory,history,texts,auditor,shard,node,behaviour,crew,pending,supervisor,scheduler,resting,epochs,script,runner,render,report} >>"$work/crates.txt"
     "$root/.ci/build" --in "$work" --checked pt_refused
     run_part sequences &
     run_part calls

@@ -1,9 +1,8 @@
 #!/usr/bin/env python3
 """Tries wrong bodies in batches: the prover has to refuse each one, by a goal of the clause that the edit names.
 
-    checks/wrong_bodies/batches.py                 those whose verdict is out of date, and a tenth of the others with one, as
+    checks/wrong_bodies/batches.py                 those without a verdict of what is there now, and a tenth of the others, as
                                                    the gate does
-    checks/wrong_bodies/batches.py --new           these, and those that never had a verdict
     checks/wrong_bodies/batches.py --all           all, and a neutral twin of each function with a proof by hand
     checks/wrong_bodies/batches.py CRATE..         all those of these crates
     checks/wrong_bodies/batches.py CRATE/NAME..    these alone
@@ -29,9 +28,8 @@ later batch, at last alone. If a hand-written answer of another clause fails the
 is checked once more without that answer, and then counts if values break its goal or the tactics do not prove it. If a refusal rests on the words of its clause (deciding.py), then a twin of its function is
 tried too, and the refusal does not count if the twin fails at a goal of the same clause.
 
-A verdict is kept in verdicts.txt beside the checksum of all that it was made from. A run tries the edits whose verdict is
-out of date, and a tenth of the others with one, drawn by the commit. It counts those that never had a verdict, which `--new`
-tries. A kept verdict that a trial contradicts fails the run. So does an edit that names no clause. An edit with a line
+A verdict is kept in verdicts.txt beside the checksum of all that it was made from. A run tries the edits that have none or
+one that is out of date, and a tenth of the others, drawn by the commit. A kept verdict that a trial contradicts fails the run. So does an edit that names no clause. An edit with a line
 `open: REASON` is one that no clause refuses yet. It is counted and printed, and fails if a clause refuses it.
 
 An edit of something outside of all functions, as a constant, may reach any function, so it is tried alone. A line
@@ -370,8 +368,7 @@ def chosen(edits: list[Edit], given: argparse.Namespace, verdicts: dict[str, kep
     if words:
         return [it for it in edits if {it.label, it.crate} & {*words}]
     commit = subprocess.run(["git", "rev-parse", "HEAD"], cwd=ROOT, capture_output=True, text=True, check=False).stdout.strip()
-    had_one = {it.label for it in edits if given.new or it.label in verdicts}
-    return [it for it in edits if everything or (kept.is_drawn(it.label, commit) if is_kept(it, verdicts, sums) else it.label in had_one)]
+    return [it for it in edits if everything or not is_kept(it, verdicts, sums) or kept.is_drawn(it.label, commit)]
 
 
 def is_kept(edit: Edit, verdicts: dict[str, kept.Verdict], sums: kept.Checksums) -> bool:
@@ -407,7 +404,6 @@ def arguments() -> argparse.Namespace:
     parser = argparse.ArgumentParser(description="Tries wrong bodies in batches.", allow_abbrev=False)
     parser.add_argument("names", nargs="*", metavar="CRATE[/NAME]")
     parser.add_argument("--all", action="store_true", help="those with a kept verdict too, and twins of all functions with a proof by hand")
-    parser.add_argument("--new", action="store_true", help="those that never had a verdict, too")
     parser.add_argument("--keep", action="store_true", help="writes the verdicts into verdicts.txt")
     parser.add_argument("--fill", action="store_true", help="writes a line 'clause:' into each edit that has none")
     parser.add_argument("--mark-open", action="store_true", help="writes a line 'open:' into each edit that no goal of its clause refuses")
@@ -551,10 +547,9 @@ class Report:
         refused = sum(found.verdict == "refused" for edit, found in tried if not faults[edit.label])
         neutral = sum(edit.neutral and not faults[edit.label] for edit, _ in tried)
         rest = [it for it in self.edits if not it.neutral]
-        unknown = sum(it.label not in was_tried and not is_kept(it, self.verdicts, self.sums) for it in rest)
         print(
             f"of {len(rest)} wrong bodies {len(rest) - sum(not it.neutral and file_of(it).exists() for it, _ in tried)} were not tried in this run, "
-            f"{unknown} have no verdict of what is there now (`--new` tries all), {sum(it.open != '' for it in rest)} are open; "
+            f"{sum(it.open != '' for it in rest)} are open; "
             f"{neutral} twins that change nothing are not refused"
         )
         seconds = sum(it.seconds for it in self.trials)

@@ -5,7 +5,7 @@ use crate::clerk::Clerk;
 use crate::enquiries::Enquiries;
 use crate::line::Line;
 use crate::words::Office;
-use pt_crew::{Behaviour, Births, Next};
+use pt_behaviour::{Behaviour, Births, Next};
 use pt_node::{Desk, Fault, Item, Pid};
 use pt_supervisor::{Child, Limit, Restart, Start, Strategy, Supervisor};
 use std::alloc::{AllocError, Global};

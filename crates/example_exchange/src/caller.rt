@@ -2,13 +2,13 @@
 
 ghost use Rattle.std.specs.Prelude.{◌≡◌};
 ghost use Rattle.pt_desk.specs.DeskState.{GoesOn};
-ghost use Rattle.pt_crew.specs.Visiting.{takes};
+ghost use Rattle.pt_behaviour.specs.Behaving.{takes};
 
 use crate::facts;
 use crate::words::{
     BUSY, HANG_UP, NO_ANSWER, NOISE, Office, PICKED_UP, RING, WHEREIS, message, tell,
 };
-use pt_crew::{Next, monitor};
+use pt_behaviour::{Next, monitor};
 use pt_node::{Body, Desk, Item, Pick, Pid, Reason, Ref};
 use pt_pending::{Heard, Pending};
 

@@ -1,7 +1,7 @@
 //! The clerk: it writes down what the others tell it, with the moment.
 
 use crate::words::REFUSED;
-use pt_crew::Next;
+use pt_behaviour::Next;
 use pt_node::{Body, Item, Pick};
 use std::alloc::Global;
 

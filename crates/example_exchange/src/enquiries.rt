@@ -2,15 +2,14 @@
 
 ghost use Rattle.std.specs.Prelude.{◌≡◌};
 ghost use Rattle.pt_desk.specs.DeskState.{GoesOn};
-ghost use Rattle.pt_crew.specs.Visiting.{takes};
+ghost use Rattle.pt_behaviour.specs.Behaving.{takes};
 
 use crate::facts;
 use crate::words::{LINES, NAMED, NOT_NAMED, WHEREIS, message, tell};
-use pt_crew::Next;
-use pt_names::Name;
+use pt_behaviour::Next;
+use pt_names::{Name, Registry};
 use pt_node::{Body, Desk, Item, Pick, Pid};
 use pt_pending::{Request, reply, request_of};
-use pt_registry::Registry;
 use std::alloc::Global;
 
 /// The names of the lines, in the order of their places.

@@ -2,14 +2,14 @@
 
 ghost use Rattle.std.specs.Prelude.{◌≡◌};
 ghost use Rattle.pt_desk.specs.DeskState.{GoesOn};
-ghost use Rattle.pt_crew.specs.Visiting.{takes};
+ghost use Rattle.pt_behaviour.specs.Behaving.{takes};
 
 use crate::facts;
 use crate::words::{
     BUSY, CRASH, HANG_UP, NAMED, NO_ANSWER, NOISE, Office, PICK_UP, PICKED_UP, REFUSED, RING,
     message, tell,
 };
-use pt_crew::{Next, demonitor, monitor};
+use pt_behaviour::{Next, demonitor, monitor};
 use pt_node::{Body, Desk, Item, Pick, Pid, Ref};
 use pt_pending::{Alarms, Heard, Pending, Request, reply, request_of};
 use pt_timers::Timer;

@@ -1,7 +1,7 @@
 //! A day of the exchange, and what is printed of it.
 
 ghost use Rattle.pt_pending.specs.Ending.{EndsFirst};
-ghost use Rattle.pt_registry.specs.Past.{KeepMonitors};
+ghost use Rattle.pt_names.specs.Past.{KeepMonitors};
 
 use crate::actor::Actor;
 use crate::caller::{Manner, Plan};
@@ -13,9 +13,9 @@ use crate::words::LINES;
 use anyhow::{Result, bail};
 use pt_events::{Event, Stamped};
 use pt_judge::replay;
+use pt_names::names_keep_their_monitors;
 use pt_node::{Config, FreeGate, Node, Standing, Task};
 use pt_pending::calls_end_once;
-use pt_registry::names_keep_their_monitors;
 use pt_supervisor::Child;
 use std::alloc::{AllocError, Global};
 use std::fmt::{self, Display, Formatter, Write};

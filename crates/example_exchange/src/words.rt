@@ -2,9 +2,9 @@
 
 ghost use Rattle.std.specs.Prelude.{◌≡◌};
 ghost use Rattle.pt_desk.specs.DeskState.{GoesOn};
-ghost use Rattle.pt_crew.specs.Visiting.{takes};
+ghost use Rattle.pt_behaviour.specs.Behaving.{takes};
 
-use pt_crew::send;
+use pt_behaviour::send;
 use pt_node::{Body, Desk, Pid, Reason};
 
 /// The lines, in the order of their places. The last of them has a name alone: no telephone has it.

@@ -5,12 +5,12 @@
 
 ghost use Rattle.std.specs.Prelude.{◌≡◌, ◌<◌};
 ghost use Rattle.pt_desk.specs.DeskState.{GoesOn};
-ghost use Rattle.pt_crew.specs.Visiting.{takes};
+ghost use Rattle.pt_behaviour.specs.Behaving.{takes};
 
 use crate::stage;
 use crate::stage::{Curtain, Stage, first_of};
 use anyhow::Result;
-use pt_crew::{Behaviour, Births, Next, monitor, send};
+use pt_behaviour::{Behaviour, Births, Next, monitor, send};
 use pt_node::{Body, Desk, Item, Pick, Pid, Reason};
 use std::alloc::Global;
 use std::fmt;

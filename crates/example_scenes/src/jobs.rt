@@ -11,13 +11,13 @@
 ghost use Rattle.std.specs.Prelude.{◌≡◌};
 ghost use Rattle.pt_desk.specs.DeskState.{GoesOn};
 ghost use Rattle.pt_pending.specs.Ending.{EndsOnce};
-ghost use Rattle.pt_crew.specs.Visiting.{takes};
+ghost use Rattle.pt_behaviour.specs.Behaving.{takes};
 ghost use Rattle.pt_supervisor.specs.Supervising.{PermanentLive, StaysWanted};
 
 use crate::stage;
 use crate::stage::{Curtain, DESKS, Stage, first_of};
 use anyhow::Result;
-use pt_crew::{Behaviour, Births, Next, demonitor, monitor, send};
+use pt_behaviour::{Behaviour, Births, Next, demonitor, monitor, send};
 use pt_node::{Body, Desk, Fault, Item, Pick, Pid, Reason, Ref};
 use pt_pending::{Heard, Pending, Request, calls_end_once, reply, request_of};
 use pt_supervisor::{Child, Limit, Restart, Start, Strategy, Supervisor, permanent_children_live};

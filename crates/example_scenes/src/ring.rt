@@ -2,13 +2,13 @@
 
 ghost use Rattle.std.specs.Prelude.{◌≡◌};
 ghost use Rattle.pt_desk.specs.DeskState.{GoesOn};
-ghost use Rattle.pt_crew.specs.Births.{kept_roles};
-ghost use Rattle.pt_crew.specs.Visiting.{takes};
+ghost use Rattle.pt_behaviour.specs.Births.{kept_roles};
+ghost use Rattle.pt_behaviour.specs.Behaving.{takes};
 
 use crate::stage;
 use crate::stage::{Curtain, DESKS, Stage, first_of};
 use anyhow::Result;
-use pt_crew::{Behaviour, Births, Next, send, spawn_child};
+use pt_behaviour::{Behaviour, Births, Next, send, spawn_child};
 use pt_node::{Body, Desk, Item, Pick, Pid};
 use std::alloc::Global;
 use std::fmt;

@@ -4,7 +4,8 @@
 ghost use Rattle.std.specs.Prelude.{◌≡◌, IfOk};
 
 use anyhow::{Result, bail};
-use pt_crew::{Behaviour, Crew, Next};
+use pt_behaviour::{Behaviour, Next};
+use pt_crew::Crew;
 use pt_node::{Config, Desk, FreeGate, Node, Pid, Turned, Work};
 use pt_resting::{Bells, RestGate, RestingWork, Rests};
 use std::alloc::{AllocError, Global};

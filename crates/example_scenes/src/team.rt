@@ -3,7 +3,7 @@
 //! still.
 
 ghost use Rattle.std.specs.Prelude.{◌≡◌, [], IfOk, Ok};
-ghost use Rattle.pt_crew.specs.declared.behaviour.Next.{Next};
+ghost use Rattle.pt_behaviour.specs.declared.behaviour.Next.{Next};
 ghost use Rattle.pt_desk.specs.DeskState.{GoesOn};
 ghost use Rattle.pt_events.specs.History.{Past};
 ghost use Rattle.pt_gathered.specs.Gathered.{IsGathered};
@@ -20,7 +20,8 @@ ghost use Rattle.example_scenes.specs.Team.{AreTeams, boss_of};
 
 use crate::stage::{BUDGET, Curtain, DESKS, first_of, rested};
 use anyhow::{Result, bail};
-use pt_crew::{Behaviour, Births, Crew, Next, are_idle};
+use pt_behaviour::{Behaviour, Births, Next};
+use pt_crew::{Crew, are_idle};
 use pt_node::{Account, Config, Desk, Fault, FreeGate, Item, Node, Pick, Pid, Quiet, Reason, open};
 use pt_pauses::{
     gathered_children_live, paused_children_live, quiet_children_live, stopped_children_ended,

@@ -5,11 +5,11 @@ ghost use Rattle.pt_c_tools.specs.About.{all_codes, with_jobs, nobody};
 ghost use Rattle.pt_c_tools.specs.AboutSupervisors.{all_supervisor_codes};
 
 use crate::crossing::{job_out, restart_code, shutdown_code, strategy_code};
+use pt_behaviour::Next;
 use pt_c_tools::about::{BLANK, NOBODY, PtCodes, codes_below};
 use pt_c_tools::about_supervisors::PtSupervisorCodes;
 use pt_c_values::codes::{CHILD_PRESENT, CHILD_RESTARTING, CHILD_RUNNING};
 use pt_c_values::types::{PtChild, PtChildCounts, PtChildSpec, PtGaveUp, PtSupervisorSpec};
-use pt_crew::Next;
 use pt_node::{Item, Reason};
 use pt_scheduler::{Job, What};
 use pt_supervisor::{Restart, Shutdown, Strategy};

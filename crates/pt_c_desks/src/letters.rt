@@ -1,12 +1,15 @@
 //! Where the letters of a desk are: whom to wake after its next turn, and whether it has something to do.
 
 ghost use Rattle.std.specs.Prelude.{◌≡◌};
+ghost use Rattle.pt_shard.specs.Fit.{IsFit};
 ghost use Rattle.pt_c_values.specs.Places.{CallsThrough, ReadsThrough};
-ghost use Rattle.pt_c_desks.specs.Letters.{HasLettersCode, desks_with};
+ghost use Rattle.pt_c_desks.specs.Letters.{HasLetters, HasLettersCode, PostsWhereLettersWait, SameLanes, desks_with};
 
 use crate::desk_handle::{DeskHandle, claim, filled, hold};
-use crate::waiting;
 use pt_c_values::codes::{DONE, EMPTY};
+use pt_carrier::Ins;
+use pt_desk::Desk;
+use pt_shard::Shard;
 use std::alloc::Global;
 
 /// The desks for which letters wait in the outbox of the desk, a bit for each, the lowest that of desk 0. The next turn
@@ -22,10 +25,24 @@ pub fn letters_out(alloc: Global, h: &mut DeskHandle, out: &mut u64) -> u32
         *h = hold(place);
         return EMPTY;
     };
-    let (desk, desks) = waiting::letters_out(desk);
-    *out = desks;
+    let (shard, outs, ins, directory, seat, before) = desk.apart();
+    *out = waiting_out(&shard);
+    let desk = Desk::whole(shard, outs, ins, directory, seat, before);
     *h = filled(place, desk);
     DONE
+}
+
+/// The desks for which letters wait, from the last to the first.
+fn waiting_out(shard: &Shard) -> u64
+    requires { IsFit shard.now }
+    ensures { result ≡ desks_with shard.now.outbox }
+{
+    let desks = shard.config().desks;
+    let mut waiting: u64 = 0;
+    for k in 0..desks {
+        waiting = waiting * 2 + u64::from(shard.count_out(desks - 1 - k) != 0);
+    }
+    waiting
 }
 
 /// Whether a letter waits: in the outbox or the hold of the desk, or in a lane to it that shows one. The desk looks at its
@@ -41,8 +58,26 @@ pub fn has_letters(alloc: Global, h: &mut DeskHandle, out: &mut bool) -> u32
         *h = hold(place);
         return EMPTY;
     };
-    let (desk, has) = waiting::has_letters(desk);
-    *out = has;
+    let (shard, outs, mut ins, directory, seat, before) = desk.apart();
+    *out = waits(&shard, &mut ins);
+    let desk = Desk::whole(shard, outs, ins, directory, seat, before);
     *h = filled(place, desk);
     DONE
 }
+
+/// Whether a letter waits, or a lane shows one.
+fn waits(shard: &Shard, ins: &mut Ins) -> bool
+    ensures same { SameLanes ins.old ins.new }
+    ensures letters { HasLetters shard.now ins.old result ins.new }
+{
+    if shard.pending() != 0 {
+        return true;
+    }
+    ins.next_from().is_some()
+}
+
+/// A turn posts only to desks for which letters waited as it began. The function does nothing: its contract is the
+/// promise.
+pub fn turns_post_where_letters_wait()
+    ensures { PostsWhereLettersWait }
+{}

@@ -26,14 +26,11 @@
 
 pub mod desk_handle;
 pub mod desks;
-pub mod doing;
 pub mod held;
 pub mod history_handle;
 pub mod letters;
 pub mod looking;
-pub mod losing;
 pub mod losses;
 pub mod quiet_handle;
 pub mod reads;
 pub mod rows;
-pub mod waiting;

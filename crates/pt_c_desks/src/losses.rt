@@ -9,10 +9,26 @@ ghost use Rattle.pt_c_values.specs.Crossing.{item_out, loss_numbered};
 ghost use Rattle.pt_c_desks.specs.Losing.{KeepsLosses, PassesLoss, item_lost, loss_out};
 
 use crate::desk_handle::{DeskHandle, claim, hold};
-use crate::losing;
-use pt_c_values::codes::EMPTY;
+use pt_c_values::codes::{DONE, EMPTY, NOTHING};
+use pt_c_values::crossing::{item_out, no_reason, pid_out, reason_out};
 use pt_c_values::types::{PtItem, PtLoss};
+use pt_shard::Loss;
 use std::alloc::Global;
+
+fn loss_out(loss: &Loss) -> PtLoss
+    ensures { result ≡ loss_out loss.now }
+{
+    let reason = loss.reason();
+    PtLoss {
+        has_exited: reason.is_some(),
+        pid: pid_out(loss.pid()),
+        reason: match reason {
+            Some(reason) => reason_out(reason),
+            None => no_reason(),
+        },
+        items: loss.len(),
+    }
+}
 
 /// Sets whether what the desk loses from now on is kept until it is told, as `Desk::keep_losses` does.
 pub fn keep_losses(alloc: Global, h: &mut DeskHandle, on: bool) -> u32
@@ -22,7 +38,10 @@ pub fn keep_losses(alloc: Global, h: &mut DeskHandle, on: bool) -> u32
         return EMPTY;
     };
     let code = match &mut place.desk {
-        Some(desk) => losing::keep_losses(desk, on),
+        Some(desk) => {
+            desk.keep_losses(on);
+            DONE
+        }
         None => EMPTY,
     };
     *h = hold(place);
@@ -39,7 +58,13 @@ pub fn loss_at(alloc: Global, h: &mut DeskHandle, place: usize, out: &mut PtLoss
         return EMPTY;
     };
     let code = match &held.desk {
-        Some(desk) => losing::loss_at(desk, place, out),
+        Some(desk) => match desk.loss(place) {
+            Some(loss) => {
+                *out = loss_out(loss);
+                DONE
+            }
+            None => NOTHING,
+        },
         None => EMPTY,
     };
     *h = hold(held);
@@ -62,7 +87,16 @@ pub fn loss_item(
         return EMPTY;
     };
     let code = match &held.desk {
-        Some(desk) => losing::loss_item(desk, place, item, out),
+        Some(desk) => match desk.loss(place) {
+            Some(loss) => match loss.item(item) {
+                Some(item) => {
+                    *out = item_out(item);
+                    DONE
+                }
+                None => NOTHING,
+            },
+            None => NOTHING,
+        },
         None => EMPTY,
     };
     *h = hold(held);
@@ -77,7 +111,10 @@ pub fn next_loss(alloc: Global, h: &mut DeskHandle) -> u32
         return EMPTY;
     };
     let code = match &mut place.desk {
-        Some(desk) => losing::next_loss(desk),
+        Some(desk) => match desk.next_loss() {
+            Some(_) => DONE,
+            None => NOTHING,
+        },
         None => EMPTY,
     };
     *h = hold(place);

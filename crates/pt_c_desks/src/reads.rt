@@ -14,9 +14,9 @@ ghost use Rattle.pt_c_desks.specs.Waking.{Woken, NobodyIsMissed};
 ghost use Rattle.pt_c_values.specs.Crossing.{pid_crossed, pid_out, ref_out, ids_out, item_out, event_out};
 
 use crate::desk_handle::{DeskHandle, claim, hold};
-use crate::looking;
-use pt_c_values::codes::{DONE, EMPTY};
-use pt_c_values::crossing::pid_in;
+use crate::looking::{show_event, show_ids, show_monitor, show_pid};
+use pt_c_values::codes::{DONE, EMPTY, NOTHING};
+use pt_c_values::crossing::{ids_out, item_out, pid_in, pid_out};
 use pt_c_values::types::{PtEvent, PtIds, PtItem, PtPid, PtRef};
 use std::alloc::Global;
 
@@ -121,7 +121,7 @@ pub fn vacant(alloc: Global, h: &mut DeskHandle, out: &mut PtPid) -> u32
         return EMPTY;
     };
     let code = match &held.desk {
-        Some(desk) => looking::vacant(desk, out),
+        Some(desk) => show_pid(desk.vacant(), out),
         None => EMPTY,
     };
     *h = hold(held);
@@ -137,7 +137,13 @@ pub fn waiting(alloc: Global, h: &mut DeskHandle, p: PtPid, out: &mut usize) -> 
         return EMPTY;
     };
     let code = match &held.desk {
-        Some(desk) => looking::waiting(desk, pid_in(p), out),
+        Some(desk) => match desk.waiting(pid_in(p)) {
+            Some(items) => {
+                *out = items.len();
+                DONE
+            }
+            None => NOTHING,
+        },
         None => EMPTY,
     };
     *h = hold(held);
@@ -153,7 +159,16 @@ pub fn peek(alloc: Global, h: &mut DeskHandle, p: PtPid, place: usize, out: &mut
         return EMPTY;
     };
     let code = match &held.desk {
-        Some(desk) => looking::peek(desk, pid_in(p), place, out),
+        Some(desk) => match desk.waiting(pid_in(p)) {
+            Some(items) => match items.get(place) {
+                Some(item) => {
+                    *out = item_out(*item);
+                    DONE
+                }
+                None => NOTHING,
+            },
+            None => NOTHING,
+        },
         None => EMPTY,
     };
     *h = hold(held);
@@ -169,7 +184,7 @@ pub fn linked(alloc: Global, h: &mut DeskHandle, p: PtPid, peer: PtPid, out: &mu
         return EMPTY;
     };
     let code = match &held.desk {
-        Some(desk) => looking::linked(desk, pid_in(p), pid_in(peer), out),
+        Some(desk) => show_ids(desk.linked(pid_in(p), pid_in(peer)), out),
         None => EMPTY,
     };
     *h = hold(held);
@@ -185,7 +200,13 @@ pub fn link_count(alloc: Global, h: &mut DeskHandle, p: PtPid, out: &mut usize) 
         return EMPTY;
     };
     let code = match &held.desk {
-        Some(desk) => looking::link_count(desk, pid_in(p), out),
+        Some(desk) => match desk.process(pid_in(p)) {
+            Some(process) => {
+                *out = process.links_len();
+                DONE
+            }
+            None => NOTHING,
+        },
         None => EMPTY,
     };
     *h = hold(held);
@@ -209,7 +230,17 @@ pub fn link_at(
         return EMPTY;
     };
     let code = match &held.desk {
-        Some(desk) => looking::link_at(desk, pid_in(p), place, peer, ids),
+        Some(desk) => match desk.process(pid_in(p)) {
+            Some(process) => match process.link_at(place) {
+                Some((pid, both)) => {
+                    *peer = pid_out(pid);
+                    *ids = ids_out(both);
+                    DONE
+                }
+                None => NOTHING,
+            },
+            None => NOTHING,
+        },
         None => EMPTY,
     };
     *h = hold(held);
@@ -225,7 +256,13 @@ pub fn monitor_count(alloc: Global, h: &mut DeskHandle, p: PtPid, out: &mut usiz
         return EMPTY;
     };
     let code = match &held.desk {
-        Some(desk) => looking::monitor_count(desk, pid_in(p), out),
+        Some(desk) => match desk.process(pid_in(p)) {
+            Some(process) => {
+                *out = process.monitors_len();
+                DONE
+            }
+            None => NOTHING,
+        },
         None => EMPTY,
     };
     *h = hold(held);
@@ -249,7 +286,10 @@ pub fn monitor_at(
         return EMPTY;
     };
     let code = match &held.desk {
-        Some(desk) => looking::monitor_at(desk, pid_in(p), place, monitor, target),
+        Some(desk) => match desk.process(pid_in(p)) {
+            Some(process) => show_monitor(process.monitor_at(place), monitor, target),
+            None => NOTHING,
+        },
         None => EMPTY,
     };
     *h = hold(held);
@@ -265,7 +305,13 @@ pub fn watcher_count(alloc: Global, h: &mut DeskHandle, p: PtPid, out: &mut usiz
         return EMPTY;
     };
     let code = match &held.desk {
-        Some(desk) => looking::watcher_count(desk, pid_in(p), out),
+        Some(desk) => match desk.process(pid_in(p)) {
+            Some(process) => {
+                *out = process.watchers_len();
+                DONE
+            }
+            None => NOTHING,
+        },
         None => EMPTY,
     };
     *h = hold(held);
@@ -289,7 +335,10 @@ pub fn watcher_at(
         return EMPTY;
     };
     let code = match &held.desk {
-        Some(desk) => looking::watcher_at(desk, pid_in(p), place, monitor, watcher),
+        Some(desk) => match desk.process(pid_in(p)) {
+            Some(process) => show_monitor(process.watcher_at(place), monitor, watcher),
+            None => NOTHING,
+        },
         None => EMPTY,
     };
     *h = hold(held);
@@ -305,7 +354,13 @@ pub fn traps(alloc: Global, h: &mut DeskHandle, p: PtPid, out: &mut bool) -> u32
         return EMPTY;
     };
     let code = match &held.desk {
-        Some(desk) => looking::traps(desk, pid_in(p), out),
+        Some(desk) => match desk.process(pid_in(p)) {
+            Some(process) => {
+                *out = process.traps();
+                DONE
+            }
+            None => NOTHING,
+        },
         None => EMPTY,
     };
     *h = hold(held);
@@ -321,7 +376,7 @@ pub fn lives_in(alloc: Global, h: &mut DeskHandle, slot: u32, out: &mut PtPid) -
         return EMPTY;
     };
     let code = match &held.desk {
-        Some(desk) => looking::lives_in(desk, slot, out),
+        Some(desk) => show_pid(desk.lives_in(slot), out),
         None => EMPTY,
     };
     *h = hold(held);
@@ -356,7 +411,7 @@ pub fn event_at(alloc: Global, h: &mut DeskHandle, place: usize, out: &mut PtEve
         return EMPTY;
     };
     let code = match &held.desk {
-        Some(desk) => looking::event_at(desk, place, out),
+        Some(desk) => show_event(desk.journal().events(), place, out),
         None => EMPTY,
     };
     *h = hold(held);
@@ -380,7 +435,13 @@ pub fn next_woken(alloc: Global, h: &mut DeskHandle, at: &mut usize, out: &mut P
         return EMPTY;
     };
     let code = match &held.desk {
-        Some(desk) => looking::next_woken(desk, at, out),
+        Some(desk) => match pt_workers::next_woken(desk.journal().events(), at) {
+            Some(pid) => {
+                *out = pid_out(pid);
+                DONE
+            }
+            None => NOTHING,
+        },
         None => EMPTY,
     };
     *h = hold(held);

@@ -3,7 +3,7 @@ use Rattle.std.specs.Prelude.{◌≡◌, ℕ, zero, suc, Bool, ◌||◌, MatchBo
 use Rattle.pt_desk.specs.DeskState.{DeskState}
 use Rattle.pt_gathered.specs.Gathered.{GatheredState}
 use Rattle.pt_gathered.specs.Quiet.{QuietState}
-use Rattle.pt_c_values.specs.Codes.{empty, filled}
+use Rattle.pt_c_values.specs.Codes.{filled}
 use Rattle.pt_c_values.specs.Places.{HandlePlace, value_behind, values}
 use Rattle.pt_c_nodes.specs.Nodes.{GathersAs, SettlesAs}
 use Rattle.pt_c_values.specs.Filling.{IfEmpty, IfNone}

@@ -230,29 +230,21 @@ pub fn gathered_history(alloc: Global, g: &mut GatheredHandle, out: &mut History
         return EMPTY;
     };
     let code = match &place.gathered {
-        Some(node) => tell(alloc, node.gathered(), out),
+        Some(_) if has_history(alloc, out) => FILLED,
+        Some(node) => match history_of(node.gathered()) {
+            Ok(history) => match spare_history(alloc) {
+                Ok(empty) => {
+                    *out = filled_history(empty, history);
+                    DONE
+                }
+                Err(_) => MEMORY,
+            },
+            Err(_) => MEMORY,
+        },
         None => EMPTY,
     };
     *g = hold_gathered(place);
     code
-}
-
-fn tell(alloc: Global, gathered: &Gathered, out: &mut HistoryHandle) -> u32
-    ensures { Writes result (IsHistoryOf gathered.now) out.old.state out.new.state }
-{
-    if has_history(alloc, out) {
-        return FILLED;
-    }
-    match history_of(gathered) {
-        Ok(history) => match spare_history(alloc) {
-            Ok(place) => {
-                *out = filled_history(place, history);
-                DONE
-            }
-            Err(_) => MEMORY,
-        },
-        Err(_) => MEMORY,
-    }
 }
 
 fn history_of(gathered: &Gathered) -> Result<History, AllocError>

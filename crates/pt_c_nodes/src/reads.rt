@@ -5,15 +5,16 @@
 ghost use Rattle.std.specs.Prelude.{◌≡◌, length, slice_get};
 ghost use Rattle.pt_c_values.specs.Places.{ReadsThrough, ShowsCode};
 ghost use Rattle.pt_c_desks.specs.Reading.{TellsCount, TellsPid, TellsAccount, TellsLinked, TellsKept, TellsWatching};
-ghost use Rattle.pt_c_values.specs.Crossing.{pid_crossed, ref_in, event_out, left_out};
+ghost use Rattle.pt_c_values.specs.Crossing.{pid_crossed, pid_out, ref_in, event_out, left_out};
 
 use crate::gathered_handle::{GatheredHandle, claim as claim_gathered, hold as hold_gathered};
 use pt_c_desks::history_handle::{HistoryHandle, claim as claim_history, hold as hold_history};
-use pt_c_desks::looking;
+use pt_c_desks::looking::{show_event, show_ids};
 use pt_c_desks::quiet_handle::{QuietHandle, claim as claim_quiet, hold as hold_quiet};
-use pt_c_values::codes::{DONE, EMPTY};
-use pt_c_values::crossing::{pid_in, ref_in};
+use pt_c_values::codes::{DONE, EMPTY, NOTHING};
+use pt_c_values::crossing::{account_out, left_out, pid_in, pid_out, ref_in};
 use pt_c_values::types::{PtAccount, PtEvent, PtIds, PtLeftOver, PtPid, PtRef};
+use pt_node::{Pid, Quiet};
 use std::alloc::Global;
 
 /// The number of desks of the node.
@@ -80,7 +81,10 @@ pub fn quiet_pid_count(alloc: Global, q: &mut QuietHandle, out: &mut usize) -> u
         return EMPTY;
     };
     let code = match &held.quiet {
-        Some(quiet) => looking::pid_count(quiet, out),
+        Some(quiet) => {
+            *out = quiet.pids().len();
+            DONE
+        }
         None => EMPTY,
     };
     *q = hold_quiet(held);
@@ -95,11 +99,30 @@ pub fn quiet_pid_at(alloc: Global, q: &mut QuietHandle, place: usize, out: &mut 
         return EMPTY;
     };
     let code = match &held.quiet {
-        Some(quiet) => looking::pid_at(quiet, place, out),
+        Some(quiet) => pid_at(quiet, place, out),
         None => EMPTY,
     };
     *q = hold_quiet(held);
     code
+}
+
+/// The same of the node itself. (Beside the handle the prover does not find the list of pids.)
+fn pid_at(quiet: &Quiet, place: usize, out: &mut PtPid) -> u32
+    ensures { TellsPid quiet.now place result out.old out.new }
+{
+    show_pid_at(quiet.pids(), place, out)
+}
+
+fn show_pid_at(pids: &[Pid], place: usize, out: &mut PtPid) -> u32
+    ensures { ShowsCode result out.old out.new pid_out (slice_get pids.now place) }
+{
+    match pids.get(place) {
+        Some(pid) => {
+            *out = pid_out(*pid);
+            DONE
+        }
+        None => NOTHING,
+    }
 }
 
 /// What became of p, as `Quiet::account` returns it; 8 if it was never spawned.
@@ -111,7 +134,13 @@ pub fn quiet_account(alloc: Global, q: &mut QuietHandle, p: PtPid, out: &mut PtA
         return EMPTY;
     };
     let code = match &held.quiet {
-        Some(quiet) => looking::account(quiet, pid_in(p), out),
+        Some(quiet) => match quiet.account(pid_in(p)) {
+            Some(account) => {
+                *out = account_out(account);
+                DONE
+            }
+            None => NOTHING,
+        },
         None => EMPTY,
     };
     *q = hold_quiet(held);
@@ -133,7 +162,7 @@ pub fn quiet_linked(
         return EMPTY;
     };
     let code = match &held.quiet {
-        Some(quiet) => looking::quiet_linked(quiet, pid_in(p), pid_in(peer), out),
+        Some(quiet) => show_ids(quiet.linked(pid_in(p), pid_in(peer)), out),
         None => EMPTY,
     };
     *q = hold_quiet(held);
@@ -155,7 +184,10 @@ pub fn quiet_kept(
         return EMPTY;
     };
     let code = match &held.quiet {
-        Some(quiet) => looking::kept(quiet, pid_in(target), ref_in(monitor), out),
+        Some(quiet) => {
+            *out = quiet.kept(pid_in(target), ref_in(monitor));
+            DONE
+        }
         None => EMPTY,
     };
     *q = hold_quiet(held);
@@ -177,7 +209,10 @@ pub fn quiet_watching(
         return EMPTY;
     };
     let code = match &held.quiet {
-        Some(quiet) => looking::watching(quiet, pid_in(watcher), ref_in(monitor), out),
+        Some(quiet) => {
+            *out = quiet.watching(pid_in(watcher), ref_in(monitor));
+            DONE
+        }
         None => EMPTY,
     };
     *q = hold_quiet(held);
@@ -212,7 +247,7 @@ pub fn history_at(alloc: Global, h: &mut HistoryHandle, place: usize, out: &mut 
         return EMPTY;
     };
     let code = match &held.history {
-        Some(history) => looking::history_event(history, place, out),
+        Some(history) => show_event(history.events.as_slice(), place, out),
         None => EMPTY,
     };
     *h = hold_history(held);
@@ -251,7 +286,13 @@ pub fn history_left_at(
         return EMPTY;
     };
     let code = match &held.history {
-        Some(history) => looking::history_left(history, place, out),
+        Some(history) => match history.left.get(place) {
+            Some(letter) => {
+                *out = left_out(*letter);
+                DONE
+            }
+            None => NOTHING,
+        },
         None => EMPTY,
     };
     *h = hold_history(held);

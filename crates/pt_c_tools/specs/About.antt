@@ -1,6 +1,5 @@
 -- What the library says of itself: its codes, the sizes of what crosses, and a sample of each struct, whose fields have
 -- the numbers 1, 2, 3 and so on in order, a bool being true.
-use Rattle.std.specs.Prelude.{true}
 use Rattle.pt_c_tools.specs.declared.types.PtFired.{PtFired}
 use Rattle.pt_c_tools.specs.declared.naming.PtHolder.{PtHolder}
 use Rattle.pt_signal.specs.declared.pid.Pid.{Pid}

@@ -1,8 +1,8 @@
 -- What a process of a crew does next, as C has it. A field that the code gives no meaning to is zero.
 use Rattle.std.specs.Prelude.{◌==◌, cond, Option, Some, None}
 use Rattle.std.specs.Option.{option_map}
-use Rattle.pt_crew.specs.declared.behaviour.Next.{Next}
-use Rattle.pt_crew.specs.declared.behaviour.Next.TheVariants.{Wait, WaitUntil, Proceed, Running, Stop}
+use Rattle.pt_behaviour.specs.declared.behaviour.Next.{Next}
+use Rattle.pt_behaviour.specs.declared.behaviour.Next.TheVariants.{Wait, WaitUntil, Proceed, Running, Stop}
 use Rattle.pt_c_values.specs.declared.types.PtNext.{PtNext}
 use Rattle.pt_c_values.specs.Crossing.{reason_in, reason_out, pick_in, pick_out, no_reason, no_pick}
 

@@ -8,6 +8,7 @@ use crate::crossing_nexts::next_out;
 use crate::naming::{BAD_NAME, HAS_NAME, PtHolder, PtName, TAKEN};
 use crate::through::BAD_PLACES;
 use crate::types::{PtFired, PtTimer};
+use pt_behaviour::Next;
 use pt_c_values::codes::{
     BAD_CODE, DONE, EMPTY, FILLED, NOT_RUNNING, NOTHING, UNKNOWN, WRONG_DESK, code_of, open_code,
 };
@@ -17,7 +18,6 @@ use pt_c_values::types::{
     PtAccount, PtAnswer, PtBody, PtConfig, PtEvent, PtIds, PtItem, PtJob, PtLeftOver, PtLoss,
     PtNext, PtPick, PtPid, PtReason, PtRef, PtSignal, PtTurned,
 };
-use pt_crew::Next;
 use pt_node::{
     Body, Event, Fault, Ids, Item, LinkId, OpenError, Pick, Pid, Reason, Ref, Setting, Signal,
     Stamped,

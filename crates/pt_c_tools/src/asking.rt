@@ -1,14 +1,14 @@
 //! The side that asks.
 
-ghost use Rattle.std.specs.Prelude.{◌≡◌, ◌<◌, ◌^◌, pos, true, false, Option, ℕ};
+ghost use Rattle.std.specs.Prelude.{◌≡◌, ◌<◌, ◌^◌, pos, Option, ℕ};
 ghost use Rattle.pt_desk.specs.DeskState.{GoesOn};
 ghost use Rattle.pt_pending.specs.Asking.{Asks, refusal, unsent_fault};
-ghost use Rattle.pt_c_tools.specs.Asking.{AsksServer, asked_code, call_or, call_under, fault_code, pending_asked};
+ghost use Rattle.pt_c_tools.specs.Asking.{asked_code, call_or, call_under, fault_code, pending_asked};
 
 use crate::types::PtCall;
+use pt_behaviour::{CallFault, demonitor, monitor, send};
 use pt_c_values::codes::{DONE, UNKNOWN, code_of};
 use pt_c_values::crossing::{pid_out, ref_out};
-use pt_crew::{CallFault, demonitor, monitor, send};
 use pt_pending::AskFault;
 use pt_workers::{Body, Desk, Fault, Pid, Ref};
 
@@ -22,35 +22,8 @@ pub(crate) fn fault_code(fault: CallFault) -> u32
     }
 }
 
-/// Asks a server, as `Pending::ask` does, and writes the call.
-#[tactic(auto, unfolding(crate::specs::Asking::AsksServer))]
-pub fn ask(desk: &mut Desk, me: Pid, server: Pid, asks: u32, out: &mut PtCall) -> u32
-    ensures { AsksServer me server asks false 0 result out.old out.new desk.old desk.new }
-{
-    let asked = begin(desk, me, server, asks);
-    write_call(asked, me, server, false, 0, out);
-    asked_code(asked)
-}
-
-/// Asks a server until a moment, as `Pending::ask_until` does, and writes the call.
-#[tactic(auto, unfolding(crate::specs::Asking::AsksServer))]
-pub fn ask_until(
-    desk: &mut Desk,
-    me: Pid,
-    server: Pid,
-    asks: u32,
-    deadline: u64,
-    out: &mut PtCall,
-) -> u32
-    ensures { AsksServer me server asks true deadline result out.old out.new desk.old desk.new }
-{
-    let asked = begin(desk, me, server, asks);
-    write_call(asked, me, server, true, deadline, out);
-    asked_code(asked)
-}
-
 /// Writes the call that was made. Of one that was not, whose monitor is still open, it writes that it has ended.
-fn write_call(
+pub(crate) fn write_call(
     asked: Result<Ref, AskFault>,
     me: Pid,
     server: Pid,
@@ -70,7 +43,7 @@ fn write_call(
 }
 
 /// The code of a call that was asked, or was not.
-fn asked_code(asked: Result<Ref, AskFault>) -> u32
+pub(crate) fn asked_code(asked: Result<Ref, AskFault>) -> u32
     ensures { result ≡ asked_code asked }
 {
     match asked {
@@ -103,7 +76,7 @@ fn made(
 }
 
 /// Makes the monitor, and sends the request under its number. It returns the monitor's reference.
-fn begin(desk: &mut Desk, me: Pid, server: Pid, asks: u32) -> Result<Ref, AskFault>
+pub(crate) fn begin(desk: &mut Desk, me: Pid, server: Pid, asks: u32) -> Result<Ref, AskFault>
     ensures does { (deadline : Option ℕ)
         → Asks me server asks deadline desk.old (pending_asked me server deadline result) desk.new }
     ensures goes_on { GoesOn desk.old desk.new }

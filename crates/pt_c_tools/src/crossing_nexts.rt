@@ -3,9 +3,9 @@
 ghost use Rattle.std.specs.Prelude.{◌≡◌};
 ghost use Rattle.pt_c_tools.specs.Nexts.{next_in, next_out, no_next};
 
+use pt_behaviour::Next;
 use pt_c_values::crossing::{no_pick, no_reason, pick_in, pick_out, reason_in, reason_out};
 use pt_c_values::types::PtNext;
-use pt_crew::Next;
 
 /// What a process does next; none if a code is none of its enumeration.
 pub fn next_in(next: PtNext) -> Option<Next>

@@ -5,14 +5,14 @@ ghost use Rattle.std.specs.Ordering.{int_eq};
 ghost use Rattle.pt_desk.specs.DeskState.{GoesOn};
 ghost use Rattle.pt_pending.specs.Asking.{speaks_of};
 ghost use Rattle.pt_pending.specs.Ending.{Closes, IsGivenUp, heard_by_call, is_answer_to_call, is_due, says_to_call};
-ghost use Rattle.pt_c_tools.specs.Asking.{CallsEndOnce, ExpiresCode, HearsItem, call_after, call_noting, pending_of, heard_out};
+ghost use Rattle.pt_c_tools.specs.Asking.{CallsEndOnce, HearsItem, call_after, call_noting, pending_of, heard_out};
 
 use crate::items::item_in;
 use crate::types::{PtCall, PtHeard};
+use pt_behaviour::demonitor;
 use pt_c_values::codes::{BAD_CODE, DONE};
 use pt_c_values::crossing::{no_reason, pid_in, reason_out, ref_in};
 use pt_c_values::types::PtItem;
-use pt_crew::demonitor;
 use pt_pending::Heard;
 use pt_workers::{Body, Desk, Item, Pid};
 
@@ -43,9 +43,10 @@ fn heard_out(heard: Heard) -> PtHeard
     }
 }
 
-/// Reads an item that the client got, as `Pending::hear` does, and writes what it means to the call.
+/// Reads an item that the client got, as `Pending::hear` does, and writes what it means to the call. It is apart from the
+/// call of the handle, since the prover does not prove both as one.
 #[tactic(auto, unfolding(crate::specs::Asking::HearsItem))]
-pub fn hear(desk: &mut Desk, call: &mut PtCall, item: PtItem, out: &mut PtHeard) -> u32
+pub(crate) fn hear(desk: &mut Desk, call: &mut PtCall, item: PtItem, out: &mut PtHeard) -> u32
     ensures { HearsItem item result call.old call.new out.old out.new desk.old desk.new }
 {
     let Some(item) = item_in(item) else {
@@ -72,20 +73,8 @@ fn heard(desk: &mut Desk, call: &mut PtCall, item: Item) -> Heard
     said
 }
 
-/// Reports the time, as `Pending::expire` does, and writes whether the call ends by its deadline now.
-#[tactic(auto, unfolding(crate::specs::Asking::ExpiresCode))]
-pub fn expire(desk: &mut Desk, call: &mut PtCall, now: u64, out: &mut bool) -> u32
-    ensures { ExpiresCode now result call.old call.new out.new desk.old desk.new }
-{
-    *out = call.waits && is_due(*call, now);
-    if *out {
-        close(desk, call);
-    }
-    DONE
-}
-
 /// Ends the call, and cancels its monitor, or notes that this failed.
-fn close(desk: &mut Desk, call: &mut PtCall)
+pub(crate) fn close(desk: &mut Desk, call: &mut PtCall)
     ensures after { call.new ≡ call_noting call.new.left_open (record call.old { waits = false }) }
     ensures closes { IsGivenUp (pending_of call.old) desk.old call.new.left_open desk.new }
     ensures goes_on { GoesOn desk.old desk.new }
@@ -95,7 +84,7 @@ fn close(desk: &mut Desk, call: &mut PtCall)
 }
 
 /// Whether the deadline has come, if there is one.
-fn is_due(call: PtCall, now: u64) -> bool
+pub(crate) fn is_due(call: PtCall, now: u64) -> bool
     ensures { result ≡ is_due (pending_of call) now }
 {
     call.has_deadline && call.deadline <= now

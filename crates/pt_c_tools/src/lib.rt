@@ -61,6 +61,5 @@ pub mod telling;
 pub mod through;
 pub mod timers;
 pub mod timers_handle;
-pub mod timing;
 pub mod types;
 pub mod way_in_handle;

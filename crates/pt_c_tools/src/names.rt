@@ -12,12 +12,12 @@ ghost use Rattle.pt_c_tools.specs.Naming.{name_crossed, name_out, OpensNames};
 ghost use Rattle.pt_c_values.specs.Filling.{GivesUp};
 
 use crate::names_handle::{NamesHandle, claim, filled, hold, is_full, spare};
-use crate::naming::{self, PtHolder, PtName};
-use pt_c_values::codes::{DONE, EMPTY, FILLED, MEMORY};
-use pt_c_values::crossing::{pid_in, ref_in};
+use crate::naming::{BAD_NAME, PtHolder, PtName, holder_out, name_out, register_code};
+use pt_c_values::codes::{DONE, EMPTY, FILLED, MEMORY, NOTHING};
+use pt_c_values::crossing::{pid_in, pid_out, ref_in};
 use pt_c_values::ending::end_code;
 use pt_c_values::types::{PtPid, PtRef};
-use pt_names::Names;
+use pt_names::{Name, Names};
 use std::alloc::Global;
 
 /// Begins names, of which no process has one. The handle must be empty: it returns 10 if it is not.
@@ -55,7 +55,10 @@ pub fn register(alloc: Global, n: &mut NamesHandle, name: &[u8], p: PtPid, monit
         return EMPTY;
     };
     let code = match &mut held.names {
-        Some(names) => naming::register(names, name, pid_in(p), ref_in(monitor)),
+        Some(names) => match Name::from_bytes(name) {
+            Some(name) => register_code(names.register(name, pid_in(p), ref_in(monitor))),
+            None => BAD_NAME,
+        },
         None => EMPTY,
     };
     *n = hold(held);
@@ -72,7 +75,10 @@ pub fn check(alloc: Global, n: &mut NamesHandle, name: &[u8], p: PtPid) -> u32
         return EMPTY;
     };
     let code = match &held.names {
-        Some(names) => naming::check(names, name, pid_in(p)),
+        Some(names) => match Name::from_bytes(name) {
+            Some(name) => register_code(names.check(name, pid_in(p))),
+            None => BAD_NAME,
+        },
         None => EMPTY,
     };
     *n = hold(held);
@@ -89,7 +95,16 @@ pub fn whereis(alloc: Global, n: &mut NamesHandle, name: &[u8], out: &mut PtPid)
         return EMPTY;
     };
     let code = match &held.names {
-        Some(names) => naming::whereis(names, name, out),
+        Some(names) => match Name::from_bytes(name) {
+            Some(name) => match names.whereis(name) {
+                Some(pid) => {
+                    *out = pid_out(pid);
+                    DONE
+                }
+                None => NOTHING,
+            },
+            None => BAD_NAME,
+        },
         None => EMPTY,
     };
     *n = hold(held);
@@ -106,7 +121,16 @@ pub fn unregister(alloc: Global, n: &mut NamesHandle, name: &[u8], out: &mut PtH
         return EMPTY;
     };
     let code = match &mut held.names {
-        Some(names) => naming::unregister(names, name, out),
+        Some(names) => match Name::from_bytes(name) {
+            Some(name) => match names.unregister(name) {
+                Some(holder) => {
+                    *out = holder_out(holder);
+                    DONE
+                }
+                None => NOTHING,
+            },
+            None => BAD_NAME,
+        },
         None => EMPTY,
     };
     *n = hold(held);
@@ -122,7 +146,13 @@ pub fn forget(alloc: Global, n: &mut NamesHandle, p: PtPid, out: &mut PtName) ->
         return EMPTY;
     };
     let code = match &mut held.names {
-        Some(names) => naming::forget(names, pid_in(p), out),
+        Some(names) => match names.forget(pid_in(p)) {
+            Some(name) => {
+                *out = name_out(name);
+                DONE
+            }
+            None => NOTHING,
+        },
         None => EMPTY,
     };
     *n = hold(held);
@@ -138,7 +168,13 @@ pub fn name_of(alloc: Global, n: &mut NamesHandle, p: PtPid, out: &mut PtName) -
         return EMPTY;
     };
     let code = match &held.names {
-        Some(names) => naming::name_of(names, pid_in(p), out),
+        Some(names) => match names.name_of(pid_in(p)) {
+            Some(name) => {
+                *out = name_out(name);
+                DONE
+            }
+            None => NOTHING,
+        },
         None => EMPTY,
     };
     *n = hold(held);

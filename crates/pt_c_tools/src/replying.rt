@@ -1,17 +1,16 @@
 //! The side that is asked.
 
 ghost use Rattle.std.specs.Prelude.{◌≡◌};
-ghost use Rattle.pt_c_tools.specs.Asking.{ReadsRequest, RepliesCode, request_in, request_out, told_code};
+ghost use Rattle.pt_c_tools.specs.Asking.{ReadsRequest, request_in, request_out, told_code};
 
 use crate::asking::fault_code;
 use crate::items::item_in;
 use crate::types::PtRequest;
+use pt_behaviour::CallFault;
 use pt_c_values::codes::{BAD_CODE, DONE, NOTHING};
 use pt_c_values::crossing::{pid_in, pid_out};
 use pt_c_values::types::PtItem;
-use pt_crew::CallFault;
-use pt_pending::{Request, reply as reply_to, request_of as read_request};
-use pt_workers::{Desk, Pid};
+use pt_pending::{Request, request_of as read_request};
 
 fn request_out(request: Request) -> PtRequest
     ensures { result ≡ request_out request }
@@ -23,7 +22,7 @@ fn request_out(request: Request) -> PtRequest
     }
 }
 
-fn request_in(request: PtRequest) -> Request
+pub(crate) fn request_in(request: PtRequest) -> Request
     ensures { result ≡ request_in request }
 {
     Request {
@@ -50,15 +49,8 @@ pub fn request_of(item: PtItem, out: &mut PtRequest) -> u32
     }
 }
 
-/// Answers a request, as `reply` does.
-#[tactic(auto, unfolding(crate::specs::Asking::RepliesCode))]
-pub fn reply(desk: &mut Desk, me: Pid, request: PtRequest, n: u32) -> u32
-    ensures { RepliesCode me request n result desk.old desk.new }
-{
-    told_code(reply_to(desk, me, request_in(request), n))
-}
-
-fn told_code(told: Result<(), CallFault>) -> u32
+/// The code of an answer that was sent, or was not.
+pub(crate) fn told_code(told: Result<(), CallFault>) -> u32
     ensures { result ≡ told_code told }
 {
     match told {

@@ -8,16 +8,20 @@ ghost use Rattle.pt_c_values.specs.Places.{CallsThrough};
 ghost use Rattle.pt_c_values.specs.Crossing.{pid_crossed};
 ghost use Rattle.pt_c_tools.specs.Asking.{AsksServer, ExpiresCode, HearsItem, RepliesCode};
 
+use crate::asking::{asked_code, begin, write_call};
+use crate::hearing::{self, close, is_due};
+use crate::replying::{request_in, told_code};
 use crate::types::{PtCall, PtHeard, PtRequest};
-use crate::{asking, hearing, replying};
 use pt_c_desks::desk_handle::{DeskHandle, claim, hold};
-use pt_c_values::codes::EMPTY;
+use pt_c_values::codes::{DONE, EMPTY};
 use pt_c_values::crossing::pid_in;
 use pt_c_values::types::{PtItem, PtPid};
+use pt_pending::reply as reply_to;
 use std::alloc::Global;
 
 /// Asks a server, as `Pending::ask` does: it monitors the server, and sends the request under the monitor's number. It
 /// writes the call to `out` if it returns 0.
+#[tactic(auto, unfolding(crate::specs::Asking::AsksServer))]
 pub fn ask(
     alloc: Global,
     h: &mut DeskHandle,
@@ -33,7 +37,11 @@ pub fn ask(
         return EMPTY;
     };
     let code = match &mut place.desk {
-        Some(desk) => asking::ask(desk, pid_in(me), pid_in(server), asks, out),
+        Some(desk) => {
+            let asked = begin(desk, pid_in(me), pid_in(server), asks);
+            write_call(asked, pid_in(me), pid_in(server), false, 0, out);
+            asked_code(asked)
+        }
         None => EMPTY,
     };
     *h = hold(place);
@@ -41,6 +49,7 @@ pub fn ask(
 }
 
 /// Asks a server, as `Pending::ask_until` does: the call ends at the moment `deadline` if it is open then.
+#[tactic(auto, unfolding(crate::specs::Asking::AsksServer))]
 pub fn ask_until(
     alloc: Global,
     h: &mut DeskHandle,
@@ -57,7 +66,11 @@ pub fn ask_until(
         return EMPTY;
     };
     let code = match &mut place.desk {
-        Some(desk) => asking::ask_until(desk, pid_in(me), pid_in(server), asks, deadline, out),
+        Some(desk) => {
+            let asked = begin(desk, pid_in(me), pid_in(server), asks);
+            write_call(asked, pid_in(me), pid_in(server), true, deadline, out);
+            asked_code(asked)
+        }
         None => EMPTY,
     };
     *h = hold(place);
@@ -88,6 +101,7 @@ pub fn hear(
 }
 
 /// Reports the time, as `Pending::expire` does. It writes to `out` whether the call ends by its deadline now.
+#[tactic(auto, unfolding(crate::specs::Asking::ExpiresCode))]
 pub fn expire(alloc: Global, h: &mut DeskHandle, call: &mut PtCall, now: u64, out: &mut bool) -> u32
     ensures { CallsThrough h.old.state h.new.state result ((call.new ≡ call.old) × (out.new ≡ out.old))
         (ExpiresCode now result call.old call.new out.new) }
@@ -96,7 +110,13 @@ pub fn expire(alloc: Global, h: &mut DeskHandle, call: &mut PtCall, now: u64, ou
         return EMPTY;
     };
     let code = match &mut place.desk {
-        Some(desk) => hearing::expire(desk, call, now, out),
+        Some(desk) => {
+            *out = call.waits && is_due(*call, now);
+            if *out {
+                close(desk, call);
+            }
+            DONE
+        }
         None => EMPTY,
     };
     *h = hold(place);
@@ -104,6 +124,7 @@ pub fn expire(alloc: Global, h: &mut DeskHandle, call: &mut PtCall, now: u64, ou
 }
 
 /// Answers a request, as `reply` does.
+#[tactic(auto, unfolding(crate::specs::Asking::RepliesCode))]
 pub fn reply(alloc: Global, h: &mut DeskHandle, me: PtPid, request: PtRequest, n: u32) -> u32
     ensures { CallsThrough h.old.state h.new.state result (Unit {0}) (RepliesCode (pid_crossed me) request n result) }
 {
@@ -111,7 +132,7 @@ pub fn reply(alloc: Global, h: &mut DeskHandle, me: PtPid, request: PtRequest, n
         return EMPTY;
     };
     let code = match &mut place.desk {
-        Some(desk) => replying::reply(desk, pid_in(me), request, n),
+        Some(desk) => told_code(reply_to(desk, pid_in(me), request_in(request), n)),
         None => EMPTY,
     };
     *h = hold(place);

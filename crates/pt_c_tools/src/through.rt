@@ -4,7 +4,7 @@ ghost use Rattle.std.specs.Prelude.{◌≡◌};
 ghost use Rattle.pt_c_values.specs.Places.{CallsThrough};
 ghost use Rattle.pt_c_tools.specs.WaysIn.{LooksInCode, OpensWayIn, PostsCode, TakesCode, post_in, post_out, sample_post};
 
-use crate::door::{Door, Post, WayIn, open};
+use crate::door::{Post, open};
 use crate::door_handle::{self, DoorHandle};
 use crate::types::PtPost;
 use crate::way_in_handle::{self, WayInHandle};
@@ -67,6 +67,7 @@ pub fn open_both(alloc: Global, d: &mut DoorHandle, w: &mut WayInHandle, places:
 }
 
 /// Hands in a message at a door, unless its way in was given up.
+#[tactic(auto, using(crate::proofs::Handing::posts_after))]
 pub fn post(alloc: Global, h: &mut DoorHandle, post: PtPost) -> u32
     ensures { CallsThrough h.old.state h.new.state result (Unit {0}) (λ old new. PostsCode (post_in post) result old new) }
 {
@@ -74,21 +75,19 @@ pub fn post(alloc: Global, h: &mut DoorHandle, post: PtPost) -> u32
         return EMPTY;
     };
     let code = match &mut held.door {
-        Some(door) => post_at(door, post_in(post)),
+        Some(door) => {
+            if door.is_gone() {
+                GIVEN_UP
+            } else if door.post(post_in(post)) {
+                DONE
+            } else {
+                NO_PLACE
+            }
+        }
         None => EMPTY,
     };
     *h = door_handle::hold(held);
     code
-}
-
-#[tactic(auto, using(crate::proofs::Handing::posts_after))]
-fn post_at(door: &mut Door, post: Post) -> u32
-    ensures { PostsCode post result door.old door.new }
-{
-    if door.is_gone() {
-        return GIVEN_UP;
-    }
-    if door.post(post) { DONE } else { NO_PLACE }
 }
 
 /// Takes out the oldest message that waits.
@@ -100,23 +99,17 @@ pub fn take(alloc: Global, h: &mut WayInHandle, out: &mut PtPost) -> u32
         return EMPTY;
     };
     let code = match &mut held.way_in {
-        Some(way_in) => take_from(way_in, out),
+        Some(way_in) => match way_in.take() {
+            Some(post) => {
+                *out = post_out(post);
+                DONE
+            }
+            None => NOTHING,
+        },
         None => EMPTY,
     };
     *h = way_in_handle::hold(held);
     code
-}
-
-fn take_from(way_in: &mut WayIn, out: &mut PtPost) -> u32
-    ensures { TakesCode result out.old out.new way_in.old way_in.new }
-{
-    match way_in.take() {
-        Some(post) => {
-            *out = post_out(post);
-            DONE
-        }
-        None => NOTHING,
-    }
 }
 
 /// The number of messages that wait.

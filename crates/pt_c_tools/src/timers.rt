@@ -6,17 +6,47 @@
 ghost use Rattle.std.specs.Prelude.{◌≡◌, length};
 ghost use Rattle.pt_timers.specs.State.{body_of};
 ghost use Rattle.pt_c_values.specs.Places.{CallsThrough, ReadsThrough, ShowsCode};
-ghost use Rattle.pt_c_tools.specs.Timing.{CancelsTimer, FiresTimer, ShowsDue, ShowsNextTimer, StartsTimer, timer_in};
+ghost use Rattle.pt_c_tools.specs.Timing.{CancelsTimer, FiresTimer, IsDue, ShowsDue, ShowsNextTimer, StartsTimer};
+ghost use Rattle.pt_c_tools.specs.Timing.{fired_out, timer_in, timer_out};
 ghost use Rattle.pt_c_values.specs.Filling.{GivesUp};
 ghost use Rattle.pt_c_tools.specs.Opening.{OpensTimers};
 
 use crate::timers_handle::{TimersHandle, claim, filled, hold, is_full, spare};
-use crate::timing;
 use crate::types::{PtFired, PtTimer};
-use pt_c_values::codes::{DONE, EMPTY, FILLED, MEMORY};
+use pt_c_values::codes::{DONE, EMPTY, FILLED, MEMORY, NOTHING};
 use pt_c_values::ending::end_code;
-use pt_timers::Timers;
+use pt_timers::{Fired, StartError, Timer, Timers};
 use std::alloc::Global;
+
+/// 2^64 - 1 timers were started.
+const WORN: u32 = 3;
+
+fn timer_in(timer: PtTimer) -> Timer
+    ensures { result ≡ timer_in timer }
+{
+    Timer {
+        at: timer.at,
+        number: timer.number,
+    }
+}
+
+fn timer_out(timer: Timer) -> PtTimer
+    ensures { result ≡ timer_out timer }
+{
+    PtTimer {
+        at: timer.at,
+        number: timer.number,
+    }
+}
+
+fn fired_out(fired: Fired<u64>) -> PtFired
+    ensures { result ≡ fired_out fired }
+{
+    PtFired {
+        timer: timer_out(fired.timer),
+        body: fired.body,
+    }
+}
 
 /// Begins timers, of which none is pending. The handle must be empty: it returns 10 if it is not.
 pub fn open(alloc: Global, t: &mut TimersHandle) -> u32
@@ -52,7 +82,14 @@ pub fn start(alloc: Global, t: &mut TimersHandle, at: u64, body: u64, out: &mut 
         return EMPTY;
     };
     let code = match &mut held.timers {
-        Some(timers) => timing::start(timers, at, body, out),
+        Some(timers) => match timers.start(at, body) {
+            Ok(timer) => {
+                *out = timer_out(timer);
+                DONE
+            }
+            Err(StartError::Worn(_)) => WORN,
+            Err(StartError::Memory(_)) => MEMORY,
+        },
         None => EMPTY,
     };
     *t = hold(held);
@@ -68,7 +105,13 @@ pub fn cancel(alloc: Global, t: &mut TimersHandle, timer: PtTimer) -> u32
         return EMPTY;
     };
     let code = match &mut held.timers {
-        Some(timers) => timing::cancel(timers, timer),
+        Some(timers) => {
+            if timers.cancel(timer_in(timer)) {
+                DONE
+            } else {
+                NOTHING
+            }
+        }
         None => EMPTY,
     };
     *t = hold(held);
@@ -85,7 +128,13 @@ pub fn pop_due(alloc: Global, t: &mut TimersHandle, now: u64, out: &mut PtFired)
         return EMPTY;
     };
     let code = match &mut held.timers {
-        Some(timers) => timing::pop_due(timers, now, out),
+        Some(timers) => match timers.pop_due(now) {
+            Some(fired) => {
+                *out = fired_out(fired);
+                DONE
+            }
+            None => NOTHING,
+        },
         None => EMPTY,
     };
     *t = hold(held);
@@ -101,11 +150,27 @@ pub fn peek_due(alloc: Global, t: &mut TimersHandle, now: u64, out: &mut PtFired
         return EMPTY;
     };
     let code = match &held.timers {
-        Some(timers) => timing::peek_due(timers, now, out),
+        Some(timers) => match first_due(timers, now) {
+            Some(fired) => {
+                *out = fired_out(fired);
+                DONE
+            }
+            None => NOTHING,
+        },
         None => EMPTY,
     };
     *t = hold(held);
     code
+}
+
+/// The first timer that is due, with its number.
+fn first_due(timers: &Timers<u64>, now: u64) -> Option<Fired<u64>>
+    ensures { IsDue now result timers.now }
+{
+    match timers.peek_due(now) {
+        Some((timer, body)) => Some(Fired { timer, body: *body }),
+        None => None,
+    }
 }
 
 /// The earliest time of a pending timer; 8 if none is pending.
@@ -117,7 +182,13 @@ pub fn next(alloc: Global, t: &mut TimersHandle, out: &mut u64) -> u32
         return EMPTY;
     };
     let code = match &held.timers {
-        Some(timers) => timing::next(timers, out),
+        Some(timers) => match timers.next() {
+            Some(at) => {
+                *out = at;
+                DONE
+            }
+            None => NOTHING,
+        },
         None => EMPTY,
     };
     *t = hold(held);
@@ -133,7 +204,13 @@ pub fn get(alloc: Global, t: &mut TimersHandle, timer: PtTimer, out: &mut u64) -
         return EMPTY;
     };
     let code = match &held.timers {
-        Some(timers) => timing::get(timers, timer, out),
+        Some(timers) => match timers.get(timer_in(timer)) {
+            Some(body) => {
+                *out = *body;
+                DONE
+            }
+            None => NOTHING,
+        },
         None => EMPTY,
     };
     *t = hold(held);

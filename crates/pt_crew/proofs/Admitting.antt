@@ -2,7 +2,7 @@
 use Rattle.std.proofs.Common.{◌≡◌, inl, inr, Bool, true, List, [], ◌++◌, sym, ap, subst, ◌∙◌, append-nil}
 use Rattle.pt_signal.specs.declared.pid.Pid.{Pid}
 use Rattle.pt_crew.specs.declared.crew.Crew.{Crew}
-use Rattle.pt_crew.specs.declared.births.Role.{Role}
+use Rattle.pt_behaviour.specs.declared.births.Role.{Role}
 use Rattle.pt_crew.specs.Crews.{waiting, queue, IsSame}
 use Rattle.pt_crew.specs.Parts.{aboard, AdmitsOf, AdmitsFirst, CanEnter}
 use Rattle.pt_crew.specs.Stepping.{QueueIsLonger}

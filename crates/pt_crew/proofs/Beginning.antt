@@ -16,7 +16,7 @@ use Rattle.pt_crew.specs.Crews.{Attends, AreBorn, HasRoom, HasTimers, members, r
 use Rattle.pt_crew.specs.Parts.{MarkedBut, QueueHolds, Wakes, WakesAt}
 use Rattle.pt_signal.proofs.Same.{same_pid_is}
 use Rattle.pt_crew.proofs.Places.{same_pid_sym}
-use Rattle.pt_crew.proofs.Waking.{by_cases, some_none}
+use Rattle.pt_behaviour.proofs.Cases.{by_cases, some_none}
 
 module _ {X : Type 0} where
   -- writing at a place leaves the keys

@@ -14,19 +14,20 @@ use Rattle.pt_shard.specs.declared.fault.Fault.{Fault}
 use Rattle.pt_shard.specs.declared.fault.Fault.TheVariants.{Full, Memory, Worn, Gone, Myself, NoProc}
 use Rattle.pt_shard.specs.ShardState.{ShardState, lives, state_in}
 use Rattle.pt_shard.specs.Calls.{Calls, take_event, first_match}
-use Rattle.pt_crew.specs.declared.behaviour.Next.{Next}
-use Rattle.pt_crew.specs.declared.behaviour.Next.TheVariants.{Wait, WaitUntil, Proceed, Running, Stop}
-use Rattle.pt_crew.specs.declared.births.Role.{Role}
-use Rattle.pt_crew.specs.Births.{bore}
+use Rattle.pt_behaviour.specs.declared.behaviour.Next.{Next}
+use Rattle.pt_behaviour.specs.declared.behaviour.Next.TheVariants.{Wait, WaitUntil, Proceed, Running, Stop}
+use Rattle.pt_behaviour.specs.declared.births.Role.{Role}
+use Rattle.pt_behaviour.specs.Births.{bore}
 use Rattle.pt_crew.specs.declared.crew.Tended.{Tended}
 use Rattle.pt_crew.specs.declared.crew.Tended.TheVariants.{Idle, Refused as Denied}
-use Rattle.pt_crew.specs.Visiting.{Answers, Roles, AreSame, AreWith, Scene, HandsTo, LeavesAs, StaysAs, ComesTo, SeesTo, EndsAs, TakesAs, VisitsOne, Visits, takes}
+use Rattle.pt_behaviour.specs.Behaving.{Answers, takes, pick_of}
+use Rattle.pt_crew.specs.Visiting.{Roles, AreSame, AreWith, Scene, HandsTo, LeavesAs, StaysAs, ComesTo, SeesTo, EndsAs, TakesAs, VisitsOne, Visits}
 use Rattle.pt_crew.specs.Crews.{CrewRounds}
 use Rattle.pt_crew.specs.Handing.{MayLeave, MayBeHanded, HandsAll, Handed, item_handed, items_handed}
 use Rattle.std.specs.Prelude.{MatchBool}
-use Rattle.pt_crew.specs.Waking.{pick_of}
-use Rattle.pt_crew.proofs.Waking.{by_cases, elsewhere, same_some}
-use Rattle.pt_crew.proofs.Takes.{left_takes, none_taken, one_taken, refused_taken}
+use Rattle.pt_behaviour.proofs.Cases.{by_cases, same_some}
+use Rattle.pt_crew.proofs.Waking.{elsewhere}
+use Rattle.pt_behaviour.proofs.Takes.{left_takes, none_taken, one_taken, refused_taken}
 
 module _ {B : Type 0} where
   leave_then : (old mid new : Roles B) → MayLeave old mid → MayLeave mid new → MayLeave old new

@@ -7,14 +7,13 @@ pub mod Answering
 pub mod Beginning
 pub mod Reading
 pub mod Room
-pub mod Bearing
-pub mod Newborn
-pub mod Telling
-pub mod Takes
+pub mod Idle
 pub mod Visiting
 pub mod Redirecting
+pub mod Getting
 pub mod Serving
 pub mod Handing
 pub mod Admitting
 pub mod Upholding
 pub mod Runs
+pub mod Resting

@@ -1,24 +1,26 @@
 -- One more event of the journal is read.
-use Rattle.std.proofs.Common.{◌≡◌, ◌+◌, ◌<◌, ◌≤◌, Bool, true, false, ◌||◌, Result, Ok, Err, OnOk, List, [], ◌∷◌, ◌++◌, length, reverse, get_or, Option, Some, None, refl, sym, ap, subst, ◌∙◌, append_assoc, append-nil, length-append, arith}
+use Rattle.std.proofs.Common.{◌≡◌, ◌+◌, ◌<◌, ◌≤◌, Bool, true, false, ◌&&◌, ◌||◌, Result, Ok, Err, OnOk, List, [], ◌∷◌, ◌++◌, length, reverse, get_or, Option, Some, None, refl, sym, ap, subst, ◌∙◌, append_assoc, append-nil, length-append, arith}
 use Rattle.std.specs.Prelude.{is_err}
 use Rattle.std.proofs.lemmas.List.{length-reverse, get_or_default}
 use Rattle.std.proofs.lemmas.List.Folds.{list_any-append}
 use Rattle.pt_signal.specs.declared.pid.Pid.{Pid}
+use Rattle.pt_signal.specs.declared.item.Pick.TheVariants.{Any}
 use Rattle.pt_signal.specs.Values.{same_pid}
 use Rattle.pt_signal.proofs.Same.{same_pid_is}
 use Rattle.pt_events.specs.declared.event.Event.{Event}
 use Rattle.pt_events.specs.declared.event.Event.TheVariants.{Born, Said, Came, Took, Flag, Left, Refused}
 use Rattle.pt_events.specs.declared.event.Stamped.{Stamped}
-use Rattle.pt_shard.specs.ShardState.{ShardState}
+use Rattle.pt_shard.specs.ShardState.{ShardState, phase_of}
 use Rattle.pt_crew.specs.declared.crew.Crew.{Crew}
-use Rattle.pt_workers.specs.Waking.{came_in, came_to}
+use Rattle.pt_workers.specs.Waking.{came_in, came_to, need_not_wait}
 use Rattle.pt_workers.proofs.Unread.{Oldest, oldest}
-use Rattle.pt_crew.specs.Waking.{Knows, IsAwake, timer_of}
+use Rattle.pt_crew.specs.Waking.{Knows, IsAwake, has_work, timer_of}
 use Rattle.std.specs.Option.{option_map}
 use Rattle.pt_crew.specs.declared.crew.Member.{Member}
 use Rattle.pt_crew.specs.Crews.{members, role, HasTimers, KnowsDesk, IsSame}
 use Rattle.pt_crew.specs.Parts.{Wakes, WakesBy}
-use Rattle.pt_crew.proofs.Waking.{by_cases, same_queue, some_none}
+use Rattle.pt_behaviour.proofs.Cases.{some_none, by_cases}
+use Rattle.pt_crew.proofs.Waking.{or_right, same_queue}
 use Rattle.pt_crew.proofs.Places.{same_pid_sym}
 use Rattle.pt_crew.proofs.Timing.{timers_is}
 
@@ -148,7 +150,7 @@ awake_all c d all k p m is work =
     let n = k.counted in
     let a = length-append k.more k.seen in
     let none : k.more ≡ [] = none_left k.more k.seen (omega (arith, l, n, a, all)) in
-    k.queued.listed p m is (k.awake p m is work (ap (came_in p) none))
+    k.queued.listed p m is (k.awake p m is (or_right (m.clear && need_not_wait Any (phase_of d p)) (has_work m.next (phase_of d p)) work) (ap (came_in p) none))
 
 pub look_next : {B A E : Type 0} (old new : Crew B) (d : ShardState) (shown : List Stamped) (x : Stamped) (r : Result A E) → shown ≡ reverse d.journal → old.read < length shown → is_err r ≡ false
     → OnOk r (WakesBy (get_or shown old.read x).event old new) → KnowsDesk old d → Knows (members new) new.queue.items (new.read + 1) d

@@ -11,7 +11,7 @@ use Rattle.indexmap.proofs.MapLemmas.{Found-position}
 use Rattle.pt_signal.specs.declared.pid.Pid.{Pid}
 use Rattle.pt_crew.specs.declared.crew.Member.{Member}
 use Rattle.pt_crew.specs.Crews.{unmarked}
-use Rattle.pt_crew.proofs.Waking.{same_some}
+use Rattle.pt_behaviour.proofs.Cases.{same_some}
 
 abbrev pub bare : {B : Type 0} → Member B → ℕ
 bare m = cond m.queued 0 1

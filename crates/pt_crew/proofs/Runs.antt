@@ -20,10 +20,10 @@ use Rattle.pt_workers.specs.declared.stillness.Stopped.{Stopped}
 use Rattle.pt_workers.proofs.Meeting.{kept_count, kept_shard}
 use Rattle.pt_workers.proofs.TurnsOf.{turn_of, turns_go_on}
 use Rattle.pt_crew.specs.declared.crew.Crew.{Crew}
-use Rattle.pt_crew.specs.Visiting.{Answers}
+use Rattle.pt_behaviour.specs.Behaving.{Answers}
 use Rattle.pt_crew.specs.Waking.{IsAwake}
 use Rattle.pt_crew.specs.Crews.{Attends, CrewDoes, members, queue, roles}
-use Rattle.pt_crew.specs.Upholding.{Relation, IsUpheld}
+use Rattle.pt_behaviour.specs.Upholding.{Relation, IsUpheld}
 use Rattle.pt_crew.specs.Running.{is_idle, CrewsDo, UpholdsOn, AllUphold, RunUpholds, RoundsUphold, RestUpholds}
 use Rattle.pt_crew.proofs.Upholding.{step_upholds, turn_upholds}
 use Rattle.pt_crew.proofs.Reading.{awake_all}

@@ -1,12 +1,13 @@
 -- One that was come to, and where it stands then.
-use Rattle.std.proofs.Common.{◌≡◌, ◌⊎◌, inl, inr, ℕ, ◌+◌, Bool, true, false, ◌&&◌, ◌||◌, cond, not, List, [], ◌∷◌, ◌++◌, length, slice_get, Option, Some, None, is_some, Result, Ok, Err, refl, sym, ap, subst, ◌∙◌, append-nil, arith}
-use Rattle.std.specs.Prelude.{MatchBool, nat_le}
+use Rattle.std.proofs.Common.{◌≡◌, ◌⊎◌, inl, inr, ℕ, ◌+◌, Bool, true, false, ◌&&◌, ◌||◌, cond, List, [], ◌∷◌, ◌++◌, length, slice_get, Option, Some, None, Result, Ok, Err, refl, sym, ap, subst, ◌∙◌, append-nil, arith}
+use Rattle.std.specs.Prelude.{IfSome, MatchBool, nat_le}
 use Rattle.std.specs.Option.{option_map}
 use Rattle.std.specs.VecDeque.{deque_capacity, deque_len}
 use Rattle.indexmap.specs.IndexMap.{IndexMap, get, index_of_by, with_value_at, swap_remove_entry, IsUnique}
 use Rattle.pt_signal.specs.declared.pid.Pid.{Pid}
 use Rattle.pt_signal.specs.declared.item.Item.{Item}
 use Rattle.pt_signal.specs.declared.item.Pick.{Pick}
+use Rattle.pt_signal.specs.declared.item.Pick.TheVariants.{Any}
 use Rattle.pt_signal.specs.Values.{same_pid}
 use Rattle.pt_signal.proofs.Same.{same_pid_refl}
 use Rattle.pt_events.specs.declared.event.Event.TheVariants.{Took}
@@ -19,21 +20,25 @@ use Rattle.pt_timers.specs.declared.Timer.{Timer}
 use Rattle.pt_timers.specs.State.{TimersState}
 use Rattle.pt_shard.specs.ShardState.{ShardState, lives, phase_of}
 use Rattle.pt_shard.specs.Extends.{Extends}
+use Rattle.pt_workers.specs.Waking.{need_not_wait}
 use Rattle.pt_workers.proofs.Waiting.{born_later}
-use Rattle.pt_crew.specs.declared.births.Role.{Role}
-use Rattle.pt_crew.specs.declared.behaviour.Next.{Next}
-use Rattle.pt_crew.specs.declared.behaviour.Next.TheVariants.{Wait, WaitUntil, Proceed, Running, Stop}
+use Rattle.pt_behaviour.specs.declared.births.Role.{Role}
+use Rattle.pt_behaviour.specs.declared.behaviour.Next.{Next}
+use Rattle.pt_behaviour.specs.declared.behaviour.Next.TheVariants.{Wait, WaitUntil, Proceed, Running, Stop}
 use Rattle.pt_crew.specs.declared.crew.Member.{Member}
 use Rattle.pt_crew.specs.declared.crew.Crew.{Crew}
 use Rattle.pt_crew.specs.declared.crew.Tended.{Tended}
 use Rattle.pt_crew.specs.declared.crew.Tended.TheVariants.{Idle, Again, Done, Refused, Gone}
-use Rattle.pt_crew.specs.Visiting.{Answers, AnswersNow, BearsChildren, HandsTo, StaysAs, SeesTo, TakesAs, EndsAs, LeavesAs, handed_as, handed_by, again_as, goes_behind, leaves_crew, is_refused, leaver, left_as}
+use Rattle.pt_behaviour.specs.Behaving.{Answers, AnswersNow, limit_of}
+use Rattle.pt_crew.specs.Visiting.{BearsChildren, HandsTo, StaysAs, SeesTo, TakesAs, EndsAs, LeavesAs, handed_as, handed_by, again_as, goes_behind, leaves_crew, is_refused, leaver, left_as}
 use Rattle.pt_crew.specs.Crews.{HasRoom, HasTimers, KnowsDesk, members, queue, role, roles, left, waiting, unmarked, read_events, rounds_asked, time_of, was_refused}
-use Rattle.pt_crew.specs.Births.{bore}
-use Rattle.pt_crew.specs.Waking.{IsQueue, Knows, Members, AreTimed, has_work, in_queue, sleeps_until, timer_of, limit_of}
+use Rattle.pt_behaviour.specs.Births.{bore}
+use Rattle.pt_crew.specs.Waking.{IsQueue, Knows, Members, AreTimed, has_task, has_work, in_queue, sleeps_until, timer_of}
 use Rattle.pt_crew.specs.Parts.{MemberTends, PutsMember, SleepsUntil, kept_as, sleeper}
-use Rattle.pt_crew.specs.Stepping.{Serves}
-use Rattle.pt_crew.proofs.Waking.{changed, taken_out, put_back, first_in, there, some_none, same_some}
+use Rattle.pt_crew.specs.Stepping.{Serves, is_running, runs}
+use Rattle.pt_crew.specs.Outside.{BeginsToRun, next_in_front}
+use Rattle.pt_behaviour.proofs.Cases.{some_none, same_some}
+use Rattle.pt_crew.proofs.Waking.{changed, taken_out, put_back, first_in, no_task, there}
 use Rattle.pt_crew.proofs.Timing.{untimed, timed_anew, stops_none, queued_bare}
 use Rattle.pt_crew.proofs.Places.{written_at, held_at}
 use Rattle.pt_crew.proofs.Room.{bare, unmarked_set, unmarked_swap}
@@ -122,9 +127,9 @@ moved {B} p t mem new w rest now is stands here k = go t is stands here
     go Done is stands here = out (Some w) stands (off is) here
     go Gone is stands here = out None stands (λ m e. some_none None m refl e) here
 
-still_awake : {B : Type 0} (p : Pid) (t : Tended) (m w : Member B) (d : ShardState) → w.queued ≡ goes_behind t → role w ≡ role m → MemberTends p t m d
-    → (x : Member B) → entry_as t w ≡ Some x → has_work x.next (phase_of d p) ≡ true → x.queued ≡ true
-still_awake {B} p t m w d is same tends x e work = go t is tends e
+still_awake : {B : Type 0} (p : Pid) (t : Tended) (m w : Member B) (d : ShardState) → w.queued ≡ goes_behind t → role w ≡ role m → (w.clear ≡ true → need_not_wait Any (phase_of d p) ≡ false) → MemberTends p t m d
+    → (x : Member B) → entry_as t w ≡ Some x → has_task x (phase_of d p) ≡ true → x.queued ≡ true
+still_awake {B} p t m w d is same quiet tends x e work = go t is tends e
   where
     on : w.queued ≡ true → Some w ≡ Some x → x.queued ≡ true
     on is e = ap (λ (y : Member B). y.queued) (sym (same_some w x e)) ∙ is
@@ -132,7 +137,8 @@ still_awake {B} p t m w d is same tends x e work = go t is tends e
     idle : has_work m.next (phase_of d p) ≡ false → Some w ≡ Some x → x.queued ≡ true
     idle none e =
         let next : w.next ≡ m.next = ap (λ (r : B × Next). r.1) same in
-        let none_here : has_work x.next (phase_of d p) ≡ false = ap (λ (n : Next). has_work n (phase_of d p)) (ap (λ (y : Member B). y.next) (sym (same_some w x e)) ∙ next) ∙ none in
+        let none_here : has_task w (phase_of d p) ≡ false = no_task w.clear (need_not_wait Any (phase_of d p)) (has_work w.next (phase_of d p)) quiet (ap (λ (n : Next). has_work n (phase_of d p)) next ∙ none) in
+        let here : has_task w (phase_of d p) ≡ true = ap (λ (y : Member B). has_task y (phase_of d p)) (same_some w x e) ∙ work in
         absurd (cc)
 
     go : (s : Tended) → w.queued ≡ goes_behind s → MemberTends p s m d → entry_as s w ≡ Some x → x.queued ≡ true
@@ -234,21 +240,6 @@ kept_handed m Running (living s) = refl
 kept_handed m Running (ended r s) = refl
 kept_handed m (Stop r) f = refl
 
--- what one asked for an item got: none only where its time is over ---------------------------------
-
-none_got : (none : Bool) → false ≡ not none → none ≡ false → ⊥
-none_got true h k = absurd (cc)
-none_got false h k = absurd (cc)
-
-pub passed_on : {B : Type 0} (answers : AnswersNow B) (p : Pid) (r : B × Next) (over none : Bool) (got : Option Item) (d : ShardState)
-    (t : Tended) (now : Option (B × Next)) (e : ShardState) (births : List (Role B))
-    → is_some got ≡ not none → ((none ≡ true × over ≡ true) ⊎ (none ≡ false))
-    → HandsTo answers p r.0 got d t now e births → TakesAs answers p r over d (Ok got) t now e births
-passed_on answers p r over none (Some i) d t now e births some either h = h
-passed_on answers p r true none None d t now e births some either h = h
-passed_on answers p r false none None d t now e births some (inl k) h = let over : false ≡ true = k.1 in absurd (cc)
-passed_on answers p r false none None d t now e births some (inr k) h = absurd (none_got none some k)
-
 -- one that sleeps then, or is refused ---------------------------------------------------------
 
 sleeper_is : (t : Tended) (n : Next) (at : ℕ) → sleeper t n ≡ Some at → (t ≡ Idle) × (limit_of n ≡ Some at)
@@ -283,8 +274,16 @@ module _ {B : Type 0} (p : Pid) (came : Tended) (m0 : Member B) (old : TimersSta
     slept_bears : (before after : List (Role B)) → BearsChildren came before after → BearsChildren t before after
     slept_bears before after bears = slept_as (λ x y. BearsChildren x before after) bears (λ u is. subst (λ (x : Tended). BearsChildren x before after) is bears) (λ is. subst (λ (x : Tended). BearsChildren x before after) is bears)
 
-    slept_gone : (v : Member B) → (came ≡ Gone → m0 ≡ v) → t ≡ Gone → role m ≡ role v
-    slept_gone v gone = slept_as (λ x y. x ≡ Gone → role y ≡ role v) (λ is. ap role (gone is)) (λ u is bad. absurd (cc)) (λ is bad. absurd (cc))
+    -- whether its mailbox was empty stays noted
+    pub slept_clear : m.clear ≡ m0.clear
+    slept_clear = slept_as (λ x y. y.clear ≡ m0.clear) refl (λ u is. refl) (λ is. refl)
+
+    -- and one of whom the outside was told stays, and runs
+    slept_runs : leaves_crew came ≡ false → runs m0.next ≡ true → (leaves_crew t ≡ false) × (runs m.next ≡ true)
+    slept_runs stays on = slept_as (λ x y. (leaves_crew x ≡ false) × (runs y.next ≡ true)) (stays, on) (λ u is. (refl, on)) (λ is. (refl, on))
+
+    slept_gone : (v : Member B) → (came ≡ Gone → role m0 ≡ role v) → t ≡ Gone → role m ≡ role v
+    slept_gone v gone = slept_as (λ x y. x ≡ Gone → role y ≡ role v) gone (λ u is bad. absurd (cc)) (λ is bad. absurd (cc))
 
     slept_sees : (answers : Answers B) (time : ℕ) (b : B) (n : Next) (d e : ShardState) (births : List (Role B)) → SeesTo answers time p b n d came (kept_as came m0) e births
         → StaysAs Refused (b, n) d t (kept_as t m) e ⊎ SeesTo answers time p b n d t (kept_as t m) e births
@@ -315,7 +314,7 @@ pub record Came {B : Type 0} (p : Pid) (came t : Tended) (old mid new : Crew B) 
   pub slept : Slept p came m0 old.timers t m mid.timers
   pub its : m0.timer ≡ v.timer
   pub done : came ≡ Done → limit_of m0.next ≡ None
-  pub gone : came ≡ Gone → m0 ≡ v
+  pub gone : came ≡ Gone → role m0 ≡ role v
   pub left : left mid ≡ left old
   pub refused : mid.refused ≡ old.refused
   pub read : mid.read ≡ old.read
@@ -323,7 +322,7 @@ pub record Came {B : Type 0} (p : Pid) (came t : Tended) (old mid new : Crew B) 
   pub puts : PutsMember p t mid new
 
 module _ {B : Type 0} (p : Pid) (came t : Tended) (old mid new : Crew B) (v m0 m w : Member B) (c : Came p came t old mid new v m0 m w) where
-  held : members old p ≡ Some v
+  pub held : members old p ≡ Some v
   held = held_at old.members p c.place c.key v c.index c.value c.unique
 
   entered : (q : Pid) → members mid q ≡ cond (same_pid p q) (Some w) (members old q)
@@ -348,14 +347,31 @@ module _ {B : Type 0} (p : Pid) (came t : Tended) (old mid new : Crew B) (v m0 m
       ∙ ap (λ (rs : List (Role B)). left old ++ rs) (leaver_is p t m v (slept_gone p came m0 old.timers t m mid.timers c.slept v c.gone)))
       (c.puts.refused ∙ ap (λ (b : Bool). b || is_refused t) c.refused)
 
-  pub knows_it : (rest : List Pid) (d e : ShardState) → Extends d e → queue old ≡ p ∷ rest → queue mid ≡ rest → MemberTends p came m0 e → KnowsDesk old d → KnowsDesk new e
-  knows_it rest d e later is then tends k0 =
+  -- it was not running, and is running now
+  runs_it : (rest : List Pid) → runs v.next ≡ false → runs m0.next ≡ true → leaves_crew came ≡ false → BeginsToRun (p ∷ rest) (roles old) (roles new)
+  runs_it rest not_yet on stays =
+      let s = slept_runs p came m0 old.timers t m mid.timers c.slept stays on in
+      let here : roles new p ≡ Some (role w) =
+      ap (option_map role) (there (members old) (members new) p (entry_as t w) stands p (same_pid_refl p) ∙ ap (λ (b : Bool). cond b None (Some w)) s.0) in
+      (ap is_running (ap (option_map role) held) ∙ not_yet, ap is_running here ∙ ap (λ (r : B × Next). runs r.1) c.same ∙ s.1)
+
+  pub begins_it : {T : Type 0} (told : Option T) (start rest : List Pid) → start ≡ p ∷ rest → IfSome told (λ x. (runs v.next ≡ false) × (runs m0.next ≡ true) × (leaves_crew came ≡ false))
+      → IfSome told (λ x. BeginsToRun start (roles old) (roles new))
+  begins_it None start rest is h = tt
+  begins_it (Some x) start rest is h = subst (λ (ps : List Pid). BeginsToRun ps (roles old) (roles new)) (sym is) (runs_it rest h.0 h.1 h.2)
+
+  -- what it was to do, as the one in front
+  pub front_next : (start rest : List Pid) → start ≡ p ∷ rest → next_in_front start (roles old) ≡ Some v.next
+  front_next start rest is = ap (λ (ps : List Pid). next_in_front ps (roles old)) is ∙ ap (λ (o : Option (Member B)). option_map (λ (r : B × Next). r.1) (option_map role o)) held
+
+  pub knows_it : (rest : List Pid) (d e : ShardState) → Extends d e → queue old ≡ p ∷ rest → queue mid ≡ rest → MemberTends p came m0 e → (w.clear ≡ true → need_not_wait Any (phase_of e p) ≡ false) → KnowsDesk old d → KnowsDesk new e
+  knows_it rest d e later is then tends quiet k0 =
       let k : Knows (members old) (p ∷ rest) old.read d = subst (λ (ps : List Pid). Knows (members old) ps old.read d) is k0 in
       subst (λ (n : ℕ). Knows (members new) (queue new) n e) (sym (c.puts.read ∙ c.read))
       (changed (members old) (members new) p (entry_as t w) (p ∷ rest) (queue new) old.read d e later stands
       (moved p t (members old) (members new) w rest (queue new) c.marked stands (c.puts.queue ∙ ap (λ (ps : List Pid). ps ++ again_as p t) then))
       (λ x x_is. born_later d e later p (k.born p v held))
-      (still_awake p t m w e c.marked c.same (slept_tends p came m0 old.timers t m mid.timers c.slept e tends)) k)
+      (still_awake p t m w e c.marked c.same quiet (slept_tends p came m0 old.timers t m mid.timers c.slept e tends)) k)
 
   its_none : (rest : List Pid) (d : ShardState) → queue old ≡ p ∷ rest → KnowsDesk old d → HasTimers old → timer_of (members old p) ≡ None
   its_none rest d is k timers =

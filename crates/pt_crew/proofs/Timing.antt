@@ -10,14 +10,16 @@ use Rattle.pt_timers.specs.Order.{same_timer}
 use Rattle.pt_timers.specs.State.{TimersState, IsPending, body_of}
 use Rattle.pt_timers.specs.Calls.{Started, IsNone, IsNext, NoneDue, Cancels}
 use Rattle.pt_timers.proofs.Lawful.{same-is}
-use Rattle.pt_crew.specs.declared.behaviour.Next.{Next}
+use Rattle.pt_behaviour.specs.declared.behaviour.Next.{Next}
 use Rattle.pt_crew.specs.declared.crew.Member.{Member}
 use Rattle.pt_crew.specs.declared.crew.Crew.{Crew}
-use Rattle.pt_crew.specs.Waking.{Members, AreTimed, AreRung, in_queue, timer_of, sleeps_until, limit_of}
+use Rattle.pt_behaviour.specs.Behaving.{limit_of}
+use Rattle.pt_crew.specs.Waking.{Members, AreTimed, AreRung, in_queue, timer_of, sleeps_until}
 use Rattle.pt_crew.specs.Visiting.{AreSame}
 use Rattle.pt_crew.specs.Crews.{Attends, HasTimers, IsNextTime, IsSame, KnowsDesk, WaitsUntil, members, queue, role, roles}
 use Rattle.pt_crew.specs.Parts.{Stops}
-use Rattle.pt_crew.proofs.Waking.{by_cases, elsewhere, there, not_in, same_some, some_none}
+use Rattle.pt_behaviour.proofs.Cases.{by_cases, same_some, some_none}
+use Rattle.pt_crew.proofs.Waking.{elsewhere, there, not_in}
 
 same_timer_refl : (t : Timer) → same_timer t t ≡ true
 same_timer_refl t = grind arith

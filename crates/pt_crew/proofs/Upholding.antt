@@ -1,5 +1,5 @@
 -- What a behaviour upholds stays so through a step of a crew, a turn of its desk, and a birth.
-use Rattle.std.proofs.Common.{◌≡◌, ◌⊎◌, inl, inr, ℕ, Bool, true, false, cond, ◌||◌, List, [], ◌∷◌, ◌++◌, Option, Some, None, Result, Ok, Err, refl, sym, ap, subst, ◌∙◌, append_assoc}
+use Rattle.std.proofs.Common.{◌≡◌, ◌⊎◌, inl, inr, ℕ, Bool, true, false, cond, ◌||◌, List, [], ◌∷◌, ◌++◌, Option, Some, None, Result, Ok, Err, refl, sym, ap, subst, ◌∙◌}
 use Rattle.std.specs.Prelude.{MatchBool, ⊤, nat_le}
 use Rattle.std.proofs.Math.Seq.{drop-append_seam}
 use Rattle.std.specs.Option.{option_map}
@@ -10,125 +10,38 @@ use Rattle.pt_signal.specs.declared.reason.Reason.{Reason}
 use Rattle.pt_signal.specs.declared.letter.Letter.{Letter}
 use Rattle.pt_signal.specs.Values.{same_pid}
 use Rattle.pt_signal.proofs.Same.{same_pid_refl, same_pid_is}
-use Rattle.pt_events.specs.declared.event.Event.{Event}
 use Rattle.pt_events.specs.declared.event.Event.TheVariants.{Born, Took, Left}
-use Rattle.pt_events.specs.declared.event.Stamped.{Stamped}
-use Rattle.pt_events.specs.History.{Phase, unborn, living, ended, is_unborn, is_living, change, newborn, linked, while_living, life, touches}
-use Rattle.pt_events.specs.Journal.{events}
-use Rattle.pt_events.proofs.Phases.{after_born}
+use Rattle.pt_events.specs.History.{Phase, unborn, living, ended, is_unborn, newborn, linked, while_living}
 use Rattle.pt_shard.specs.declared.fault.Fault.{Fault}
 use Rattle.pt_shard.specs.declared.fault.Fault.TheVariants.{Full, Memory, Worn, Gone, Myself, NoProc}
 use Rattle.pt_shard.specs.ShardState.{ShardState, phase_of, lives, shard_after, handled}
 use Rattle.pt_shard.specs.Calls.{Calls, Bears, after_if, take_event, first_match}
-use Rattle.pt_shard.specs.Extends.{Extends}
 use Rattle.pt_shard.specs.Outbox.{holding}
 use Rattle.pt_desk.specs.DeskState.{DeskState}
 use Rattle.pt_desk.specs.declared.turned.Turned.{Turned}
 use Rattle.pt_shard.specs.declared.stop.Stop.{Stop}
 use Rattle.pt_shard.specs.declared.stop.Stop.TheVariants.{Memory as NoRoom, Worn as Spent}
 use Rattle.pt_desk.specs.Turns.{Fetches, HandlesNext, HandlesAll, Stays, EndsWith, Turns}
-use Rattle.pt_crew.specs.declared.behaviour.Next.{Next}
-use Rattle.pt_crew.specs.declared.behaviour.Next.TheVariants.{Wait, WaitUntil, Proceed, Running, Stop as Stopping}
-use Rattle.pt_crew.specs.declared.births.Role.{Role}
+use Rattle.pt_behaviour.specs.declared.behaviour.Next.{Next}
+use Rattle.pt_behaviour.specs.declared.behaviour.Next.TheVariants.{Wait, WaitUntil, Proceed, Running, Stop as Stopping}
+use Rattle.pt_behaviour.specs.declared.births.Role.{Role}
 use Rattle.pt_crew.specs.declared.crew.Crew.{Crew}
 use Rattle.pt_crew.specs.declared.crew.Tended.{Tended}
 use Rattle.pt_crew.specs.declared.crew.Tended.TheVariants.{Idle, Again, Done, Refused as Denied, Gone as Ended}
-use Rattle.pt_crew.specs.Births.{bore}
-use Rattle.pt_crew.specs.Visiting.{Answers, Roles, AreSame, AreWith, Scene, HandsTo, LeavesAs, StaysAs, ComesTo, SeesTo, EndsAs, TakesAs, VisitsOne, Visits}
-use Rattle.pt_crew.specs.Waking.{pick_of}
-use Rattle.pt_crew.specs.Visiting.{BearsChildren as BearsAs, handed_by, handed_as, left_as}
+use Rattle.pt_behaviour.specs.Births.{bore}
+use Rattle.pt_behaviour.specs.Behaving.{Answers, pick_of}
+use Rattle.pt_crew.specs.Visiting.{Roles, AreSame, AreWith, Scene, HandsTo, LeavesAs, StaysAs, ComesTo, SeesTo, EndsAs, TakesAs, VisitsOne, Visits, BearsChildren as BearsAs, handed_by, handed_as, left_as}
 use Rattle.pt_crew.specs.Crews.{CrewRounds, Aboard, EntersAll, StepsOn, CrewDoes, Enters, CrewWorks, roles, left, waiting}
-use Rattle.pt_crew.specs.Upholding.{Relation, IsLater, IsLeftAlone, ActsFor, GoesOnWithout, ItemIsTaken, StandsFirst, AllFirst, IsUpheld, AllStand, StandsStill, AllStill, Upholds, child_by, children_by}
-use Rattle.pt_crew.proofs.Waking.{by_cases, elsewhere, there, same_some}
-
--- desks that go on --------------------------------------------------------------------------
-
-pub later_same : (d e : ShardState) → e.start ≡ d.start → e.journal ≡ d.journal → IsLater d e
-later_same d e start journal = record { start = start; more = []; journal = journal }
-
-pub later_is : (d e : ShardState) → e ≡ d → IsLater d e
-later_is d e is = later_same d e (ap (λ (x : ShardState). x.start) is) (ap (λ (x : ShardState). x.journal) is)
-
-pub later_then : (d f e : ShardState) → IsLater d f → IsLater f e → IsLater d e
-later_then d f e a b = record {
-  start = b.start ∙ a.start;
-  more = b.more ++ a.more;
-  journal = b.journal ∙ ap (λ j. b.more ++ j) a.journal ∙ sym (append_assoc b.more a.more d.journal);
-}
-
-pub extends_later : (d e : ShardState) → Extends d e → IsLater d e
-extends_later d e x = record { start = x.start; more = x.more; journal = x.journal }
-
-born_on : (start : _) (p : Pid) (more seen : List Stamped) → is_unborn (life start (events seen) p) ≡ false → is_unborn (life start (events (more ++ seen)) p) ≡ false
-born_on start p [] seen h = h
-born_on start p (s ∷ more) seen h = after_born p s.event (life start (events (more ++ seen)) p) (born_on start p more seen h)
-
--- who was born stays so
-pub born_then : (d e : ShardState) → IsLater d e → (p : Pid) → is_unborn (phase_of d p) ≡ false → is_unborn (phase_of e p) ≡ false
-born_then d e x p h =
-    subst (λ (t : _). is_unborn (life t (events e.journal) p) ≡ false) (sym x.start)
-    (subst (λ (j : List Stamped). is_unborn (life d.start (events j) p) ≡ false) (sym x.journal) (born_on d.start p x.more d.journal h))
-
-pub phase_same : (d e : ShardState) → e.start ≡ d.start → e.journal ≡ d.journal → (p : Pid) → phase_of e p ≡ phase_of d p
-phase_same d e start journal p i = life (start i) (events (journal i)) p
-
-pub phase_is : (d e : ShardState) → e ≡ d → (p : Pid) → phase_of e p ≡ phase_of d p
-phase_is d e is p i = phase_of (is i) p
-
-pub alone_same : (d e : ShardState) → e.start ≡ d.start → e.journal ≡ d.journal → (p : Pid) → IsLeftAlone p d e
-alone_same d e start journal p = (phase_same d e start journal p, ap (children_by p) journal)
-
-pub alone_is : (d e : ShardState) → e ≡ d → (p : Pid) → IsLeftAlone p d e
-alone_is d e is p = (phase_is d e is p, ap (λ (x : ShardState). children_by p x.journal) is)
-
-pub alone_then : (p : Pid) (d f e : ShardState) → IsLeftAlone p d f → IsLeftAlone p f e → IsLeftAlone p d e
-alone_then p d f e a b = (b.0 ∙ a.0, b.1 ∙ a.1)
-
-pub acts_is : (p : Pid) (d e : ShardState) → e ≡ d → ActsFor p d e
-acts_is p d e is q other born = alone_is d e is q
-
-pub acts_then : (p : Pid) (d f e : ShardState) → IsLater d f → ActsFor p d f → ActsFor p f e → ActsFor p d e
-acts_then p d f e x a b q other born = alone_then q d f e (a q other born) (b q other (born_then d f x q born))
-
--- an event that does not touch a process leaves it as it is
-pub untouched : (e : Event) (d : ShardState) (q : Pid) → touches q e ≡ false → phase_of (shard_after e d) q ≡ phase_of d q
-untouched e d q none i = cond (none i) (change q e (phase_of d q)) (phase_of d q)
-
-pub alone_event : (e : Event) (d : ShardState) (q : Pid) → touches q e ≡ false → child_by q e ≡ [] → IsLeftAlone q d (shard_after e d)
-alone_event e d q none bare = (untouched e d q none, ap (λ (qs : List Pid). qs ++ children_by q d.journal) bare)
-
-pub same_pid_sym : (p q : Pid) → same_pid p q ≡ false → same_pid q p ≡ false
-same_pid_sym p q other = by_cases (same_pid q p) (λ same. let is = same_pid_is q p same in let back : same_pid p q ≡ true = ap (λ (x : Pid). same_pid x q) (sym is) ∙ same_pid_refl q in absurd (cc)) (λ no. no)
-
-pub later_after : (e : Event) (d : ShardState) → IsLater d (shard_after e d)
-later_after e d = record { start = refl; more = _ ∷ []; journal = refl }
-
-pub later_handled : (l : Letter) (d : ShardState) → IsLater d (handled l d)
-later_handled l d = record { start = refl; more = _ ∷ []; journal = refl }
-
-pub living_born : (f : Phase) → is_living f ≡ true → is_unborn f ≡ false
-living_born unborn h = absurd (cc)
-living_born (living s) h = refl
-living_born (ended r s) h = refl
-
--- lists of those who are born -----------------------------------------------------------------
+use Rattle.pt_behaviour.specs.Upholding.{Relation, IsLater, ActsFor, GoesOnWithout, ItemIsTaken, StandsFirst, AllFirst, IsUpheld}
+use Rattle.pt_crew.specs.Upholding.{AllStand, StandsStill, AllStill, Upholds}
+use Rattle.pt_behaviour.proofs.Cases.{by_cases, same_some}
+use Rattle.pt_behaviour.proofs.Upholding.{later_same, later_is, later_then, extends_later, born_then, phase_same, phase_is, alone_same, alone_is, alone_then, acts_is, acts_then, alone_event, same_pid_sym, later_after, later_handled, living_born, first_both, first_front, first_back}
+use Rattle.pt_crew.proofs.Waking.{elsewhere, there}
 
 module _ {B : Type 0} (stands : Relation B) where
-  pub first_both : (xs ys : List (Role B)) → AllFirst stands xs → AllFirst stands ys → AllFirst stands (xs ++ ys)
-  first_both [] ys a b = b
-  first_both (r ∷ xs) ys a b = (a.0, first_both xs ys a.1 b)
-
-  pub first_front : (xs ys : List (Role B)) → AllFirst stands (xs ++ ys) → AllFirst stands xs
-  first_front [] ys a = tt
-  first_front (r ∷ xs) ys a = (a.0, first_front xs ys a.1)
-
   still_both : (xs ys : List (Role B)) (d : ShardState) → AllStill stands xs d → AllStill stands ys d → AllStill stands (xs ++ ys) d
   still_both [] ys d a b = b
   still_both (r ∷ xs) ys d a b = (a.0, still_both xs ys d a.1 b)
-
-  pub first_back : (xs ys : List (Role B)) → AllFirst stands (xs ++ ys) → AllFirst stands ys
-  first_back [] ys a = a
-  first_back (r ∷ xs) ys a = first_back xs ys a.1
 
 no_role : {X Y : Type 0} (o : Option X) (x : X) → o ≡ None → o ≡ Some x → Y
 no_role o x a b = absurd (let c : None ≡ Some x = sym a ∙ b in cc)
@@ -317,7 +230,7 @@ module _ {B : Type 0} (answers : Answers B) (stands : Relation B) (k : IsUpheld 
   came_to time p (Some role) waited waits d e t now here bears h = let at = here role refl in found time p role waited waits d e t now at.0 at.1 bears h
 
   -- those who left are gone, and stand so still
-  abbrev AreGone : Roles B → List (Role B) → ShardState → Type 0
+  abbrev pub AreGone : Roles B → List (Role B) → ShardState → Type 0
   AreGone roles [] d = ⊤
   AreGone roles (r ∷ rs) d =
       ((roles r.pid ≡ None) × (is_unborn (phase_of d r.pid) ≡ false) × stands r.behaviour r.next r.pid d) × AreGone roles rs d
@@ -327,12 +240,12 @@ module _ {B : Type 0} (answers : Answers B) (stands : Relation B) (k : IsUpheld 
   gone_both roles (r ∷ xs) ys d a b = (a.0, gone_both roles xs ys d a.1 b)
 
   -- all that stands in a step
-  record Fine (s : Scene B) : Type 0 where
+  pub record Fine (s : Scene B) : Type 0 where
     pub members : AllStand stands s.roles s.desk
     pub waiting : AllFirst stands s.born
     pub left : AreGone s.roles s.left s.desk
 
-  one_upholds : (p : Pid) (old new : Scene B) → VisitsOne answers p old new → Fine old → Fine new
+  pub one_upholds : (p : Pid) (old new : Scene B) → VisitsOne answers p old new → Fine old → Fine new
   one_upholds p old new h a = record {
     members = λ q role is. by_cases (same_pid p q)
         (λ same. subst (λ (x : Pid). (is_unborn (phase_of new.desk x) ≡ false) × stands role.0 role.1 x new.desk) (same_pid_is p q same)
@@ -408,7 +321,7 @@ module _ {B : Type 0} (answers : Answers B) (stands : Relation B) (k : IsUpheld 
       enters_with r.pid r.behaviour r.next old.0 new.0 d d (later_is d d refl) (acts_is r.pid d d refl) (living_born (phase_of d r.pid) alive) h.0 begins a
   one_enters r d false old new alive h begins a = λ q role is. a q role (sym (h.0 q) ∙ is)
 
-  all_enter : (d : ShardState) (entered : List (Role B)) (old new : Aboard B) → EntersAll (lives d) entered old new → AllFirst stands entered → AllStand stands old.0 d → AllStand stands new.0 d
+  pub all_enter : (d : ShardState) (entered : List (Role B)) (old new : Aboard B) → EntersAll (lives d) entered old new → AllFirst stands entered → AllStand stands old.0 d → AllStand stands new.0 d
   all_enter d [] old new h begins a = subst (λ (x : Aboard B). AllStand stands x.0 d) (sym h) a
   all_enter d (r ∷ rs) old new h begins a = all_enter d rs h.0 new h.2 begins.1 (one_enters r d (lives d r.pid) old h.0 refl h.1 begins.0 a)
 

@@ -13,14 +13,16 @@ use Rattle.pt_crew.specs.declared.crew.Member.{Member}
 use Rattle.pt_crew.specs.declared.crew.Crew.{Crew}
 use Rattle.pt_crew.specs.declared.crew.Tended.{Tended}
 use Rattle.pt_crew.specs.declared.crew.Tended.TheVariants.{Idle, Refused as Denied}
-use Rattle.pt_crew.specs.Visiting.{Answers, Roles, AreSame, AreWith, Scene, StaysAs, BearsChildren, ComesTo, SeesTo, VisitsOne, Visits, again_as, left_as, is_refused}
+use Rattle.pt_behaviour.specs.Behaving.{Answers}
+use Rattle.pt_crew.specs.Visiting.{Roles, AreSame, AreWith, Scene, StaysAs, BearsChildren, ComesTo, SeesTo, VisitsOne, Visits, again_as, left_as, is_refused}
 use Rattle.pt_crew.specs.Crews.{members, role, roles, queue, waiting, left, scene, time_of, are_any, IsSame, KeepsRest, Attends, CrewRounds, AreOnce, Aboard, EntersAll, StepsOn}
 use Rattle.pt_crew.specs.Waking.{IsAwake, AreRung, has_work}
-use Rattle.pt_crew.specs.declared.births.Role.{Role}
-use Rattle.pt_crew.specs.Births.{bore}
+use Rattle.pt_behaviour.specs.declared.births.Role.{Role}
+use Rattle.pt_behaviour.specs.Births.{bore}
 use Rattle.pt_crew.specs.Parts.{WakesBy, Admits, AdmitsFirst, AdmitsOf, CanEnter, aboard}
 use Rattle.pt_crew.specs.Stepping.{EndsStep, QueueIsLonger, Serves}
-use Rattle.pt_crew.proofs.Waking.{by_cases, elsewhere, there, same_back}
+use Rattle.pt_behaviour.proofs.Cases.{by_cases}
+use Rattle.pt_crew.proofs.Waking.{elsewhere, there, same_back}
 use Rattle.pt_crew.proofs.Timing.{rung_as}
 
 -- who reads what is new changes nobody ------------------------------------------------

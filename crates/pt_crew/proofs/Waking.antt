@@ -1,29 +1,31 @@
 -- What a crew knows stays so.
-use Rattle.std.proofs.Common.{◌≡◌, ℕ, ◌+◌, Bool, true, false, cond, ◌||◌, List, [], ◌∷◌, ◌++◌, length, Option, Some, None, refl, sym, ap, subst, ◌∙◌, append_assoc, append-nil}
+use Rattle.std.proofs.Common.{◌≡◌, ℕ, ◌+◌, Bool, true, false, cond, ◌&&◌, ◌||◌, List, [], ◌∷◌, ◌++◌, length, Option, Some, None, refl, sym, ap, subst, ◌∙◌, append_assoc, append-nil}
+use Rattle.std.proofs.lemmas.Bool.{and_parts}
 use Rattle.std.proofs.lemmas.List.Folds.{list_any-append}
 use Rattle.std.proofs.lemmas.Map.Keys.{IsDistinct-head, IsDistinct-tail, IsDistinct-push}
 use Rattle.std.specs.Prelude.{is_some}
 use Rattle.std.specs.List.{AllByRecursion, IsDistinct}
 use Rattle.pt_signal.specs.declared.pid.Pid.{Pid}
+use Rattle.pt_signal.specs.declared.item.Pick.TheVariants.{Any}
 use Rattle.pt_signal.specs.Values.{same_pid}
 use Rattle.pt_events.specs.declared.event.Stamped.{Stamped}
-use Rattle.pt_events.specs.History.{Phase, unborn, living, ended, is_living, is_unborn}
+use Rattle.pt_events.specs.History.{is_unborn}
 use Rattle.pt_shard.specs.ShardState.{ShardState, phase_of}
 use Rattle.pt_shard.specs.Extends.{Extends}
-use Rattle.pt_crew.specs.declared.behaviour.Next.{Next}
-use Rattle.pt_crew.specs.declared.behaviour.Next.TheVariants.{Wait, WaitUntil, Proceed, Running, Stop}
+use Rattle.pt_behaviour.specs.declared.behaviour.Next.{Next}
+use Rattle.pt_behaviour.specs.declared.behaviour.Next.TheVariants.{Wait, WaitUntil, Proceed, Running, Stop}
 use Rattle.pt_crew.specs.declared.crew.Member.{Member}
-use Rattle.pt_crew.specs.Waking.{Members, IsQueue, Knows, has_work, in_queue}
+use Rattle.pt_crew.specs.Waking.{Members, IsQueue, Knows, has_task, has_work, in_queue, timer_of}
 use Rattle.pt_crew.specs.declared.crew.Crew.{Crew}
 use Rattle.pt_timers.specs.declared.Timer.{Timer}
-use Rattle.pt_crew.specs.Waking.{timer_of}
 use Rattle.pt_crew.specs.Crews.{members, role, queue, HasTimers, IsSame, KeepsRest, KnowsDesk}
 use Rattle.pt_crew.specs.Parts.{QueueHolds, Wakes, is_marked}
 use Rattle.pt_crew.specs.Stepping.{QueueIsLonger}
 use Rattle.std.specs.Option.{option_map}
 use Rattle.pt_signal.proofs.Same.{same_pid_refl, same_pid_is}
-use Rattle.pt_workers.specs.Waking.{came_in, came_to}
+use Rattle.pt_workers.specs.Waking.{came_in, came_to, need_not_wait}
 use Rattle.pt_workers.proofs.Waiting.{born_later, need_not_before, neither}
+use Rattle.pt_behaviour.proofs.Cases.{by_cases, same_some, some_none}
 use Rattle.pt_crew.proofs.Places.{same_pid_sym, same_pid_laws}
 use Rattle.pt_crew.proofs.EndedBefore.{ended_before}
 
@@ -34,6 +36,35 @@ worked_before old new e (WaitUntil k at) p none w = need_not_before old new e k 
 worked_before old new e Proceed p none w = refl
 worked_before old new e Running p none w = ended_before old new e p none w
 worked_before old new e (Stop r) p none w = refl
+
+either : (a b : Bool) → (a || b) ≡ true → a ≡ false → b ≡ true
+either true b h e = absurd (cc)
+either false b h e = h
+
+or_left : (a b : Bool) → a ≡ true → (a || b) ≡ true
+or_left true b h = refl
+or_left false b h = absurd (cc)
+
+pub or_right : (a b : Bool) → b ≡ true → (a || b) ≡ true
+or_right true b h = refl
+or_right false b h = h
+
+tasked_before : {B : Type 0} (old new : ShardState) (e : Extends old new) (m : Member B) (p : Pid) → came_in p e.more ≡ false → has_task m (phase_of new p) ≡ true → has_task m (phase_of old p) ≡ true
+tasked_before {B} old new e m p none w = go (m.clear && need_not_wait Any (phase_of new p)) refl
+  where
+    go : (b : Bool) → (m.clear && need_not_wait Any (phase_of new p)) ≡ b → has_task m (phase_of old p) ≡ true
+    go true is =
+        let both = and_parts m.clear (need_not_wait Any (phase_of new p)) is in
+        let before : need_not_wait Any (phase_of old p) ≡ true = worked_before old new e (Wait Any) p none both.1 in
+        or_left (m.clear && need_not_wait Any (phase_of old p)) (has_work m.next (phase_of old p)) (λ j. both.0 j && before j)
+    go false is =
+        or_right (m.clear && need_not_wait Any (phase_of old p)) (has_work m.next (phase_of old p))
+        (worked_before old new e m.next p none (either (m.clear && need_not_wait Any (phase_of new p)) (has_work m.next (phase_of new p)) w is))
+
+-- one that has nothing to do, and had an empty mailbox if it is so marked
+pub no_task : (clear wakes works : Bool) → (clear ≡ true → wakes ≡ false) → works ≡ false → ((clear && wakes) || works) ≡ false
+no_task true wakes works quiet idle = (λ j. quiet refl j || idle j)
+no_task false wakes works quiet idle = idle
 
 -- the desk goes on: what is not read grows
 pub knows_later : {B : Type 0} (members : Members B) (queue : List Pid) (read : ℕ) (old new : ShardState) → Extends old new → Knows members queue read old → Knows members queue read new
@@ -46,11 +77,8 @@ knows_later members queue read old new e k = record {
   born = λ p m is. born_later old new e p (k.born p m is);
   awake = λ p m is w none.
       let none2 = neither (came_in p e.more) (came_in p k.more) (sym (list_any-append (λ (s : Stamped). came_to p s.event) e.more k.more) ∙ none) in
-      k.awake p m is (worked_before old new e m.next p none2.0 w) none2.1;
+      k.awake p m is (tasked_before old new e m p none2.0 w) none2.1;
 }
-
-pub some_none : {X : Type 0} (a : Option X) (x : X) → a ≡ None → a ≡ Some x → {Y : Type 0} → Y
-some_none a x e f = absurd (cc)
 
 -- of a crew of nobody
 pub nobody : {B : Type 0} (members : Members B) (queue : List Pid) (d : ShardState) → queue ≡ [] → ((p : Pid) → members p ≡ None) → Knows members queue 0 d
@@ -68,17 +96,6 @@ nobody {B} members queue d bare none = record {
     empty : IsQueue members []
     empty = record { listed = λ p m is marked. some_none (members p) m (none p) is; marked = λ p in_it. absurd (cc); once = tt }
 
-pub by_cases : {Y : Type 0} (b : Bool) → (b ≡ true → Y) → (b ≡ false → Y) → Y
-by_cases true h g = h refl
-by_cases false h g = g refl
-
-pub same_some : {X : Type 0} (x y : X) → Some x ≡ Some y → x ≡ y
-same_some x y h = cc
-
-either : (a b : Bool) → (a || b) ≡ true → a ≡ false → b ≡ true
-either true b h e = absurd (cc)
-either false b h e = h
-
 -- what a write at p makes of another
 module _ {X : Type 0} (mem new : Pid → Option X) (p : Pid) (w : Option X) (at : (q : Pid) → new q ≡ cond (same_pid p q) w (mem q)) where
   pub elsewhere : (q : Pid) → same_pid p q ≡ false → new q ≡ mem q
@@ -86,14 +103,6 @@ module _ {X : Type 0} (mem new : Pid → Option X) (p : Pid) (w : Option X) (at 
 
   pub there : (q : Pid) → same_pid p q ≡ true → new q ≡ w
   there q e = at q ∙ ap (λ b. cond b w (mem q)) e
-
-or_left : (a b : Bool) → a ≡ true → (a || b) ≡ true
-or_left true b h = refl
-or_left false b h = absurd (cc)
-
-or_right : (a b : Bool) → b ≡ true → (a || b) ≡ true
-or_right true b h = refl
-or_right false b h = h
 
 -- whoever is pushed stands in the queue, as whoever stood there
 pub pushed : (p : Pid) (ps : List Pid) → in_queue p (ps ++ p ∷ []) ≡ true
@@ -232,7 +241,7 @@ pub changed : {B : Type 0} (mem new : Members B) (p : Pid) (w : Option (Member B
     → ((q : Pid) → new q ≡ cond (same_pid p q) w (mem q))
     → (IsQueue mem before → IsQueue new queue)
     → ((m : Member B) → w ≡ Some m → is_unborn (phase_of later p) ≡ false)
-    → ((m : Member B) → w ≡ Some m → has_work m.next (phase_of later p) ≡ true → m.queued ≡ true)
+    → ((m : Member B) → w ≡ Some m → has_task m (phase_of later p) ≡ true → m.queued ≡ true)
     → Knows mem before read d → Knows new queue read later
 changed {B} mem new p w before queue read d later e at stays here marked known =
     let k = knows_later mem before read d later e known in
@@ -247,7 +256,7 @@ changed {B} mem new p w before queue read d later e at stays here marked known =
           (λ other. k.born q m (sym (elsewhere mem new p w at q other) ∙ is));
       awake = λ q m is work none. by_cases (same_pid p q)
           (λ same. let is_w : w ≡ Some m = sym (there mem new p w at q same) ∙ is in
-          marked m is_w (subst (λ (x : Pid). has_work m.next (phase_of later x) ≡ true) (sym (same_pid_is p q same)) work))
+          marked m is_w (subst (λ (x : Pid). has_task m (phase_of later x) ≡ true) (sym (same_pid_is p q same)) work))
           (λ other. k.awake q m (sym (elsewhere mem new p w at q other) ∙ is) work none);
     }
 
@@ -312,8 +321,3 @@ knows_same mem new queue now read d same items k = record {
 pub knows_is : {B : Type 0} (old new : Crew B) (d : ShardState) → IsSame old new → KnowsDesk old d → KnowsDesk new d
 knows_is old new d same k =
     subst (λ n. Knows (members new) (queue new) n d) (sym same.read) (knows_same (members old) (members new) (queue old) (queue new) old.read d same.members same.queue k)
-
-pub living_born : (f : Phase) → is_living f ≡ true → is_unborn f ≡ false
-living_born unborn h = absurd (cc)
-living_born (living s) h = refl
-living_born (ended r s) h = refl

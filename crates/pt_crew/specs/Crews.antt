@@ -15,13 +15,14 @@ use Rattle.pt_shard.specs.Calls.{Bears}
 use Rattle.pt_desk.specs.DeskState.{DeskState}
 use Rattle.pt_desk.specs.Turns.{Turns}
 use Rattle.pt_desk.specs.declared.turned.Turned.{Turned}
-use Rattle.pt_crew.specs.declared.behaviour.Next.{Next}
-use Rattle.pt_crew.specs.Births.{born}
+use Rattle.pt_behaviour.specs.declared.behaviour.Next.{Next}
+use Rattle.pt_behaviour.specs.Births.{born}
 use Rattle.pt_crew.specs.declared.crew.Member.{Member}
-use Rattle.pt_crew.specs.declared.births.Role.{Role}
+use Rattle.pt_behaviour.specs.declared.births.Role.{Role}
 use Rattle.pt_crew.specs.declared.crew.Crew.{Crew}
-use Rattle.pt_crew.specs.Waking.{Members, Knows, IsAwake, AreTimed, AreRung, in_queue, limit_of}
-use Rattle.pt_crew.specs.Visiting.{Answers, Roles, AreSame, AreWith, Scene, Visits}
+use Rattle.pt_behaviour.specs.Behaving.{limit_of, Answers}
+use Rattle.pt_crew.specs.Waking.{Members, Knows, IsAwake, AreTimed, AreRung, in_queue, has_work}
+use Rattle.pt_crew.specs.Visiting.{Roles, AreSame, AreWith, Scene, Visits}
 use Rattle.pt_crew.specs.Handing.{Handed}
 
 abbrev pub members : {B : Type 0} → Crew B → Members B
@@ -106,6 +107,10 @@ IsNextTime c None = (p : Pid) (at : ℕ) → WaitsUntil c p at → ⊥
 -- each process of the crew was born on the desk
 abbrev pub AreBorn : {B : Type 0} → Roles B → ShardState → Type 0
 AreBorn {B} roles d = (p : Pid) (r : B × Next) → roles p ≡ Some r → is_unborn (phase_of d p) ≡ false
+
+-- nobody of the crew has anything to do
+abbrev pub IsIdle : {B : Type 0} → Crew B → ShardState → Type 0
+IsIdle {B} c d = (p : Pid) (role : B × Next) → roles c p ≡ Some role → has_work role.1 (phase_of d p) ≡ false
 
 -- so many rounds, the time, who waits to enter, and what the last step said, stay
 pub record KeepsRest {B : Type 0} (old new : Crew B) : Type 0 where

@@ -5,11 +5,11 @@ use Rattle.pt_signal.specs.declared.item.Item.{Item}
 use Rattle.pt_signal.specs.declared.item.Pick.{Pick}
 use Rattle.pt_signal.specs.Values.{fits}
 use Rattle.pt_shard.specs.ShardState.{ShardState}
-use Rattle.pt_crew.specs.declared.behaviour.Next.{Next}
-use Rattle.pt_crew.specs.declared.behaviour.Next.TheVariants.{Proceed}
-use Rattle.pt_crew.specs.declared.births.Role.{Role}
-use Rattle.pt_crew.specs.Waking.{pick_of, limit_of}
-use Rattle.pt_crew.specs.Visiting.{Answers, Roles, AreWith, takes}
+use Rattle.pt_behaviour.specs.declared.behaviour.Next.{Next}
+use Rattle.pt_behaviour.specs.declared.behaviour.Next.TheVariants.{Proceed}
+use Rattle.pt_behaviour.specs.declared.births.Role.{Role}
+use Rattle.pt_behaviour.specs.Behaving.{pick_of, limit_of, Answers, takes}
+use Rattle.pt_crew.specs.Visiting.{Roles, AreWith}
 
 -- whoever is of the crew was so before, and as it was
 abbrev pub MayLeave : {B : Type 0} → Roles B → Roles B → Type 0

@@ -1,11 +1,10 @@
 pub mod Waking
-pub mod Births
 pub mod Visiting
 pub mod Handing
 pub mod Crews
-pub mod Telling
 pub mod Upholding
 pub mod Stepping
+pub mod Outside
 pub mod Parts
 pub mod Running
 pub mod Redirecting

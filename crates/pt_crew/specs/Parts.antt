@@ -1,16 +1,22 @@
 -- What the parts of a step do. No public clause cites this module.
 use Rattle.std.specs.Prelude.{◌≡◌, ◌⊎◌, ◌+◌, ◌<◌, ◌≤◌, cond, Bool, true, false, ◌&&◌, ◌||◌, List, [], ◌∷◌, ◌++◌, length, Option, Some, None}
-use Rattle.std.specs.Prelude.{ℕ, drop, vec_len, vec_capacity}
+use Rattle.std.specs.Prelude.{ℕ, drop, nat_le, vec_len, vec_capacity, Result, Ok, Err}
 use Rattle.std.specs.List.{list_any}
 use Rattle.std.specs.VecDeque.{deque_capacity, deque_len}
 use Rattle.std.specs.Map.{keys_of}
 use Rattle.indexmap.specs.IndexMap.{spare}
 use Rattle.pt_signal.specs.declared.pid.Pid.{Pid}
+use Rattle.pt_signal.specs.declared.item.Item.{Item}
+use Rattle.pt_signal.specs.declared.item.Pick.{Pick}
 use Rattle.pt_signal.specs.Values.{same_pid}
 use Rattle.pt_events.specs.declared.event.Event.{Event}
 use Rattle.pt_events.specs.declared.event.Event.TheVariants.{Came, Left}
-use Rattle.pt_shard.specs.ShardState.{ShardState, phase_of}
-use Rattle.pt_crew.specs.declared.behaviour.Next.{Next}
+use Rattle.pt_shard.specs.declared.fault.Fault.{Fault}
+use Rattle.pt_shard.specs.declared.fault.Fault.TheVariants.{Gone as Missing}
+use Rattle.pt_shard.specs.ShardState.{ShardState, lives, phase_of}
+use Rattle.pt_shard.specs.Calls.{Calls, take_event, first_match}
+use Rattle.pt_behaviour.specs.declared.behaviour.Next.{Next}
+use Rattle.pt_behaviour.specs.declared.behaviour.Next.TheVariants.{Wait, WaitUntil, Proceed, Running, Stop}
 use Rattle.pt_crew.specs.declared.crew.Member.{Member}
 use Rattle.pt_crew.specs.declared.crew.Crew.{Crew}
 use Rattle.pt_crew.specs.declared.crew.Tended.{Tended}
@@ -19,12 +25,12 @@ use Rattle.pt_timers.specs.declared.Timer.{Timer}
 use Rattle.pt_timers.specs.Order.{same_timer}
 use Rattle.pt_timers.specs.State.{TimersState, IsPending, body_of}
 use Rattle.pt_timers.specs.Calls.{Started}
-use Rattle.pt_crew.specs.Waking.{IsQueue, has_work, timer_of, limit_of}
+use Rattle.pt_behaviour.specs.Behaving.{limit_of}
+use Rattle.pt_crew.specs.Waking.{IsQueue, has_work, timer_of}
 use Rattle.pt_crew.specs.Visiting.{AreSame, again_as, leaves_crew, is_refused, left_as}
-use Rattle.pt_crew.specs.declared.births.Role.{Role}
-use Rattle.pt_crew.specs.Crews.{IsSame, KeepsRest, Aboard, EntersOne, EntersAll, HasTimers, members, queue, role, roles, left}
+use Rattle.pt_behaviour.specs.declared.births.Role.{Role}
+use Rattle.pt_crew.specs.Crews.{IsSame, KeepsRest, Aboard, EntersOne, EntersAll, HasTimers, members, queue, role, roles, left, waiting, are_any, unmarked, read_events, rounds_asked, was_refused, time_of}
 use Rattle.pt_crew.specs.Stepping.{QueueIsLonger}
-use Rattle.pt_crew.specs.Crews.{waiting, are_any, unmarked, read_events, rounds_asked, was_refused, time_of}
 
 -- what the queue of a crew is
 abbrev pub QueueHolds : {B : Type 0} → Crew B → Type 0
@@ -65,6 +71,34 @@ abbrev pub WakesBy : {B : Type 0} → Event → Crew B → Crew B → Type 0
 WakesBy (Came a b x) old new = Wakes b old new
 WakesBy (Left p r) old new = Wakes p old new
 WakesBy _ old new = IsSame old new
+
+-- what comes of a process that is to exit
+abbrev pub ended_as : Result (Unit {0}) Fault → Tended
+ended_as (Ok done) = Gone
+ended_as (Err Missing) = Gone
+ended_as (Err f) = Refused
+
+-- what a process that asked for an item gets, or else what comes of it
+abbrev pub got_as : Bool → Result (Option Item) Fault → Result (Option Item) Tended
+got_as over (Ok None) = cond over (Ok None) (Err Idle)
+got_as over (Ok (Some item)) = Ok (Some item)
+got_as over (Err Missing) = Err Gone
+got_as over (Err f) = Err Refused
+
+-- the first item that the pick fits is asked for
+abbrev pub GetsItem : Pid → Pick → Bool → ShardState → Result (Option Item) Tended → ShardState → Type 0
+GetsItem p pick over d got e =
+    (result : Result (Option Item) Fault) × Calls p (take_event d p pick) (first_match d p pick) d result e
+    × (got ≡ got_as over result)
+
+-- what p gets that does this next: an item or none; or else what comes of it
+abbrev pub Gets : ℕ → Pid → Next → ShardState → Result (Option Item) Tended → ShardState → Type 0
+Gets time p (Stop reason) d got e =
+    (result : Result (Unit {0}) Fault) × Calls p (Some (Left p reason)) (tt {0}) d result e × (got ≡ Err (ended_as result))
+Gets time p Proceed d got e = (e ≡ d) × (got ≡ cond (lives d p) (Ok None) (Err Gone))
+Gets time p Running d got e = (e ≡ d) × (got ≡ Err (cond (lives d p) Idle Gone))
+Gets time p (Wait pick) d got e = GetsItem p pick false d got e
+Gets time p (WaitUntil pick at) d got e = GetsItem p pick (nat_le at time) d got e
 
 -- a process that is idle has nothing to do
 abbrev pub MemberTends : {B : Type 0} → Pid → Tended → Member B → ShardState → Type 0

@@ -1,7 +1,7 @@
 -- What a process of a crew does in place of what it was to do, as the outside says.
 use Rattle.std.specs.Prelude.{◌≡◌, Some}
 use Rattle.pt_signal.specs.declared.pid.Pid.{Pid}
-use Rattle.pt_crew.specs.declared.behaviour.Next.{Next}
+use Rattle.pt_behaviour.specs.declared.behaviour.Next.{Next}
 use Rattle.pt_crew.specs.declared.crew.Crew.{Crew}
 use Rattle.pt_crew.specs.Visiting.{AreWith}
 use Rattle.pt_crew.specs.Crews.{KeepsRest, queue, read_events, roles}

@@ -8,9 +8,10 @@ use Rattle.pt_workers.specs.Stillness.{RunsRounds}
 use Rattle.pt_workers.specs.declared.run_fault.RunFault.{RunFault}
 use Rattle.pt_workers.specs.declared.stillness.Rested.{Rested}
 use Rattle.pt_crew.specs.declared.crew.Crew.{Crew}
-use Rattle.pt_crew.specs.Visiting.{Answers}
+use Rattle.pt_behaviour.specs.Behaving.{Answers}
 use Rattle.pt_crew.specs.Crews.{Attends, CrewDoes, queue, read_events}
-use Rattle.pt_crew.specs.Upholding.{Relation, Upholds}
+use Rattle.pt_behaviour.specs.Upholding.{Relation}
+use Rattle.pt_crew.specs.Upholding.{Upholds}
 
 -- nobody stands in its queue, and all that happened on its desk was read
 abbrev pub is_idle : {B : Type 0} → Crew B → ShardState → Bool

@@ -5,14 +5,14 @@ use Rattle.pt_shard.specs.declared.fault.Fault.{Fault}
 use Rattle.pt_shard.specs.declared.fault.Fault.TheVariants.{Memory}
 use Rattle.pt_shard.specs.ShardState.{ShardState, lives}
 use Rattle.pt_shard.specs.Calls.{BearsChild}
-use Rattle.pt_crew.specs.declared.behaviour.Next.{Next}
-use Rattle.pt_crew.specs.declared.behaviour.Next.TheVariants.{Running}
-use Rattle.pt_crew.specs.declared.births.Role.{Role}
+use Rattle.pt_behaviour.specs.declared.behaviour.Next.{Next}
+use Rattle.pt_behaviour.specs.declared.behaviour.Next.TheVariants.{Running}
+use Rattle.pt_behaviour.specs.declared.births.Role.{Role}
 use Rattle.pt_crew.specs.declared.crew.Crew.{Crew}
 use Rattle.pt_crew.specs.Waking.{IsAwake, AreRung}
-use Rattle.pt_crew.specs.Visiting.{Answers, AreSame, AreWith, VisitsOne}
-use Rattle.pt_crew.specs.Crews.{Attends, EntersAll, IsSame, KeepsRest, KnowsDesk, are_any, left, members, queue, read_events, roles}
-use Rattle.pt_crew.specs.Crews.{rounds_asked, scene, time_of, waiting, was_refused}
+use Rattle.pt_behaviour.specs.Behaving.{Answers}
+use Rattle.pt_crew.specs.Visiting.{AreSame, AreWith, VisitsOne}
+use Rattle.pt_crew.specs.Crews.{Attends, EntersAll, IsSame, KeepsRest, KnowsDesk, are_any, left, members, queue, read_events, roles, rounds_asked, scene, time_of, waiting, was_refused}
 
 -- others stand behind the queue
 abbrev pub QueueIsLonger : List Pid → List Pid → Type 0
@@ -63,7 +63,7 @@ abbrev pub is_running : {B : Type 0} → Option (B × Next) → Bool
 is_running None = false
 is_running (Some r) = runs r.1
 
--- the outside has said what p does next, which was running; it stands in the queue then
+-- the outside has said what p does next, which was running
 pub record IsAnswered {B : Type 0} (p : Pid) (next : Next) (old new : Crew B) : Type 0 where
   pub behaviour : B
   pub ran : roles old p ≡ Some (behaviour, Running)

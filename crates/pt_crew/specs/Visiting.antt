@@ -6,30 +6,20 @@ use Rattle.pt_signal.specs.declared.pid.Pid.{Pid}
 use Rattle.pt_signal.specs.declared.item.Item.{Item}
 use Rattle.pt_signal.specs.declared.item.Pick.{Pick}
 use Rattle.pt_signal.specs.Values.{same_pid}
-use Rattle.pt_events.specs.declared.event.Event.{Event}
-use Rattle.pt_events.specs.declared.event.Event.TheVariants.{Took, Left}
-use Rattle.pt_events.specs.declared.event.Stamped.{Stamped}
+use Rattle.pt_events.specs.declared.event.Event.TheVariants.{Left}
 use Rattle.pt_shard.specs.declared.fault.Fault.{Fault}
 use Rattle.pt_shard.specs.declared.fault.Fault.TheVariants.{Gone}
 use Rattle.pt_events.specs.History.{Phase, living}
 use Rattle.pt_shard.specs.ShardState.{ShardState, lives, phase_of}
 use Rattle.pt_shard.specs.Calls.{Calls, take_event, first_match}
 use Rattle.pt_shard.specs.Extends.{Extends}
-use Rattle.pt_crew.specs.declared.behaviour.Next.{Next}
-use Rattle.pt_crew.specs.declared.behaviour.Next.TheVariants.{Wait, WaitUntil, Proceed, Running, Stop}
-use Rattle.pt_crew.specs.declared.births.Role.{Role}
-use Rattle.pt_crew.specs.Births.{bore}
+use Rattle.pt_behaviour.specs.declared.behaviour.Next.{Next}
+use Rattle.pt_behaviour.specs.declared.behaviour.Next.TheVariants.{Wait, WaitUntil, Proceed, Running, Stop}
+use Rattle.pt_behaviour.specs.declared.births.Role.{Role}
+use Rattle.pt_behaviour.specs.Births.{bore}
+use Rattle.pt_behaviour.specs.Behaving.{AnswersNow, Answers, takes}
 use Rattle.pt_crew.specs.declared.crew.Tended.{Tended}
 use Rattle.pt_crew.specs.declared.crew.Tended.TheVariants.{Idle, Again, Done, Refused, Gone as Ended}
-
--- what a behaviour may answer at one time: it and its desk before, the process, the item or none, what the process does
--- next, it and its desk afterwards, and whom it bore
-abbrev pub AnswersNow : Type 0 → Type 1
-AnswersNow B = B → ShardState → Pid → Option Item → Next → B → ShardState → List (Role B) → Type 0
-
--- what it may answer at each time: the time is that of the step in which it is handed the item, or none
-abbrev pub Answers : Type 0 → Type 1
-Answers B = ℕ → AnswersNow B
 
 -- of each process of a crew its behaviour, and what it does next
 abbrev pub Roles : Type 0 → Type 0
@@ -56,16 +46,6 @@ pub record Scene (B : Type 0) : Type 0 where
   -- what time it is in this step
   pub time : ℕ
   pub desk : ShardState
-
--- whoever took an item, and the item
-abbrev pub takes_by : Event → List (Pid × Item) → List (Pid × Item)
-takes_by (Took p k i) taken = (p, i) ∷ taken
-takes_by _ taken = taken
-
--- all that was taken, the newest first
-abbrev pub takes : List Stamped → List (Pid × Item)
-takes [] = []
-takes (s ∷ journal) = takes_by s.event (takes journal)
 
 -- an end was asked for: the process leaves the crew, unless the desk refused for want of memory or stamps
 abbrev pub EndsAs : {B : Type 0} → B × Next → Result (Unit {0}) Fault → Tended → Option (B × Next) → Type 0

@@ -1,18 +1,19 @@
 -- Who of a crew has something to do, and who of it stands in the queue.
-use Rattle.std.specs.Prelude.{◌≡◌, ℕ, ◌≤◌, nat_le, cond, Bool, true, false, List, length, ◌++◌, Option, Some, None}
+use Rattle.std.specs.Prelude.{◌≡◌, ℕ, ◌≤◌, nat_le, cond, Bool, true, false, ◌&&◌, ◌||◌, List, length, ◌++◌, Option, Some, None}
 use Rattle.std.specs.List.{IsDistinct, list_any}
 use Rattle.std.specs.Option.{option_map}
 use Rattle.pt_timers.specs.declared.Timer.{Timer}
 use Rattle.pt_timers.specs.State.{TimersState, body_of}
 use Rattle.pt_signal.specs.declared.pid.Pid.{Pid}
-use Rattle.pt_signal.specs.declared.item.Pick.{Pick}
+use Rattle.pt_signal.specs.declared.item.Pick.TheVariants.{Any}
 use Rattle.pt_signal.specs.Values.{same_pid}
 use Rattle.pt_events.specs.declared.event.Stamped.{Stamped}
 use Rattle.pt_events.specs.History.{Phase, is_unborn, is_ended}
 use Rattle.pt_shard.specs.ShardState.{ShardState, phase_of}
 use Rattle.pt_workers.specs.Waking.{came_in, need_not_wait}
-use Rattle.pt_crew.specs.declared.behaviour.Next.{Next}
-use Rattle.pt_crew.specs.declared.behaviour.Next.TheVariants.{Wait, WaitUntil, Proceed, Running, Stop}
+use Rattle.pt_behaviour.specs.declared.behaviour.Next.{Next}
+use Rattle.pt_behaviour.specs.declared.behaviour.Next.TheVariants.{Wait, WaitUntil, Proceed, Running, Stop}
+use Rattle.pt_behaviour.specs.Behaving.{limit_of}
 use Rattle.pt_crew.specs.declared.crew.Member.{Member}
 
 -- A process in this phase has something to do: it need not wait, as an item that its pick fits stands in its mailbox, or
@@ -24,21 +25,15 @@ has_work Proceed f = true
 has_work Running f = is_ended f
 has_work (Stop r) f = true
 
--- the pick that it waits for
-abbrev pub pick_of : Next → Option Pick
-pick_of (Wait k) = Some k
-pick_of (WaitUntil k at) = Some k
-pick_of _ = None
-
--- the time until which it waits
-abbrev pub limit_of : Next → Option ℕ
-limit_of (WaitUntil k at) = Some at
-limit_of _ = None
-
 -- whether it waits until a time that has come
 abbrev pub wait_is_over : Next → ℕ → Bool
 wait_is_over (WaitUntil k at) time = nat_le at time
 wait_is_over _ time = false
+
+-- it waits without an end, and its mailbox was empty
+abbrev pub rests_on : Bool → Next → Bool
+rests_on clear (Wait k) = clear
+rests_on clear _ = false
 
 abbrev pub in_queue : Pid → List Pid → Bool
 in_queue p queue = list_any (same_pid p) queue
@@ -46,6 +41,10 @@ in_queue p queue = list_any (same_pid p) queue
 -- the members by their pids
 abbrev pub Members : Type 0 → Type 0
 Members B = Pid → Option (Member B)
+
+-- it has something to do, or would have if it waited for any item and its mailbox was empty when the outside was told of it
+abbrev pub has_task : {B : Type 0} → Member B → Phase → Bool
+has_task m f = (m.clear && need_not_wait Any f) || has_work m.next f
 
 -- it is marked as one that stands in the queue
 abbrev pub is_queued : {B : Type 0} → Member B → Bool
@@ -66,7 +65,7 @@ pub record Knows {B : Type 0} (members : Members B) (queue : List Pid) (read : �
   pub counted : length seen ≡ read
   pub queued : IsQueue members queue
   pub born : (p : Pid) (m : Member B) → members p ≡ Some m → is_unborn (phase_of d p) ≡ false
-  pub awake : (p : Pid) (m : Member B) → members p ≡ Some m → has_work m.next (phase_of d p) ≡ true
+  pub awake : (p : Pid) (m : Member B) → members p ≡ Some m → has_task m (phase_of d p) ≡ true
       → came_in p more ≡ false → m.queued ≡ true
 
 -- no lost wake-up: each member that has something to do stands in the queue

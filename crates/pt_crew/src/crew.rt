@@ -1,35 +1,34 @@
 //! The crew of one desk.
 
 ghost use Rattle.std.specs.Prelude.{◌≡◌, ◌≤◌, ◌++◌, ◌∷◌, OnOk, OnErr, IsOk, [], None, Some, false, true, length};
-ghost use Rattle.std.specs.Prelude.{◌<◌, IfErr, IfOk, MatchBool, option_to_list, vec_capacity, vec_len};
+ghost use Rattle.std.specs.Prelude.{◌<◌, IfErr, IfOk, IfSome, MatchBool, option_to_list, vec_capacity, vec_len};
 ghost use Rattle.std.specs.Option.{option_copied, option_map};
 ghost use Rattle.std.specs.Map.{keys_of};
 ghost use Rattle.std.specs.VecDeque.{deque_capacity, deque_len};
 ghost use Rattle.pt_events.specs.History.{is_unborn};
 ghost use Rattle.pt_shard.specs.ShardState.{ShardState, lives, phase_of};
 ghost use Rattle.pt_desk.specs.DeskState.{GoesOn};
-ghost use Rattle.pt_crew.specs.Births.{bore, born};
-ghost use Rattle.pt_crew.specs.Visiting.{AreSame, AreWith, AsksFor, BearsChildren, SeesTo, Visits, goes_behind};
-ghost use Rattle.pt_crew.specs.Visiting.{handed_as, takes};
+ghost use Rattle.pt_crew.specs.Visiting.{AreSame, AreWith, Visits, goes_behind};
 ghost use Rattle.pt_crew.specs.Crews.{AreBorn, Attends, Enters, HasRoom, HasTimers, IsNextTime, IsSame, KeepsRest};
 ghost use Rattle.pt_crew.specs.Crews.{KnowsDesk, CrewWorks, left};
-ghost use Rattle.pt_crew.specs.Crews.{crew_size, members, queue, read_events, role, roles, rounds_asked, scene, time_of};
+ghost use Rattle.pt_crew.specs.Crews.{crew_size, members, queue, read_events, roles, rounds_asked, scene, time_of};
 ghost use Rattle.pt_crew.specs.Crews.{waiting, was_refused};
+ghost use Rattle.pt_crew.specs.Outside.{BeginsToRun, next_in_front, tells_or};
 ghost use Rattle.pt_crew.specs.Stepping.{BeginsStep, EndsStep, EntersChild, IsAnswered, QueueIsLonger, Serves, first_of};
 ghost use Rattle.pt_crew.specs.Stepping.{is_running};
-ghost use Rattle.pt_crew.specs.Parts.{Admits, AdmitsFirst, AllMarked, CanEnter, MemberTends, Wakes, WakesAt};
-ghost use Rattle.pt_crew.specs.Parts.{PutsMember, SleepsUntil, Stops, WakesBy, sleeper};
-ghost use Rattle.pt_crew.specs.Parts.{is_marked, kept_as};
-ghost use Rattle.pt_crew.specs.Waking.{IsAwake, is_queued, pick_of, timer_of, limit_of, wait_is_over};
+ghost use Rattle.pt_crew.specs.Parts.{Admits, AdmitsFirst, AllMarked, CanEnter, Wakes, WakesAt};
+ghost use Rattle.pt_crew.specs.Parts.{PutsMember, Stops, WakesBy, is_marked};
+ghost use Rattle.pt_crew.specs.Waking.{IsAwake, is_queued, timer_of};
 ghost use Rattle.pt_timers.specs.Calls.{NoneDue};
 ghost use Rattle.pt_crew.specs.Running.{is_idle};
 
-use crate::behaviour::{Behaviour, Next};
-use crate::births::{Births, Role};
+use crate::front::{rests, runs, serve, sleep, tend};
 use crate::hints::Hints;
+use crate::outside::Outside;
 use indexmap::IndexMap;
+use pt_behaviour::{Behaviour, Births, Next, Role};
 use pt_timers::{Timer, Timers};
-use pt_workers::{Desk, Event, Fault, Item, Pick, Pid, Turned, Work};
+use pt_workers::{Desk, Event, Fault, Pid, Turned, Work};
 use std::alloc::{AllocError, Global};
 use std::collections::VecDeque;
 use std::mem;
@@ -37,12 +36,15 @@ use std::mem;
 /// A process of the crew. It is public since the definitions of a crew name it; no call returns one.
 #[derive(Drop)]
 pub struct Member<B> {
-    behaviour: B,
-    next: Next,
+    pub(crate) behaviour: B,
+    pub(crate) next: Next,
     /// Whether it is in the queue.
     queued: bool,
+    /// Whether the outside was told something of it and its mailbox was empty then. It is false once the process is
+    /// visited again. So an answer that it waits needs no visit.
+    pub(crate) clear: bool,
     /// Its pending timer. It has one if it waits until a time and is not in the queue.
-    timer: Option<Timer>,
+    pub(crate) timer: Option<Timer>,
 }
 
 /// What a process of the queue did when it ran. It is public since the definitions of a visit name it.
@@ -287,6 +289,7 @@ impl<B: Behaviour + Drop> Crew<B> {
             behaviour,
             next: first,
             queued: true,
+            clear: false,
             timer: None,
         };
         match self.members.insert(pid, member) {
@@ -329,6 +332,8 @@ impl<B: Behaviour + Drop> Crew<B> {
     }
 
     /// Says what a running process ([`Next::Running`]) does next. It joins the queue's end then, unless it is there.
+    /// It stays out of the queue if it waits without an end and has had an empty mailbox since
+    /// [`Crew::serve_first`] told of it.
     ///
     /// It returns `false`, and nothing has changed, if the process is not running or not of the crew. It fails for want
     /// of memory only if the crew attends no desk, and then nothing has changed.
@@ -339,9 +344,16 @@ impl<B: Behaviour + Drop> Crew<B> {
         ensures refused { OnErr result (IsSame self.old self.new) }
         ensures attends { (d : ShardState) → Attends self.old d → IsOk result × Attends self.new d }
     {
-        match self.next(p) {
-            Some(Next::Running) => {}
-            _ => return Ok(false),
+        let Some(place) = self.hints.place_of(&self.members, p) else {
+            return Ok(false);
+        };
+        let (_, member) = self.members.pair_mut(place);
+        if !runs(member.next) {
+            return Ok(false);
+        }
+        if rests(next, member.clear) {
+            member.next = next;
+            return Ok(true);
         }
         self.wake(p)?;
         self.set_next(p, next);
@@ -587,6 +599,7 @@ impl<B: Behaviour + Drop> Crew<B> {
             behaviour,
             next,
             queued: true,
+            clear: false,
             timer: None,
         };
         let stands = self.stands(pid);
@@ -648,6 +661,7 @@ impl<B: Behaviour + Drop> Crew<B> {
         let came = tend(member, &mut self.births, desk, self.time, p);
         let tended = sleep(member, &mut self.timers, p, came);
         member.queued = tended.goes_behind();
+        member.clear = false;
         self.put(p, tended);
     }
 
@@ -699,143 +713,41 @@ impl<B: Behaviour + Drop> Crew<B> {
     }
 }
 
-/// Makes a process exit if it is to stop, and else passes it `None` or its first matching item.
-#[tactic(auto, using(pt_desk::proofs::Turning::goes_on_then, crate::proofs::Takes::idle_is))]
-fn tend<B: Behaviour + Drop>(
-    member: &mut Member<B>,
-    births: &mut Births<B>,
-    desk: &mut Desk,
-    time: u64,
-    p: Pid,
-) -> Tended
-    ensures sees { SeesTo B.answers time p member.old.behaviour member.old.next desk.old.shard result
-        (kept_as result member.new) desk.new.shard (bore (born births.old) (born births.new)) }
-    ensures role { result ≡ Tended.Gone → member.new ≡ member.old }
-    ensures timer { member.new.timer ≡ member.old.timer }
-    ensures done { result ≡ Tended.Done → limit_of member.new.next ≡ None }
-    ensures bears { BearsChildren result (born births.old) (born births.new) }
-    ensures tends { MemberTends p result member.new desk.new.shard }
-    ensures goes_on { GoesOn desk.old desk.new }
-{
-    match member.next {
-        Next::Stop(reason) => match desk.exit(p, reason) {
-            Ok(()) => Tended::Gone,
-            Err(Fault::Gone) => Tended::Gone,
-            Err(_) => Tended::Refused,
-        },
-        Next::Proceed => {
-            if !desk.alive_here(p) {
-                return Tended::Gone;
-            }
-            hand(member, births, desk, time, p, None);
-            handed(member.next, desk, p)
+impl<B: Outside + Drop> Crew<B> {
+    /// Runs the first process of the queue as [`Crew::run_first`] does, and returns what the outside is told of it. That
+    /// process is running ([`Next::Running`]) then. It returns `None` if the queue is empty, or the process gets nothing,
+    /// or handles it itself.
+    ///
+    /// A process of which something was told, and whose mailbox is empty then, joins the queue only if something comes to
+    /// it or its answer is none that waits ([`Next::Wait`]).
+    pub fn serve_first(&mut self, desk: &mut Desk) -> Option<B::Told>
+        ensures serves { Serves (tells_or B.answers B.tells (next_in_front (queue self.old) (roles self.old)) result)
+            (queue self.old) self.old desk.old.shard self.new desk.new.shard }
+        ensures told { IfSome result (λ _. BeginsToRun (queue self.old) (roles self.old) (roles self.new)) }
+        ensures knows { KnowsDesk self.old desk.old.shard → KnowsDesk self.new desk.new.shard }
+        ensures room { HasRoom self.old → HasRoom self.new }
+        ensures timers { KnowsDesk self.old desk.old.shard → HasTimers self.old → HasTimers self.new }
+        ensures same { rounds_asked self.new ≡ rounds_asked self.old }
+        ensures time { time_of self.new ≡ time_of self.old }
+        ensures goes_on { GoesOn desk.old desk.new }
+    {
+        let Some(p) = self.queue.pop_front() else {
+            return None;
+        };
+        let Some(place) = self.hints.place_of(&self.members, p) else {
+            return None;
+        };
+        if self.left.reserve(1).is_err() {
+            self.refused = true;
+            self.queue.push_back_reserved(p);
+            return None;
         }
-        Next::Running => {
-            if desk.alive_here(p) {
-                Tended::Idle
-            } else {
-                Tended::Gone
-            }
-        }
-        // (one call, so that it becomes a part of this function)
-        Next::Wait(pick) | Next::WaitUntil(pick, _) => {
-            let is_over = wait_is_over(member.next, time);
-            receive(member, births, desk, time, p, pick, is_over)
-        }
-    }
-}
-
-/// Whether a process waits until a time that has come.
-#[inline(always)]
-fn wait_is_over(next: Next, time: u64) -> bool
-    ensures { result ≡ wait_is_over next time }
-{
-    match next {
-        Next::WaitUntil(_, at) => at <= time,
-        _ => false,
-    }
-}
-
-/// Passes a process its first matching item, or `None` if there is no such item and its time is over.
-#[tactic(auto, using(pt_desk::proofs::Turning::goes_on_then, crate::proofs::Takes::idle_is))]
-fn receive<B: Behaviour + Drop>(
-    member: &mut Member<B>,
-    births: &mut Births<B>,
-    desk: &mut Desk,
-    time: u64,
-    p: Pid,
-    pick: Pick,
-    is_over: bool,
-) -> Tended
-    requires { pick_of member.old.next ≡ Some pick }
-    ensures sees { AsksFor (B.answers time) p (role member.old) pick is_over desk.old.shard result (kept_as result member.new)
-        desk.new.shard (bore (born births.old) (born births.new)) }
-    ensures role { result ≡ Tended.Gone → member.new ≡ member.old }
-    ensures timer { member.new.timer ≡ member.old.timer }
-    ensures done { result ≡ Tended.Done → limit_of member.new.next ≡ None }
-    ensures bears { BearsChildren result (born births.old) (born births.new) }
-    ensures tends { MemberTends p result member.new desk.new.shard }
-    ensures goes_on { GoesOn desk.old desk.new }
-{
-    let got = match desk.receive(p, pick) {
-        Ok(got) => got,
-        Err(Fault::Gone) => return Tended::Gone,
-        Err(_) => return Tended::Refused,
-    };
-    if got.is_none() && !is_over {
-        return Tended::Idle;
-    }
-    hand(member, births, desk, time, p, got);
-    handed(member.next, desk, p)
-}
-
-/// What follows when a process got something: it joins the queue's end, unless it waits with an empty mailbox. One that
-/// waits until a time joins it too, since its timer starts when it runs and finds nothing.
-fn handed(next: Next, desk: &Desk, p: Pid) -> Tended
-    ensures { result ≡ handed_as next (phase_of desk.now.shard p) }
-{
-    match (next, desk.waiting(p)) {
-        (Next::Wait(_), Some(items)) if items.is_empty() => Tended::Done,
-        (Next::Running, Some(_)) => Tended::Done,
-        _ => Tended::Again,
-    }
-}
-
-/// Passes an item, or `None`, to the behaviour of a process, which says what it does next.
-fn hand<B: Behaviour + Drop>(
-    member: &mut Member<B>,
-    births: &mut Births<B>,
-    desk: &mut Desk,
-    time: u64,
-    p: Pid,
-    item: Option<Item>,
-)
-    ensures answers { B.answers time member.old.behaviour desk.old.shard p item member.new.next member.new.behaviour
-        desk.new.shard (bore (born births.old) (born births.new)) }
-    ensures timer { member.new.timer ≡ member.old.timer }
-    ensures bears { BearsChildren Tended.Again (born births.old) (born births.new) }
-    ensures takes { takes desk.new.shard.journal ≡ takes desk.old.shard.journal }
-    ensures goes_on { GoesOn desk.old desk.new }
-{
-    births.begin(time);
-    member.next = member.behaviour.handle(desk, births, p, item);
-}
-
-/// Starts the timer of a process that leaves the queue and waits until a time. Without memory for it the process joins
-/// the queue's end, so that nobody is forgotten.
-#[inline(always)]
-fn sleep<B>(member: &mut Member<B>, timers: &mut Timers<Pid>, p: Pid, tended: Tended) -> Tended
-    ensures { SleepsUntil (sleeper tended member.old.next) p tended member.old timers.old result member.new timers.new }
-{
-    let (Tended::Idle, Next::WaitUntil(_pick, at)) = (tended, member.next) else {
-        return tended;
-    };
-    match timers.start(at, p) {
-        Ok(timer) => {
-            member.timer = Some(timer);
-            Tended::Idle
-        }
-        Err(_) => Tended::Refused,
+        let (_, member) = self.members.pair_mut(place);
+        let (came, told) = serve(member, &mut self.births, desk, self.time, p);
+        let tended = sleep(member, &mut self.timers, p, came);
+        member.queued = tended.goes_behind();
+        self.put(p, tended);
+        told
     }
 }
 

@@ -1,15 +1,17 @@
 //! Processes that run code: the crew of a desk.
 //!
-//! What a process does with an item of its mailbox is a [`Behaviour`]. A [`Crew`] has the processes of one desk with
-//! their behaviours, and is the desk's [`Work`](pt_workers::Work), so `pt_workers::run` and `run_single` run it.
+//! What a process does with an item of its mailbox is a [`Behaviour`](pt_behaviour::Behaviour). A [`Crew`] has the
+//! processes of one desk with their behaviours, and is the desk's [`Work`](pt_workers::Work), so `pt_workers::run` and
+//! `run_single` run it.
 //!
 //! # Handlers outside
-//! A behaviour that answers [`Next::Running`] waits until the program says by [`Crew::answer`] what it does next. With
-//! [`Crew::begin_step`], [`Crew::run_first`] and [`Crew::end_step`] the program takes the step itself.
+//! A behaviour that answers [`Next::Running`](pt_behaviour::Next::Running) waits until the program says by
+//! [`Crew::answer`] what it does next. With [`Crew::begin_step`], [`Crew::run_first`] and [`Crew::end_step`] the program
+//! takes the step itself.
+//! [`Crew::serve_first`] tells the program what a process gets, if its behaviour says so ([`Outside`]).
 //!
 //! Tests: `checks/tried/test_calls/crews.rt.txt`, `checks/tried/test_calls/timed_crews.rt.txt`,
-//! `crates/test_calls/src/on_a_desk.rt` and
-//! `crates/test_calls/src/upheld.rt`.
+//! `crates/test_calls/src/on_a_desk.rt` and `crates/test_calls/src/upheld.rt`.
 //!
 //! # What is proved
 //!
@@ -34,8 +36,10 @@
 //!   or if a spawned process could not enter. (`told`)
 //! - **Invariants.** What a behaviour upholds by its answers, its crew keeps for all its processes, and through runs.
 //!   (`crew_upholds`, `runs_uphold`)
-//! - **Steps from outside.** A step is `begin_step`, `run_first` and `end_step`, each with a contract of its own.
-//!   (`BeginsStep`, `Serves`, `EndsStep`)
+//! - **Steps from outside.** A step is `begin_step`, `run_first` or `serve_first`, and `end_step`, each with a contract
+//!   of its own. (`BeginsStep`, `Serves`, `EndsStep`)
+//! - **Told outside.** What `serve_first` tells is what the process in front of the queue gets, and that process is running
+//!   then. If it tells nothing, the process handled what it got itself, or got nothing. (`tells_or`, `BeginsToRun`)
 //! - **Running.** A process that is running gets nothing until it is answered, and does next what was answered. If it
 //!   exits meanwhile, it leaves. (`IsAnswered`)
 //! - **Redirecting.** The program may say at any time what a process does next in place of what it was to do. It is in the
@@ -43,20 +47,15 @@
 //! - **Idle.** `is_idle` and `are_idle` say whether no process has anything to do.
 #![tactic(auto)]
 
-mod behaviour;
-mod births;
-mod call_fault;
-mod calls;
 mod crew;
+mod front;
 mod hints;
+mod outside;
 mod redirect;
 mod running;
 mod upholds;
 
-pub use behaviour::{Behaviour, Next};
-pub use births::{Births, Role, spawn_child};
-pub use call_fault::CallFault;
-pub use calls::{demonitor, exit_signal, link, monitor, send, trap, unlink};
 pub use crew::Crew;
+pub use outside::Outside;
 pub use running::{are_idle, runs_uphold};
-pub use upholds::{Upheld, crew_upholds};
+pub use upholds::crew_upholds;

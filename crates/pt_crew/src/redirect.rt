@@ -5,8 +5,8 @@ ghost use Rattle.pt_shard.specs.ShardState.{ShardState};
 ghost use Rattle.pt_crew.specs.Crews.{Attends, IsSame, roles};
 ghost use Rattle.pt_crew.specs.Redirecting.{IsRedirected};
 
-use crate::behaviour::{Behaviour, Next};
 use crate::crew::Crew;
+use pt_behaviour::{Behaviour, Next};
 use pt_workers::Pid;
 
 impl<B: Behaviour + Drop> Crew<B> {

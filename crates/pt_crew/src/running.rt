@@ -5,9 +5,8 @@ ghost use Rattle.pt_workers.specs.Running.{begins_by};
 ghost use Rattle.pt_workers.specs.declared.work.Standing.TheVariants.{Going};
 ghost use Rattle.pt_crew.specs.Running.{AreIdle, RestUpholds, RoundsUphold, RunUpholds};
 
-use crate::behaviour::Behaviour;
 use crate::crew::Crew;
-use crate::upholds::Upheld;
+use pt_behaviour::{Behaviour, Upheld};
 use pt_workers::{Desk, Gate};
 
 /// Whether there are as many crews as desks, and each is idle over the desk at its place: see [`Crew::is_idle`].

@@ -1,4 +1,4 @@
-//! What a behaviour upholds on its desk, for anything that its crew does.
+//! What behaviours uphold on their desk, for anything that their crew does.
 
 ghost use Rattle.std.specs.Prelude.{ℕ, List, Result};
 ghost use Rattle.pt_signal.specs.declared.pid.Pid.{Pid};
@@ -7,31 +7,15 @@ ghost use Rattle.pt_shard.specs.declared.fault.Fault.{Fault};
 ghost use Rattle.pt_shard.specs.ShardState.{ShardState, handled};
 ghost use Rattle.pt_desk.specs.DeskState.{DeskState};
 ghost use Rattle.pt_desk.specs.declared.turned.Turned.{Turned};
-ghost use Rattle.pt_crew.specs.declared.behaviour.Next.{Next};
+ghost use Rattle.pt_behaviour.specs.declared.behaviour.Next.{Next};
 ghost use Rattle.pt_crew.specs.declared.crew.Crew.{Crew};
 ghost use Rattle.pt_crew.specs.Visiting.{Roles};
 ghost use Rattle.pt_crew.specs.Crews.{CrewDoes, Enters, CrewWorks, left};
-ghost use Rattle.pt_crew.specs.declared.births.Role.{Role};
-ghost use Rattle.pt_crew.specs.Upholding.{AllStand, AllStill, IsUpheld, StandsFirst, Upholds};
+ghost use Rattle.pt_behaviour.specs.declared.births.Role.{Role};
+ghost use Rattle.pt_behaviour.specs.Upholding.{StandsFirst};
+ghost use Rattle.pt_crew.specs.Upholding.{AllStand, AllStill, Upholds};
 
-use crate::behaviour::Behaviour;
-
-/// A behaviour with a relation to its desk that it upholds.
-///
-/// `stands` relates the behaviour, what it does next, its pid and its desk. `upheld` proves these of what the behaviour
-/// may answer:
-///
-/// - an item that it gets keeps the relation;
-/// - the children that it spawns begin with the relation;
-/// - it acts for itself alone;
-/// - what others do, what it receives, and its own exit keep the relation.
-///
-/// Then a crew of it keeps the relation for all its members, and for those that left: see [`crew_upholds`].
-pub trait Upheld: Behaviour {
-    ghost stands: { Self → Next → Pid → ShardState → Type 0 };
-
-    ghost upheld: { IsUpheld Self.answers stands };
-}
+use pt_behaviour::Upheld;
 
 /// A step, a step with a turn, and a receipt keep what the behaviours of a crew uphold. So does spawning a process that
 /// has the relation from its start. A process that left in a step still has it, as what it was when it left, and

@@ -20,10 +20,10 @@ use Rattle.pt_workers.specs.Running.{TakesTurn}
 use Rattle.pt_workers.specs.Stillness.{AllDesksGoOn}
 use Rattle.pt_workers.specs.declared.stillness.Rested.{Rested}
 use Rattle.pt_node.proofs.RoundByRound.{all_rounds_go_on}
-use Rattle.pt_crew.specs.declared.behaviour.Next.{Next}
+use Rattle.pt_behaviour.specs.declared.behaviour.Next.{Next}
 use Rattle.pt_crew.specs.declared.crew.Crew.{Crew}
 use Rattle.pt_crew.specs.declared.crew.Member.{Member}
-use Rattle.pt_crew.specs.Visiting.{Answers}
+use Rattle.pt_behaviour.specs.Behaving.{Answers}
 use Rattle.pt_crew.specs.Crews.{Attends, AreBorn, members, queue, role, roles}
 use Rattle.pt_crew.specs.Running.{CrewsDo}
 use Rattle.pt_crew.proofs.Waking.{knows_later}

@@ -14,7 +14,7 @@ use Rattle.pt_node.specs.Pasts.{GoOnFrom, IsOneHistory}
 use Rattle.pt_node.proofs.Leftless.{still_gathered}
 use Rattle.pt_node.proofs.Pasts.{nothing_yet, one_after}
 use Rattle.pt_crew.specs.declared.crew.Crew.{Crew}
-use Rattle.pt_crew.specs.Visiting.{Answers}
+use Rattle.pt_behaviour.specs.Behaving.{Answers}
 use Rattle.pt_epochs.specs.declared.epochs.Plan.{Plan}
 use Rattle.pt_epochs.specs.declared.epochs.Pause.{Pause}
 use Rattle.pt_epochs.specs.declared.epochs.Pause.TheVariants.{Idle, Stopped, Full, Told, Asked, Spent}

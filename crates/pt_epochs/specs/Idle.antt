@@ -8,7 +8,7 @@ use Rattle.pt_workers.specs.declared.run_fault.RunFault.{RunFault}
 use Rattle.pt_workers.specs.declared.run_fault.RunFault.TheVariants.{Works, Memory}
 use Rattle.pt_workers.specs.declared.stillness.Rested.{Rested}
 use Rattle.pt_crew.specs.declared.crew.Crew.{Crew}
-use Rattle.pt_crew.specs.Visiting.{Answers}
+use Rattle.pt_behaviour.specs.Behaving.{Answers}
 use Rattle.pt_crew.specs.Crews.{waiting}
 use Rattle.pt_crew.specs.Running.{AreIdle, CrewsDo}
 use Rattle.pt_epochs.specs.Driving.{AllWorkLet}

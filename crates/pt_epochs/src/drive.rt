@@ -7,7 +7,8 @@ ghost use Rattle.pt_crew.specs.declared.crew.Crew.{Crew};
 ghost use Rattle.pt_crew.specs.Running.{CrewsDo};
 ghost use Rattle.pt_epochs.specs.Driving.{AllWorkLet};
 
-use pt_crew::{Behaviour, Crew};
+use pt_behaviour::Behaviour;
+use pt_crew::Crew;
 use pt_node::{FreeGate, Node, RunFault};
 
 /// How the crews of a node are run for some turns: by [`Rounds`] on the calling thread.

@@ -8,7 +8,8 @@ ghost use Rattle.pt_epochs.specs.Epochs.{CrewMayBegin, ResumesAllAs, SettlesAs};
 
 use crate::halted::Halted;
 use crate::sink::Sink;
-use pt_crew::{Behaviour, Crew};
+use pt_behaviour::Behaviour;
+use pt_crew::Crew;
 use pt_gathered::{Gathered, Settled};
 use pt_node::{Kept, Node, RestingSettled};
 use std::alloc::{AllocError, Global};

@@ -4,7 +4,8 @@ ghost use Rattle.std.specs.Prelude.{◌≡◌, ◌<◌, length, max, MatchBool};
 ghost use Rattle.pt_epochs.specs.Idle.{AllEntered, InTurns, NoneHasWork, RunsLeg, RunsUntilIdle};
 
 use crate::drive::Drive;
-use pt_crew::{Behaviour, Crew, are_idle};
+use pt_behaviour::Behaviour;
+use pt_crew::{Crew, are_idle};
 use pt_desk::Desk;
 use pt_node::{Node, Rested, RunFault, Stopped};
 

@@ -11,3 +11,13 @@ pub mod CalledHere
 pub mod Audited
 pub mod Calling
 pub mod Watched
+pub mod Fates
+pub mod Messages
+pub mod Coming
+pub mod Losing
+pub mod Keeping
+pub mod Standing
+pub mod Nodes
+pub mod Counting
+pub mod Stories
+pub mod Telling

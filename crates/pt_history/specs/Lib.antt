@@ -4,3 +4,6 @@ pub mod EarlyLinks
 pub mod Passing
 pub mod Audited
 pub mod Calling
+pub mod Custody
+pub mod Nodes
+pub mod CustodyExamples

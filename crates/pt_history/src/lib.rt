@@ -36,7 +36,8 @@
 //!
 //! `specs/` says what a history means. `History` says what each process is after a history, what an event sends, and
 //! which event may come next. `Journal` says what one desk's journal is, and how the journals of several desks make one
-//! history. Each law over these words is the contract of a function in [`laws`] or [`links`] that does nothing:
+//! history. Each law over these words is the contract of a function that does nothing. That of the last one is
+//! [`custody_holds`], and those of the others are in [`laws`] or [`links`]:
 //!
 //! - a pid is spawned once and exits once;
 //! - between two processes nothing is lost, doubled or overtaken;
@@ -44,7 +45,14 @@
 //! - the merge of journals whose lanes agree is legal;
 //! - settling is bounded;
 //! - in a quiet history links are at both ends or at neither;
-//! - the history of a node passes the audit.
+//! - the history of a node passes the audit;
+//! - each message that was sent was taken, waits, was lost or is on its way.
+//!
+//! # Custody
+//!
+//! What one process sends another arrives in order (`pt_laws`), what arrived was taken or waits, and what an exit loses is
+//! told (`pt_shard`). [`custody_holds`] says them as one, of each process, over all that happened on its node: where it is
+//! gathered, where it is settled, and over any number of pauses.
 //!
 //! # Cost
 //!
@@ -52,7 +60,7 @@
 //! of the number of journals. `replay` takes constant time for an event. Besides, it looks through the letters in
 //! flight at each receipt, and through the lists of the one process that the event is of.
 //!
-//! Tests: `checks/tried/test_calls/history.rt.txt`.
+//! Tests: `checks/tried/test_calls/history.rt.txt` and `checks/tried/test_calls/custody.rt.txt`.
 //!
 //! # What is proved
 //!
@@ -70,11 +78,30 @@
 //! - **Calls and audits.** For these five none is named, either, if each desk keeps what each of its calls keeps.
 //!   (`desk_calls_pass`)
 //! - **Worked histories.** Some histories are shown legal and quiet by computing them. (`worked_histories`)
+//! - **Each once.** Each item that came to a process was taken, waits, or was lost, and is one of these once. Those that
+//!   wait are its mailbox, in order. Those that were lost are what its losses tell, in order. (`HasEachOnce`,
+//!   `CustodyHolds`)
+//! - **In order.** What a process sent another is, in order, its messages among those items and then those on their way.
+//!   (`HasEachOnce`)
+//! - **At a node.** So it is over all that happened from the first opening on, where the desks are gathered. What is on its
+//!   way is left over from desk to desk. Once the node is settled, nothing is on its way. (`GatheredKeep`, `SettledKeep`)
+//! - **Over pauses.** So it is on the desks that are resumed, and they go on from what happened until then. So it holds over
+//!   any number of pauses. (`PausesKeep`)
+//! - **Losses that are told.** If a desk keeps its losses from the first opening on, what was lost is what it told and then
+//!   what it still keeps. So it is where the node is gathered or settled, and behind any number of pauses. (`TellsAll`,
+//!   `LossesAreTold`, `PausesTell`)
+//! - **Counts.** The messages of a process are as many as were taken, wait, were lost, and are on their way. A history in
+//!   which the lost are left out does not meet the law, nor does one in which a loss is told twice. (`EachCounts`,
+//!   `TellsEachFate`)
 #![tactic(auto)]
 
+mod custody;
+mod custody_examples;
 pub mod laws;
 pub mod links;
 
+pub use custody::{custody_holds, custody_of};
+pub use custody_examples::each_fate_is_told;
 pub use pt_events::{Event, Journal, Stamped};
 pub use pt_judge::{Cause, Holding, State, replay, replay_from};
 pub use pt_merge::merge;

@@ -1,2 +1,3 @@
 -- The lemmas that more than one function of the crate uses.
 pub mod Sound
+pub mod Naming

@@ -1,3 +1,5 @@
 pub mod Letters
 pub mod State
 pub mod Calls
+pub mod Registering
+pub mod Past

@@ -11,7 +11,7 @@ use Rattle.pt_crew.proofs.Runs.{idle_awake}
 use Rattle.pt_supervisor.specs.Keeping.{Keeps, PartOf}
 use Rattle.pt_pauses.specs.Gathering.{GatheredChildrenLive}
 use Rattle.pt_pauses.proofs.Still.{StillLaws, children_live}
-use Rattle.pt_supervisor.proofs.Resting.{awake_idle}
+use Rattle.pt_crew.proofs.Resting.{awake_idle}
 
 abbrev shard_of : DeskState → ShardState
 shard_of d = d.shard

@@ -18,7 +18,7 @@ use Rattle.pt_events.specs.declared.event.Event.TheVariants.{Said, Came, Left, R
 use Rattle.pt_events.specs.History.{Past, Start, Phase, unborn, living, ended, after, is_unborn, is_ended, is_living, life, state, leaves, gets, live_or_end, is_between, landed, flying, sent_by, got_sends, left_sends, end_sends, MaySay, May, IsLegal}
 use Rattle.pt_events.proofs.Phases.{each_branch, after_ended, after_born}
 use Rattle.pt_laws.specs.Links.{IsKnownSaid}
-use Rattle.pt_crew.proofs.Waking.{by_cases}
+use Rattle.pt_behaviour.proofs.Cases.{by_cases}
 
 -- each of a list -----------------------------------------------------------------------------------
 

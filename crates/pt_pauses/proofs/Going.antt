@@ -10,7 +10,7 @@ use Rattle.pt_node.specs.Pasts.{GoOnFrom}
 use Rattle.pt_node.proofs.Pasts.{go_on_past}
 use Rattle.pt_node.proofs.RoundByRound.{all_rounds_go_on}
 use Rattle.pt_crew.specs.declared.crew.Crew.{Crew}
-use Rattle.pt_crew.specs.Visiting.{Answers}
+use Rattle.pt_behaviour.specs.Behaving.{Answers}
 use Rattle.pt_crew.specs.Running.{CrewsDo}
 use Rattle.pt_crew.proofs.Runs.{rest_upholds, rounds_uphold, run_upholds}
 use Rattle.pt_supervisor.specs.Keeping.{Keeps, PartOf, SuperviseAs}

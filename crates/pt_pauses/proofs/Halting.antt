@@ -23,16 +23,16 @@ use Rattle.pt_workers.proofs.Meeting.{kept_count, kept_shard}
 use Rattle.pt_workers.proofs.StillDesks.{kept_desks}
 use Rattle.pt_node.specs.Gathering.{Gathers}
 use Rattle.pt_node.specs.Pasts.{GoOnFrom}
-use Rattle.pt_crew.specs.declared.behaviour.Next.TheVariants.{Stop}
+use Rattle.pt_behaviour.specs.declared.behaviour.Next.TheVariants.{Stop}
 use Rattle.pt_crew.specs.declared.crew.Crew.{Crew}
-use Rattle.pt_crew.specs.Visiting.{Answers}
+use Rattle.pt_behaviour.specs.Behaving.{Answers}
 use Rattle.pt_crew.specs.Crews.{members, queue}
 use Rattle.pt_crew.specs.Running.{UpholdsOn}
 use Rattle.pt_crew.specs.Waking.{IsAwake}
 use Rattle.pt_crew.proofs.Runs.{idle_awake}
 use Rattle.pt_supervisor.specs.Keeping.{Keeps, PartOf, SuperviseAs}
 use Rattle.pt_pauses.proofs.Still.{StillLaws, children_live, still_node}
-use Rattle.pt_supervisor.proofs.Resting.{awake_idle}
+use Rattle.pt_crew.proofs.Resting.{awake_idle}
 use Rattle.pt_pauses.proofs.Stopping.{stopped_children}
 use Rattle.pt_supervisor.proofs.Tending.{upheld}
 use Rattle.pt_epochs.specs.declared.epochs.Plan.{Plan}

@@ -17,7 +17,7 @@ use Rattle.pt_events.proofs.Fields.{linked_keeps}
 use Rattle.pt_events.proofs.Phases.{each_branch}
 use Rattle.pt_laws.specs.Watch.{is_monitor, is_open, kept_in, opens_to, open_in, said_to, says_to}
 use Rattle.pt_laws.proofs.monitoring.Keeping.{open_step, say_step}
-use Rattle.pt_crew.proofs.Waking.{by_cases}
+use Rattle.pt_behaviour.proofs.Cases.{by_cases}
 
 -- one that passes is counted
 pub some_counted : {X : Type 0} (test : X → Bool) (xs : List X) → list_any test xs ≡ true → 1 ≤ count test xs

@@ -17,9 +17,9 @@ use Rattle.pt_workers.specs.Running.{AllWork, BeginRelation, TakesTurns, Works, 
 use Rattle.pt_workers.specs.declared.stillness.Rested.{Rested}
 use Rattle.pt_node.proofs.Leftless.{still_gathered}
 use Rattle.pt_crew.specs.declared.crew.Crew.{Crew}
-use Rattle.pt_crew.specs.Visiting.{Answers}
+use Rattle.pt_behaviour.specs.Behaving.{Answers}
 use Rattle.pt_crew.specs.Running.{AllUphold, CrewsDo}
-use Rattle.pt_crew.specs.Upholding.{Relation, IsUpheld}
+use Rattle.pt_behaviour.specs.Upholding.{Relation, IsUpheld}
 use Rattle.pt_crew.proofs.Runs.{rest_upholds, run_upholds}
 use Rattle.pt_supervisor.specs.Keeping.{Keeps, PartOf, SuperviseAs}
 use Rattle.pt_pauses.specs.Gathering.{AllChildrenLive}

@@ -25,14 +25,16 @@ use Rattle.pt_desk.specs.DeskState.{DeskState}
 use Rattle.pt_workers.specs.Desks.{all_shards}
 use Rattle.pt_node.specs.Pasts.{GoOnFrom}
 use Rattle.pt_node.proofs.Pasts.{gathers_past}
-use Rattle.pt_crew.specs.declared.behaviour.Next.{Next}
-use Rattle.pt_crew.specs.declared.births.Role.{Role}
+use Rattle.pt_behaviour.specs.declared.behaviour.Next.{Next}
+use Rattle.pt_behaviour.specs.declared.births.Role.{Role}
 use Rattle.pt_crew.specs.declared.crew.Crew.{Crew}
-use Rattle.pt_crew.specs.Visiting.{Answers, AreSame}
+use Rattle.pt_behaviour.specs.Behaving.{Answers}
+use Rattle.pt_crew.specs.Visiting.{AreSame}
 use Rattle.pt_crew.specs.Crews.{AreBorn, roles, waiting}
-use Rattle.pt_crew.specs.Upholding.{AllFirst, AllStand, AllStill, StandsStill, Upholds}
+use Rattle.pt_behaviour.specs.Upholding.{AllFirst}
+use Rattle.pt_crew.specs.Upholding.{AllStand, AllStill, StandsStill, Upholds}
 use Rattle.pt_crew.specs.Running.{UpholdsOn}
-use Rattle.pt_crew.proofs.Upholding.{born_then}
+use Rattle.pt_behaviour.proofs.Upholding.{born_then}
 use Rattle.pt_supervisor.specs.Hearing.{Standing}
 use Rattle.pt_supervisor.specs.Keeping.{HoldsAs, Keeps, PartOf, SuperviseAs, WereTold}
 use Rattle.pt_pauses.proofs.Before.{desk_told}

@@ -10,10 +10,10 @@ use Rattle.pt_events.specs.History.{Past, Start, is_unborn}
 use Rattle.pt_events.specs.Journal.{IsLocal, events}
 use Rattle.pt_laws.specs.LoadLaws.{AllCame}
 use Rattle.pt_shard.specs.ShardState.{ShardState, phase_of, handled}
-use Rattle.pt_crew.specs.declared.behaviour.Next.{Next}
-use Rattle.pt_crew.specs.Visiting.{Answers}
-use Rattle.pt_crew.specs.Upholding.{Relation, IsLater, IsUpheld}
-use Rattle.pt_crew.proofs.Upholding.{alone_same, born_then, later_handled, later_same}
+use Rattle.pt_behaviour.specs.declared.behaviour.Next.{Next}
+use Rattle.pt_behaviour.specs.Behaving.{Answers}
+use Rattle.pt_behaviour.specs.Upholding.{Relation, IsLater, IsUpheld}
+use Rattle.pt_behaviour.proofs.Upholding.{alone_same, born_then, later_handled, later_same}
 
 pub came_of : (e : Event) (past : Past) → AllCame (e ∷ past) → (a : Pid) × (b : Pid) × (x : Signal) × (e ≡ Came a b x) × AllCame past
 came_of (Came a b x) past h = (a, b, x, refl, h)

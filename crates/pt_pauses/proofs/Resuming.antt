@@ -15,10 +15,10 @@ use Rattle.pt_events.specs.Journal.{IsHome, events, of_desk}
 use Rattle.pt_events.specs.Leaving.{outcome}
 use Rattle.pt_events.specs.Locality.{AllHome}
 use Rattle.pt_shard.specs.ShardState.{ShardState, phase_of, lives}
-use Rattle.pt_crew.specs.declared.behaviour.Next.{Next}
-use Rattle.pt_crew.specs.declared.behaviour.Next.TheVariants.{Proceed}
-use Rattle.pt_crew.specs.Upholding.{child_by, children_by}
-use Rattle.pt_crew.proofs.Waking.{by_cases}
+use Rattle.pt_behaviour.specs.declared.behaviour.Next.{Next}
+use Rattle.pt_behaviour.specs.declared.behaviour.Next.TheVariants.{Proceed}
+use Rattle.pt_behaviour.specs.Upholding.{child_by, children_by}
+use Rattle.pt_behaviour.proofs.Cases.{by_cases}
 use Rattle.pt_supervisor.specs.Children.{NoneLives}
 use Rattle.pt_supervisor.specs.Hearing.{Standing}
 use Rattle.pt_supervisor.specs.Keeping.{IsReady, is_cut, all_events, IsTied, IsHeld, Family, tells_end, has_told, WereTold, all_children, IsPlaced, Remembers, AreAsked, IsWatched, bids_to, Holds, HoldsAs}

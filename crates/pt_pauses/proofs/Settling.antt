@@ -27,13 +27,13 @@ use Rattle.pt_gathered.proofs.StepByStep.{settles_same}
 use Rattle.pt_gathered.proofs.Told.{journal_of}
 use Rattle.pt_desk.specs.DeskState.{DeskState}
 use Rattle.pt_node.proofs.Pasts.{gathers_past}
-use Rattle.pt_crew.specs.declared.behaviour.Next.{Next}
+use Rattle.pt_behaviour.specs.declared.behaviour.Next.{Next}
 use Rattle.pt_crew.specs.declared.crew.Crew.{Crew}
-use Rattle.pt_crew.specs.Visiting.{Answers}
+use Rattle.pt_behaviour.specs.Behaving.{Answers}
 use Rattle.pt_crew.specs.Crews.{members, queue}
-use Rattle.pt_crew.specs.Upholding.{IsUpheld}
+use Rattle.pt_behaviour.specs.Upholding.{IsUpheld}
 use Rattle.pt_crew.specs.Running.{UpholdsOn}
-use Rattle.pt_crew.proofs.Upholding.{alone_same, born_then, extends_later, later_same}
+use Rattle.pt_behaviour.proofs.Upholding.{alone_same, born_then, extends_later, later_same}
 use Rattle.pt_crew.proofs.Waking.{knows_later}
 use Rattle.pt_supervisor.specs.Keeping.{Keeps, PartOf, SuperviseAs}
 use Rattle.pt_supervisor.proofs.Tending.{upheld}

@@ -37,12 +37,12 @@ use Rattle.pt_gathered.proofs.Lawful.{legal_node, links_stand, locals, made_new,
 use Rattle.pt_gathered.proofs.Told.{journal_of}
 use Rattle.pt_workers.specs.Waking.{need_not_wait}
 use Rattle.pt_gathered.proofs.StartStates.{said_here}
-use Rattle.pt_crew.specs.declared.behaviour.Next.{Next}
-use Rattle.pt_crew.specs.declared.behaviour.Next.TheVariants.{Wait, WaitUntil, Proceed, Running, Stop}
+use Rattle.pt_behaviour.specs.declared.behaviour.Next.{Next}
+use Rattle.pt_behaviour.specs.declared.behaviour.Next.TheVariants.{Wait, WaitUntil, Proceed, Running, Stop}
 use Rattle.pt_crew.specs.declared.crew.Crew.{Crew}
 use Rattle.pt_crew.specs.Waking.{has_work}
-use Rattle.pt_crew.specs.Crews.{roles}
-use Rattle.pt_crew.proofs.Waking.{by_cases}
+use Rattle.pt_crew.specs.Crews.{roles, IsIdle}
+use Rattle.pt_behaviour.proofs.Cases.{by_cases}
 use Rattle.pt_supervisor.specs.declared.asked.Stage.{Stage}
 use Rattle.pt_supervisor.specs.declared.asked.Stage.TheVariants.{Waiting, Until, Killed}
 use Rattle.pt_supervisor.specs.declared.children.Child.{Child}
@@ -52,7 +52,7 @@ use Rattle.pt_supervisor.specs.Children.{last_alive, leaving, leaving_in, or_bef
 use Rattle.pt_supervisor.specs.Ending.{monitor_of, told_in, next_at_stage}
 use Rattle.pt_supervisor.specs.Hearing.{Standing}
 use Rattle.pt_supervisor.specs.Supervising.{EndsLast}
-use Rattle.pt_supervisor.specs.Keeping.{pid_of_child, is_end_of, has_cut, all_events, IsHeld, IsPlaced, IsWatched, IsAsked, bids_to, has_bid_to, Holds, PartOf, HoldsAs, IsIdle}
+use Rattle.pt_supervisor.specs.Keeping.{pid_of_child, is_end_of, has_cut, all_events, IsHeld, IsPlaced, IsWatched, IsAsked, bids_to, has_bid_to, Holds, PartOf, HoldsAs}
 use Rattle.pt_pauses.specs.Still.{HasTrapped, IsSpared, IsEnding, ChildLives, IsStillNode, QuietChildrenLive}
 use Rattle.pt_pauses.proofs.Homes.{born_here}
 use Rattle.pt_pauses.proofs.Opened.{keeper_lives, open_among, open_made, some_counted}

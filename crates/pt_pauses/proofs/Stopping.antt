@@ -25,11 +25,12 @@ use Rattle.pt_gathered.specs.Gathered.{GatheredState, begins, journals}
 use Rattle.pt_gathered.specs.Pasts.{GoesOnFrom}
 use Rattle.pt_gathered.proofs.Lawful.{locals, legal_node}
 use Rattle.pt_gathered.proofs.Told.{journal_of}
-use Rattle.pt_crew.specs.declared.behaviour.Next.{Next}
-use Rattle.pt_crew.specs.declared.behaviour.Next.TheVariants.{Stop}
-use Rattle.pt_crew.specs.declared.births.Role.{Role}
-use Rattle.pt_crew.specs.Upholding.{StandsStill, child_by, children_by}
-use Rattle.pt_crew.proofs.Waking.{by_cases}
+use Rattle.pt_behaviour.specs.declared.behaviour.Next.{Next}
+use Rattle.pt_behaviour.specs.declared.behaviour.Next.TheVariants.{Stop}
+use Rattle.pt_behaviour.specs.declared.births.Role.{Role}
+use Rattle.pt_behaviour.specs.Upholding.{child_by, children_by}
+use Rattle.pt_crew.specs.Upholding.{StandsStill}
+use Rattle.pt_behaviour.proofs.Cases.{by_cases}
 use Rattle.pt_supervisor.specs.Hearing.{Standing}
 use Rattle.pt_supervisor.specs.Keeping.{tells_end, has_told, WereTold, all_children, all_events, IsPlaced, PartOf, HoldsAs, Keeps}
 use Rattle.pt_pauses.specs.Stopping.{bids_end, has_bidden, IsAllBefore, StoppedChildrenEnded}

@@ -15,7 +15,7 @@ use Rattle.pt_events.specs.declared.event.Event.TheVariants.{Born, Said, Came, T
 use Rattle.pt_events.specs.History.{Past, Start, Phase, unborn, living, ended, after, gets, is_unborn, is_living, state_of, life, alive, is_between, flying, landed, sent_by, live_or_end, May, IsLegal}
 use Rattle.pt_events.proofs.Phases.{after_born, after_ended}
 use Rattle.pt_laws.specs.Links.{IsKnownSaid}
-use Rattle.pt_crew.proofs.Waking.{by_cases}
+use Rattle.pt_behaviour.proofs.Cases.{by_cases}
 use Rattle.pt_supervisor.specs.Keeping.{bids_to, has_bid_to, is_bid}
 use Rattle.pt_pauses.specs.Still.{HasTrapped}
 use Rattle.pt_pauses.proofs.Ended.{known_rest}

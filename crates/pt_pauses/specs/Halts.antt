@@ -12,7 +12,7 @@ use Rattle.pt_gathered.specs.Settling.{NothingLeft, Settles}
 use Rattle.pt_desk.specs.DeskState.{DeskState}
 use Rattle.pt_workers.specs.declared.run_fault.RunFault.{RunFault}
 use Rattle.pt_node.specs.Gathering.{Gathers}
-use Rattle.pt_crew.specs.declared.behaviour.Next.TheVariants.{Stop}
+use Rattle.pt_behaviour.specs.declared.behaviour.Next.TheVariants.{Stop}
 use Rattle.pt_crew.specs.declared.crew.Crew.{Crew}
 use Rattle.pt_crew.specs.Crews.{roles}
 use Rattle.pt_crew.specs.Running.{UpholdsOn, is_idle}

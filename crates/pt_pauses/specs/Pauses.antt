@@ -13,9 +13,9 @@ use Rattle.pt_workers.specs.declared.run_fault.RunFault.{RunFault}
 use Rattle.pt_workers.specs.declared.stillness.Rested.{Rested}
 use Rattle.pt_node.specs.Gathering.{Gathers}
 use Rattle.pt_node.specs.Pasts.{GoOnFrom}
-use Rattle.pt_crew.specs.declared.births.Role.{Role}
+use Rattle.pt_behaviour.specs.declared.births.Role.{Role}
 use Rattle.pt_crew.specs.declared.crew.Crew.{Crew}
-use Rattle.pt_crew.specs.Visiting.{Answers}
+use Rattle.pt_behaviour.specs.Behaving.{Answers}
 use Rattle.pt_crew.specs.Upholding.{AllStill}
 use Rattle.pt_crew.specs.Running.{AllUphold, CrewsDo}
 use Rattle.pt_supervisor.specs.Keeping.{Keeps, PartOf}

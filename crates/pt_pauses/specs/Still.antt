@@ -14,10 +14,10 @@ use Rattle.pt_shard.specs.ShardState.{ShardState, lives}
 use Rattle.pt_gathered.specs.Gathered.{GatheredState, IsGathered, begins, journals}
 use Rattle.pt_gathered.specs.Lawful.{IsQuietNode, LinksStand, WatchesStand}
 use Rattle.pt_gathered.specs.Pasts.{GoesOnFrom}
-use Rattle.pt_crew.specs.declared.behaviour.Next.{Next}
+use Rattle.pt_behaviour.specs.declared.behaviour.Next.{Next}
 use Rattle.pt_crew.specs.declared.crew.Crew.{Crew}
 use Rattle.pt_crew.specs.Upholding.{Upholds}
-use Rattle.pt_crew.specs.Crews.{roles}
+use Rattle.pt_crew.specs.Crews.{roles, IsIdle}
 use Rattle.pt_supervisor.specs.declared.asked.Stage.{Stage}
 use Rattle.pt_supervisor.specs.declared.asked.Stage.TheVariants.{Waiting, Until}
 use Rattle.pt_supervisor.specs.declared.children.Child.{Child}
@@ -25,7 +25,7 @@ use Rattle.pt_supervisor.specs.declared.children.Shutdown.{Shutdown}
 use Rattle.pt_supervisor.specs.Ending.{next_at_stage}
 use Rattle.pt_supervisor.specs.Hearing.{Standing}
 use Rattle.pt_supervisor.specs.Supervising.{EndsLast}
-use Rattle.pt_supervisor.specs.Keeping.{has_cut, all_events, PartOf, Keeps, IsIdle}
+use Rattle.pt_supervisor.specs.Keeping.{has_cut, all_events, PartOf, Keeps}
 
 -- as an exit signal `shutdown` of me came to q, q trapped exits
 abbrev pub HasTrapped : Start → Past → Pid → Pid → Type 0

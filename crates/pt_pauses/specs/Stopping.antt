@@ -13,8 +13,8 @@ use Rattle.pt_events.specs.Journal.{IsMerge, events}
 use Rattle.pt_shard.specs.ShardState.{ShardState}
 use Rattle.pt_gathered.specs.Gathered.{GatheredState, IsGathered, begins, journals}
 use Rattle.pt_gathered.specs.Pasts.{GoesOnFrom}
-use Rattle.pt_crew.specs.declared.behaviour.Next.TheVariants.{Stop}
-use Rattle.pt_crew.specs.declared.births.Role.{Role}
+use Rattle.pt_behaviour.specs.declared.behaviour.Next.TheVariants.{Stop}
+use Rattle.pt_behaviour.specs.declared.births.Role.{Role}
 use Rattle.pt_crew.specs.Upholding.{StandsStill}
 use Rattle.pt_supervisor.specs.Hearing.{Standing}
 use Rattle.pt_supervisor.specs.Keeping.{PartOf, Keeps, was_started, all_events}

@@ -8,14 +8,14 @@ ghost use Rattle.pt_shard.specs.declared.fault.Fault.{Fault};
 ghost use Rattle.pt_shard.specs.ShardState.{ShardState, handled};
 ghost use Rattle.pt_desk.specs.DeskState.{DeskState};
 ghost use Rattle.pt_desk.specs.declared.turned.Turned.{Turned};
-ghost use Rattle.pt_crew.specs.declared.behaviour.Next.{Next};
+ghost use Rattle.pt_behaviour.specs.declared.behaviour.Next.{Next};
 ghost use Rattle.pt_crew.specs.declared.crew.Crew.{Crew};
 ghost use Rattle.pt_crew.specs.Visiting.{Roles};
 ghost use Rattle.pt_crew.specs.Waking.{IsAwake};
-ghost use Rattle.pt_crew.specs.Crews.{CrewDoes, Enters, CrewWorks, left, members, queue, roles, waiting};
-ghost use Rattle.pt_crew.specs.declared.births.Role.{Role};
+ghost use Rattle.pt_crew.specs.Crews.{CrewDoes, Enters, CrewWorks, left, members, queue, roles, waiting, IsIdle};
+ghost use Rattle.pt_behaviour.specs.declared.births.Role.{Role};
 ghost use Rattle.pt_crew.specs.Upholding.{AllStand, AllStill, Upholds};
-ghost use Rattle.pt_supervisor.specs.Keeping.{SupervisorBegins, IsIdle, Keeps};
+ghost use Rattle.pt_supervisor.specs.Keeping.{SupervisorBegins, Keeps};
 ghost use Rattle.pt_pauses.specs.Still.{QuietChildrenLive};
 ghost use Rattle.pt_pauses.specs.Stopping.{StoppedChildrenEnded};
 

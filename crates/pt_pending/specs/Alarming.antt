@@ -7,10 +7,10 @@ use Rattle.pt_timers.specs.Calls.{Cancels, IsFirstDue, NoneDue}
 use Rattle.pt_shard.specs.declared.fault.Fault.{Fault}
 use Rattle.pt_shard.specs.declared.fault.Fault.TheVariants.{NoProc}
 use Rattle.pt_desk.specs.DeskState.{DeskState}
-use Rattle.pt_crew.specs.declared.call_fault.CallFault.{CallFault}
-use Rattle.pt_crew.specs.declared.call_fault.CallFault.TheVariants.{Unknown, Refused}
+use Rattle.pt_behaviour.specs.declared.call_fault.CallFault.{CallFault}
+use Rattle.pt_behaviour.specs.declared.call_fault.CallFault.TheVariants.{Unknown, Refused}
 use Rattle.pt_pending.specs.declared.alarms.Alarm.{Alarm}
-use Rattle.pt_crew.specs.Telling.{SendsTo}
+use Rattle.pt_behaviour.specs.Telling.{SendsTo}
 
 -- those that are still to be sent, each under its timer
 abbrev pub AlarmsState : Type 0

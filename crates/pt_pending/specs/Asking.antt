@@ -9,11 +9,11 @@ use Rattle.pt_signal.specs.Values.{is_pid}
 use Rattle.pt_shard.specs.declared.fault.Fault.{Fault}
 use Rattle.pt_shard.specs.declared.fault.Fault.TheVariants.{NoProc}
 use Rattle.pt_desk.specs.DeskState.{DeskState}
-use Rattle.pt_crew.specs.declared.call_fault.CallFault.{CallFault}
-use Rattle.pt_crew.specs.declared.call_fault.CallFault.TheVariants.{Refused}
+use Rattle.pt_behaviour.specs.declared.call_fault.CallFault.{CallFault}
+use Rattle.pt_behaviour.specs.declared.call_fault.CallFault.TheVariants.{Refused}
 use Rattle.pt_pending.specs.declared.ask_fault.AskFault.{AskFault}
 use Rattle.pt_pending.specs.declared.ask_fault.AskFault.TheVariants.{Unasked, LeftOpen}
-use Rattle.pt_crew.specs.Telling.{SendsTo, Watches, Unwatches}
+use Rattle.pt_behaviour.specs.Telling.{SendsTo, Watches, Unwatches}
 use Rattle.pt_pending.specs.declared.pending.Pending.{Pending}
 use Rattle.pt_pending.specs.declared.request.Request.{Request}
 

@@ -17,7 +17,7 @@ use Rattle.pt_desk.specs.DeskState.{DeskState}
 use Rattle.pt_pending.specs.declared.pending.Pending.{Pending}
 use Rattle.pt_pending.specs.declared.pending.Heard.{Heard}
 use Rattle.pt_pending.specs.Asking.{speaks_of}
-use Rattle.pt_crew.specs.Telling.{Unwatches}
+use Rattle.pt_behaviour.specs.Telling.{Unwatches}
 
 -- the call waits for its answer, or for the end of its server
 abbrev pub is_pending : Pending → Bool

@@ -4,9 +4,9 @@ ghost use Rattle.std.specs.Prelude.{◌≡◌, ◌+◌, IfOk, MatchOption, cond,
 ghost use Rattle.pt_timers.specs.Calls.{Cancels, IsFirstDue, IsNext, IsNone, NoneDue, Starts};
 ghost use Rattle.pt_desk.specs.DeskState.{GoesOn};
 ghost use Rattle.pt_pending.specs.Alarming.{Rings, RingsFirst, TellsAlarm};
-ghost use Rattle.pt_crew.specs.Visiting.{takes};
+ghost use Rattle.pt_behaviour.specs.Behaving.{takes};
 
-use pt_crew::{CallFault, send};
+use pt_behaviour::{CallFault, send};
 use pt_timers::{StartError, Timer, Timers};
 use pt_workers::{Body, Desk, Fault, Pid};
 use std::alloc::Global;

@@ -1,6 +1,6 @@
 //! Why a request was not sent.
 
-use pt_crew::CallFault;
+use pt_behaviour::CallFault;
 use pt_workers::Ref;
 use thiserror::Error;
 
@@ -11,7 +11,7 @@ pub enum AskFault {
     #[error("{0}")]
     Unasked(CallFault),
     /// It could not be sent, for this reason, and cancelling its monitor failed too. The monitor is still open:
-    /// [`demonitor`](pt_crew::demonitor) cancels it. If it is left, its `DOWN` may arrive, and belongs to no call.
+    /// [`demonitor`](pt_behaviour::demonitor) cancels it. If it is left, its `DOWN` may arrive, and belongs to no call.
     #[error("{0}, and its monitor is still open")]
     LeftOpen(CallFault, Ref),
 }

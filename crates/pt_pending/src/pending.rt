@@ -2,7 +2,7 @@
 
 ghost use Rattle.std.specs.Prelude.{◌≡◌, ◌<◌, ◌^◌, None, Some, false, pos};
 ghost use Rattle.pt_desk.specs.DeskState.{GoesOn};
-ghost use Rattle.pt_crew.specs.Visiting.{takes};
+ghost use Rattle.pt_behaviour.specs.Behaving.{takes};
 ghost use Rattle.pt_pending.specs.Asking.{Asks, refusal, unsent_fault};
 ghost use Rattle.pt_pending.specs.Ending.{Closes, EndsFirst, EndsOnce, Expires, IsGivenUp, after_item, after_moment};
 ghost use Rattle.pt_pending.specs.Ending.{heard_by_call, is_answer_to_call, is_due, is_expired, is_pending, monitor_left};
@@ -10,7 +10,7 @@ ghost use Rattle.pt_pending.specs.Ending.{noting, says_to_call, waits_until};
 
 use crate::ask_fault::AskFault;
 use crate::request::speaks_of;
-use pt_crew::{CallFault, demonitor, monitor, send};
+use pt_behaviour::{CallFault, demonitor, monitor, send};
 use pt_workers::{Body, Desk, Fault, Item, Pid, Reason, Ref};
 
 /// What an item means to a call.

@@ -2,11 +2,11 @@
 
 ghost use Rattle.std.specs.Prelude.{◌≡◌};
 ghost use Rattle.pt_desk.specs.DeskState.{GoesOn};
-ghost use Rattle.pt_crew.specs.Visiting.{takes};
+ghost use Rattle.pt_behaviour.specs.Behaving.{takes};
 ghost use Rattle.pt_pending.specs.Asking.{answer, request_of, speaks_of};
-ghost use Rattle.pt_crew.specs.Telling.{SendsTo};
+ghost use Rattle.pt_behaviour.specs.Telling.{SendsTo};
 
-use pt_crew::{CallFault, send};
+use pt_behaviour::{CallFault, send};
 use pt_workers::{Body, Desk, Item, Pid};
 
 /// A request that arrived: who asks, under which number, and what.

@@ -5,7 +5,7 @@ use mathlib.Core.List.{IsPrefix}
 use Rattle.rtrb.specs.Ring.{SameConsumer}
 use Rattle.rtrb.specs.declared.consumer.Consumer.{Consumer}
 use Rattle.pt_signal.specs.declared.pid.Pid.{Pid}
-use Rattle.pt_crew.specs.declared.call_fault.CallFault.{CallFault}
+use Rattle.pt_behaviour.specs.declared.call_fault.CallFault.{CallFault}
 use Rattle.pt_desk.specs.DeskState.{DeskState}
 use Rattle.pt_resting.specs.declared.door.Post.{Post}
 use Rattle.pt_resting.specs.Bringing.{PorterTells, IsDone, SendsOn, KeepsFront, BringsFirst, Brings}

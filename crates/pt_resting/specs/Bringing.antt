@@ -3,9 +3,9 @@ use Rattle.std.specs.Prelude.{◌≡◌, ◌⊎◌, ⊤, ℕ, ◌≤◌, Bool, t
 use Rattle.pt_signal.specs.declared.pid.Pid.{Pid}
 use Rattle.pt_shard.specs.declared.fault.Fault.TheVariants.{NoProc}
 use Rattle.pt_desk.specs.DeskState.{DeskState}
-use Rattle.pt_crew.specs.declared.call_fault.CallFault.{CallFault}
-use Rattle.pt_crew.specs.declared.call_fault.CallFault.TheVariants.{Unknown, Refused}
-use Rattle.pt_crew.specs.Telling.{SendsTo}
+use Rattle.pt_behaviour.specs.declared.call_fault.CallFault.{CallFault}
+use Rattle.pt_behaviour.specs.declared.call_fault.CallFault.TheVariants.{Unknown, Refused}
+use Rattle.pt_behaviour.specs.Telling.{SendsTo}
 use Rattle.pt_resting.specs.declared.door.Post.{Post}
 
 -- the desk was asked to send the message of `me`, and answered so

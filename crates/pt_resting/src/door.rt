@@ -10,7 +10,7 @@ ghost use Rattle.pt_resting.specs.Views.{IsSameDoor, most_of, rings_at, sender, 
 
 use crate::bells::Bells;
 use crate::resting::Rests;
-use pt_crew::{CallFault, send};
+use pt_behaviour::{CallFault, send};
 use pt_workers::{Body, Desk, Fault, Pid, Turned, Work};
 use rtrb::{Consumer, Producer, PushError, RingBuffer};
 use std::alloc::{AllocError, Global};

@@ -5,7 +5,8 @@ ghost use Rattle.pt_shard.specs.ShardState.{ShardState};
 ghost use Rattle.pt_crew.specs.Crews.{Attends, IsNextTime, queue, waiting};
 
 use crate::bells::Bells;
-use pt_crew::{Behaviour, Crew};
+use pt_behaviour::Behaviour;
+use pt_crew::Crew;
 use pt_workers::{Desk, Event, Stamped, Turned, Work};
 use std::marker::Model;
 

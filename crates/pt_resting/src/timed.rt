@@ -4,7 +4,8 @@ ghost use Rattle.std.specs.Prelude.{◌≡◌, ⊤, ℕ};
 ghost use Rattle.pt_resting.specs.Timing.{SetsTime};
 
 use crate::resting::Rests;
-use pt_crew::{Behaviour, Crew};
+use pt_behaviour::Behaviour;
+use pt_crew::Crew;
 use pt_workers::{Desk, Turned, Work};
 use std::marker::Model;
 use std::time::Duration;

@@ -7,13 +7,14 @@ use Rattle.pt_signal.proofs.Same.{same_pid_refl}
 use Rattle.pt_events.specs.History.{Past, Phase, is_unborn}
 use Rattle.pt_shard.specs.ShardState.{ShardState, phase_of}
 use Rattle.pt_desk.proofs.Turning.{extends}
-use Rattle.pt_crew.specs.declared.behaviour.Next.{Next}
+use Rattle.pt_behaviour.specs.declared.behaviour.Next.{Next}
 use Rattle.pt_crew.specs.Visiting.{AreWith}
 use Rattle.pt_crew.specs.Crews.{Attends, IsSame, KeepsRest, queue, roles, waiting}
 use Rattle.pt_crew.specs.Redirecting.{IsRedirected}
-use Rattle.pt_crew.specs.Upholding.{AllFirst}
+use Rattle.pt_behaviour.specs.Upholding.{AllFirst}
 use Rattle.pt_crew.proofs.Visiting.{rest_then}
-use Rattle.pt_crew.proofs.Waking.{same_some, there}
+use Rattle.pt_behaviour.proofs.Cases.{same_some}
+use Rattle.pt_crew.proofs.Waking.{there}
 use Rattle.pt_supervisor.specs.declared.asked.Stage.{Stage}
 use Rattle.pt_supervisor.specs.declared.asked.Stage.TheVariants.{Gone, Watched, Waiting, Until, Killed}
 use Rattle.pt_supervisor.specs.declared.child_fault.ChildFault.{ChildFault}
@@ -191,7 +192,7 @@ module _ (p : Pid) (boss later : Supervisor Plan) (rest : Member) (old mid new :
   pub asked_attends : (d : ShardState) → SchedulerAttends old d → SchedulerAttends new d
   asked_attends d a = attends_then old new d d a (extends d) (puts.attends d (out.other.attends d a.crew)) (fresh_is (waiting old.crew) (waiting new.crew) asked_rest.waiting a.fresh)
       (puts.read ∙ out.other.read)
-      (changed_comes old new d p out.behaviour (record (out.behaviour) { boss = Some later }) out.before its_next a out.was asked_now refl (a.empty p out.behaviour out.before out.was))
+      (changed_comes old new d p out.behaviour (record (out.behaviour) { boss = Some later }) out.before its_next a out.was asked_now refl)
 
   pub asked_upholds : {A : Type 0} (result : Result A ChildFault) → taken ≡ is_ok result → HoldsWhere (standing boss) (standing later) → RemembersWhere (standing boss) (standing later) → OnErr result (standing later ≡ standing boss)
       → (past : Past) (d : ShardState) → SchedulerUpholds past old d → SchedulerUpholds past new d

@@ -6,13 +6,14 @@ use Rattle.pt_signal.proofs.Same.{same_pid_refl}
 use Rattle.std.specs.Prelude.{Bool, true, false, cond, MatchBool, List}
 use Rattle.pt_shard.specs.ShardState.{ShardState}
 use Rattle.pt_desk.proofs.Turning.{extends}
-use Rattle.pt_crew.specs.declared.behaviour.Next.{Next}
-use Rattle.pt_crew.specs.declared.behaviour.Next.TheVariants.{Proceed}
+use Rattle.pt_behaviour.specs.declared.behaviour.Next.{Next}
+use Rattle.pt_behaviour.specs.declared.behaviour.Next.TheVariants.{Proceed}
 use Rattle.pt_crew.specs.Visiting.{AreWith, Roles}
 use Rattle.pt_crew.specs.Crews.{IsSame, roles, waiting}
 use Rattle.pt_crew.specs.Stepping.{IsAnswered}
 use Rattle.pt_crew.proofs.Visiting.{rest_then}
-use Rattle.pt_crew.proofs.Waking.{by_cases, elsewhere, there}
+use Rattle.pt_behaviour.proofs.Cases.{by_cases}
+use Rattle.pt_crew.proofs.Waking.{elsewhere, there}
 use Rattle.pt_supervisor.specs.declared.supervisor.Supervisor.{Supervisor}
 use Rattle.pt_scheduler.specs.declared.member.Member.{Member}
 use Rattle.pt_scheduler.specs.declared.plan.ChildSpec.{ChildSpec}
@@ -45,7 +46,7 @@ module _ (p : Pid) (spec : SupervisorSpec) (children : List ChildSpec) (boss : S
   attends_became d a =
       let here = there (roles old.crew) (roles mid.crew) p (Some (answered.behaviour, Proceed)) answered.does p (same_pid_refl p) in
       attends_then mid new d d a (extends d) (rest.attends d a.crew) (fresh_is (waiting mid.crew) (waiting new.crew) rest.rest.waiting a.fresh) rest.read
-      (changed_comes mid new d p answered.behaviour (record (answered.behaviour) { boss = Some boss }) Proceed Proceed a here (sets.set answered.behaviour Proceed here) refl (a.empty p answered.behaviour Proceed here))
+      (changed_comes mid new d p answered.behaviour (record (answered.behaviour) { boss = Some boss }) Proceed Proceed a here (sets.set answered.behaviour Proceed here) refl)
 
 -- the answer was taken
 pub was_answered : (p : Pid) (old mid : Scheduler) (yes : Bool) → yes ≡ true → MatchBool yes (IsAnswered p Proceed old.crew mid.crew) (IsSame old.crew mid.crew) → IsAnswered p Proceed old.crew mid.crew

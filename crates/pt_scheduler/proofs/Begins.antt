@@ -2,10 +2,10 @@
 use Rattle.std.proofs.Common.{◌≡◌, ℕ, List, [], ◌∷◌, ◌++◌, Option, Some, None, Ok, sym, ap, subst, ◌∙◌, append-nil}
 use Rattle.std.proofs.Math.Seq.{drop-append_seam}
 use Rattle.pt_signal.specs.declared.pid.Pid.{Pid}
-use Rattle.pt_crew.specs.declared.behaviour.Next.{Next}
-use Rattle.pt_crew.specs.declared.behaviour.Next.TheVariants.{Proceed}
-use Rattle.pt_crew.specs.declared.births.Role.{Role}
-use Rattle.pt_crew.specs.Births.{bore}
+use Rattle.pt_behaviour.specs.declared.behaviour.Next.{Next}
+use Rattle.pt_behaviour.specs.declared.behaviour.Next.TheVariants.{Proceed}
+use Rattle.pt_behaviour.specs.declared.births.Role.{Role}
+use Rattle.pt_behaviour.specs.Births.{bore}
 use Rattle.pt_supervisor.specs.Keeping.{AllStarted, SupervisorBegins}
 use Rattle.pt_scheduler.specs.declared.member.Member.{Member}
 use Rattle.pt_scheduler.specs.declared.plan.Plan.{Plan}
@@ -38,6 +38,6 @@ pub all_fresh : (me : Pid) (rs : List (Role Member)) → AllStarted starts_post 
 all_fresh me [] a = tt
 all_fresh me (r ∷ rs) a =
     let c = is_child_of me (post_at a.0.0 a.0.1) r.behaviour r.next a.0.3.1 in (
-      (ap (λ (b : Member). b.notes.handed) c.1, ap (λ (b : Member). b.notes.ended) c.1),
+      ap (λ (b : Member). b.notes.ended) c.1,
       all_fresh me rs a.1,
     )

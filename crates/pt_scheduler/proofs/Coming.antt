@@ -1,4 +1,4 @@
--- A process that is come to, whose behaviour is a member.
+-- A process that is come to, whose behaviour is a member, and what is told of it.
 use Rattle.std.proofs.Common.{◌≡◌, ◌⊎◌, inl, inr, ℕ, Bool, true, false, cond, List, [], ◌∷◌, ◌++◌, Option, Some, None, Result, Ok, Err, refl, sym, ap, subst, ◌∙◌}
 use Rattle.std.specs.Prelude.{MatchBool, nat_le}
 use Rattle.std.specs.Option.{option_map}
@@ -17,38 +17,47 @@ use Rattle.pt_shard.specs.ShardState.{ShardState, lives, phase_of, shard_after, 
 use Rattle.pt_shard.specs.Calls.{Calls, after_if, take_event, first_match}
 use Rattle.pt_events.specs.History.{Phase, unborn, living, ended, after, is_living, leaves, touches}
 use Rattle.pt_events.proofs.Phases.{each_branch}
-use Rattle.pt_crew.specs.declared.behaviour.Next.{Next}
-use Rattle.pt_crew.specs.declared.behaviour.Next.TheVariants.{Wait, WaitUntil, Proceed, Running, Stop}
-use Rattle.pt_crew.specs.declared.births.Role.{Role}
+use Rattle.pt_behaviour.specs.declared.behaviour.Next.{Next}
+use Rattle.pt_behaviour.specs.declared.behaviour.Next.TheVariants.{Wait, WaitUntil, Proceed, Running, Stop}
+use Rattle.pt_behaviour.specs.declared.births.Role.{Role}
 use Rattle.pt_crew.specs.declared.crew.Tended.{Tended}
 use Rattle.pt_crew.specs.declared.crew.Tended.TheVariants.{Idle, Done, Refused, Gone as Ended}
-use Rattle.pt_crew.specs.Visiting.{ComesTo, EndsAs, HandsTo, LeavesAs, SeesTo, StaysAs, TakesAs, handed_as, handed_by, is_refused, leaves_crew, takes}
+use Rattle.pt_crew.specs.Outside.{tells_or}
+use Rattle.pt_behaviour.specs.Behaving.{Answers, pick_of, takes}
+use Rattle.pt_crew.specs.Visiting.{ComesTo, EndsAs, HandsTo, LeavesAs, SeesTo, StaysAs, TakesAs, handed_as, handed_by, is_refused, leaves_crew}
 use Rattle.pt_crew.specs.Handing.{MayBeHanded, item_handed}
-use Rattle.pt_crew.specs.Upholding.{GoesOnWithout, ItemIsTaken}
-use Rattle.pt_crew.specs.Waking.{pick_of}
+use Rattle.pt_behaviour.specs.Upholding.{GoesOnWithout, ItemIsTaken}
 use Rattle.pt_crew.proofs.Handing.{found_fits}
-use Rattle.pt_crew.proofs.Takes.{left_takes, one_taken}
+use Rattle.pt_behaviour.proofs.Cases.{same_some}
+use Rattle.pt_behaviour.proofs.Takes.{left_takes, one_taken}
 use Rattle.pt_supervisor.specs.declared.supervisor.Supervisor.{Supervisor}
+use Rattle.pt_scheduler.specs.declared.member.Job.{Job}
 use Rattle.pt_scheduler.specs.declared.member.Member.{Member}
 use Rattle.pt_scheduler.specs.declared.plan.Plan.{Plan}
 use Rattle.pt_scheduler.specs.Exits.{exit_in, exit_reason, noted_reason, reason_told}
-use Rattle.pt_scheduler.specs.Members.{AnswersBy, BossHandles, member_answers}
+use Rattle.pt_scheduler.specs.Members.{AnswersBy, BossHandles, TellsBy, member_answers, member_tells, what_of}
 use Rattle.pt_scheduler.specs.Scheduling.{HasExited, HasNothing}
 
-module _ (time : ℕ) (p : Pid) (b : Member) (n : Next) (births : List (Role Member)) (d : ShardState) where
-  -- it was handed something, and is running
+-- what may be told of the process in front of a queue, that was to do this
+abbrev pub told_answers : Option Next → Option Job → Answers Member
+told_answers = tells_or member_answers member_tells
+
+module _ (told : Option Job) (time : ℕ) (p : Pid) (b : Member) (n : Next) (births : List (Role Member)) (d : ShardState) where
+  -- the outside was told of it, and it is running
   pub record WasHanded (t : Tended) (now : Option (Member × Next)) (e : ShardState) : Type 0 where
     pub item : Option Item
     pub outside : b.boss ≡ None
     pub may : MayBeHanded time n item
     pub taken : ItemIsTaken p n item d e
-    pub now_is : now ≡ Some (record b { notes = record (b.notes) { handed = Some item } }, Running)
+    pub says : told ≡ Some (record { pid = p; tag = b.tag; what = what_of b.notes.begun b.origin (Some n) item })
+    pub now_is : now ≡ Some (record b { notes = record (b.notes) { begun = true } }, Running)
     pub takes : takes e.journal ≡ item_handed p item ++ takes d.journal
     pub tended : t ≡ Done
     pub bare : births ≡ []
 
   -- it is a supervisor, and handled something
   pub record HasHandled (t : Tended) (now : Option (Member × Next)) (e : ShardState) : Type 0 where
+    pub silent : told ≡ None
     pub item : Option Item
     pub boss : Supervisor Plan
     pub inside : b.boss ≡ Some boss
@@ -75,7 +84,7 @@ module _ (time : ℕ) (p : Pid) (b : Member) (n : Next) (births : List (Role Mem
     pub takes : takes e.journal ≡ takes d.journal
     pub exits : HasExited p n d e
     pub gone : lives e p ≡ false
-    pub told : b.notes.ended ≡ exit_in p d.journal → reason_told (lives d p) n (noted_reason b.notes.ended b.notes.lost) ≡ exit_reason p e.journal b.notes.lost
+    pub reason : b.notes.ended ≡ exit_in p d.journal → reason_told (lives d p) n (noted_reason b.notes.ended b.notes.lost) ≡ exit_reason p e.journal b.notes.lost
 
   abbrev pub MemberComes : Tended → Option (Member × Next) → ShardState → Type 0
   MemberComes t now e = WasHanded t now e ⊎ (HasHandled t now e ⊎ (HasStayed t now e ⊎ HasLeft t now e))
@@ -141,22 +150,19 @@ dead_told : (alive : Bool) (n : Next) (noted lost : Option Reason) (p : Pid) (jo
 dead_told true n noted lost p journal dead is = absurd (cc)
 dead_told false n noted lost p journal dead is = ap (λ (o : Option Reason). noted_reason o lost) is
 
-module _ (time : ℕ) (p : Pid) (b : Member) (n : Next) (d e : ShardState) (t : Tended) (now : Option (Member × Next)) (births : List (Role Member)) where
-  hands_it : (item : Option Item) (mid : ShardState) → MayBeHanded time n item → ItemIsTaken p n item d mid → takes mid.journal ≡ item_handed p item ++ takes d.journal → HandsTo (member_answers time) p b item mid t now e births → MemberComes time p b n births d t now e
-  hands_it item mid may taken took h = go b.boss refl h.answer.1
+module _ (front : Option Next) (told : Option Job) (time : ℕ) (p : Pid) (b : Member) (n : Next) (front_is : front ≡ Some n) (d e : ShardState) (t : Tended) (now : Option (Member × Next)) (births : List (Role Member)) where
+  hands_it : (item : Option Item) (mid : ShardState) → MayBeHanded time n item → ItemIsTaken p n item d mid → takes mid.journal ≡ item_handed p item ++ takes d.journal → HandsTo (told_answers front told time) p b item mid t now e births → MemberComes told time p b n births d t now e
+  hands_it item mid may taken took h = go told refl h.answer
     where
-      go : (o : Option (Supervisor Plan)) → b.boss ≡ o → AnswersBy o time b mid p item h.next h.behaviour e births → MemberComes time p b n births d t now e
-      go None is a = inl (record {
-        item = item;
-        outside = is;
-        may = may;
-        taken = subst (λ (x : ShardState). ItemIsTaken p n item d x) (sym a.2) taken;
-        now_is = h.now_is ∙ (λ j. Some (a.1 j, a.0 j));
-        takes = h.takes ∙ took;
-        tended = h.tended ∙ ap (λ (k : Next). handed_as k (phase_of e p)) a.0 ∙ running_done (phase_of e p) (ap (λ (x : ShardState). lives x p) a.2 ∙ taken_lives p n item d mid taken);
-        bare = a.3;
-      })
-      go (Some boss) is a = inr (inl (record {
+      -- it is what it was to do that is told
+      was_next : (before : Next) → front ≡ Some before → before ≡ n
+      was_next before is = same_some before n (sym is ∙ front_is)
+
+      -- a supervisor
+      boss_by : told ≡ None → (o : Option (Supervisor Plan)) → b.boss ≡ o → AnswersBy o time b mid p item h.next h.behaviour e births → (x : Member) → TellsBy o p n item b None x → MemberComes told time p b n births d t now e
+      boss_by silent None is a x tells = absurd (let bad = tells.0 in cc)
+      boss_by silent (Some boss) is a x tells = inr (inl (record {
+        silent = silent;
         item = item;
         boss = boss;
         inside = is;
@@ -166,36 +172,63 @@ module _ (time : ℕ) (p : Pid) (b : Member) (n : Next) (d e : ShardState) (t : 
         next = h.next;
         later = a.0;
         handles = a.2;
-        now_is = h.now_is ∙ ap (λ (x : Member). Some (x, h.next)) a.1;
+        now_is = h.now_is ∙ ap (λ (y : Member). Some (y, h.next)) a.1;
         takes = h.takes ∙ took;
         tended = h.tended;
       }))
 
-  stays_so : (came : Tended) (mid : ShardState) → mid ≡ d → ((came ≡ Idle) × HasNothing time p n d) ⊎ (came ≡ Refused) → StaysAs came (b, n) mid t now e → MemberComes time p b n births d t now e
+      -- one whose handler is outside
+      told_by : (job : Job) → told ≡ Some job → h.next ≡ Running → e ≡ mid → births ≡ [] → (o : Option (Supervisor Plan)) → b.boss ≡ o → TellsBy o p n item b (Some job) h.behaviour → MemberComes told time p b n births d t now e
+      told_by job is runs same bare (Some boss) inside tells = absurd (let bad = tells.0 in cc)
+      told_by job is runs same bare None inside tells = inl (record {
+        item = item;
+        outside = inside;
+        may = may;
+        taken = subst (λ (x : ShardState). ItemIsTaken p n item d x) (sym same) taken;
+        says = is ∙ tells.0;
+        now_is = h.now_is ∙ (λ j. Some (tells.1 j, runs j));
+        takes = h.takes ∙ took;
+        tended = h.tended ∙ ap (λ (k : Next). handed_as k (phase_of e p)) runs ∙ running_done (phase_of e p) (ap (λ (x : ShardState). lives x p) same ∙ taken_lives p n item d mid taken);
+        bare = bare;
+      })
+
+      -- one of whom nothing is told stays the member that it was
+      same_member : (o : Option (Supervisor Plan)) (before : Next) (x : Member) → TellsBy o p before item b None x → x ≡ b
+      same_member None before x tells = absurd (let bad = tells.0 in cc)
+      same_member (Some boss) before x tells = tells.1
+
+      go : (o : Option Job) → told ≡ o → tells_or member_answers member_tells front o time b mid p item h.next h.behaviour e births → MemberComes told time p b n births d t now e
+      go (Some job) is a =
+          told_by job is a.3 a.4 a.5 b.boss refl (subst (λ (k : Next). TellsBy b.boss p k item b (Some job) h.behaviour) (was_next a.0 a.1) a.2)
+      go None is a =
+          boss_by is b.boss refl (subst (λ (x : Member). AnswersBy x.boss time x mid p item h.next h.behaviour e births) (same_member b.boss a.0 a.1 a.3) a.4.1)
+          a.1 (subst (λ (k : Next). TellsBy b.boss p k item b None a.1) (was_next a.0 a.2) a.3)
+
+  stays_so : (came : Tended) (mid : ShardState) → mid ≡ d → ((came ≡ Idle) × HasNothing time p n d) ⊎ (came ≡ Refused) → StaysAs came (b, n) mid t now e → MemberComes told time p b n births d t now e
   stays_so came mid same is h = inr (inr (inl (record {
     now_is = h.1;
     desk = h.2 ∙ same;
     tended = elim is [ inl k ↦ inl (h.0 ∙ k.0, k.1) | inr k ↦ inr (h.0 ∙ k) ];
   })))
 
-  left_so : (mid : ShardState) → mid ≡ d → lives d p ≡ false → LeavesAs mid t now e → MemberComes time p b n births d t now e
+  left_so : (mid : ShardState) → mid ≡ d → lives d p ≡ false → LeavesAs mid t now e → MemberComes told time p b n births d t now e
   left_so mid same dead h = inr (inr (inr (record {
     tended = h.0;
     now_is = h.1;
     takes = ap (λ (x : ShardState). takes x.journal) (h.2 ∙ same);
     exits = inl (dead, h.2 ∙ same);
     gone = ap (λ (x : ShardState). lives x p) (h.2 ∙ same) ∙ dead;
-    told = λ noted. dead_told (lives d p) n b.notes.ended b.notes.lost p d.journal dead noted ∙ ap (λ (x : ShardState). exit_reason p x.journal b.notes.lost) (sym (h.2 ∙ same));
+    reason = λ noted. dead_told (lives d p) n b.notes.ended b.notes.lost p d.journal dead noted ∙ ap (λ (x : ShardState). exit_reason p x.journal b.notes.lost) (sym (h.2 ∙ same));
   })))
 
-  asked : (r : Reason) → n ≡ Stop r → (result : Result (Unit {0}) Fault) → Calls p (Some (Left p r)) (tt {0}) d result e → EndsAs (b, n) result t now → MemberComes time p b n births d t now e
+  asked : (r : Reason) → n ≡ Stop r → (result : Result (Unit {0}) Fault) → Calls p (Some (Left p r)) (tt {0}) d result e → EndsAs (b, n) result t now → MemberComes told time p b n births d t now e
   asked r is (Ok x) calls ends = inr (inr (inr (record {
     tended = ends.0;
     now_is = ends.1;
     takes = left_takes p r d e (Ok x) calls;
     exits = inr (r, is, calls.0, calls.3);
     gone = ap (λ (x : ShardState). lives x p) calls.3 ∙ left_dead p r d;
-    told = λ noted.
+    reason = λ noted.
         (λ j. reason_told (calls.0 j) (is j) (noted_reason b.notes.ended b.notes.lost))
         ∙ sym (ap (λ (o : Option Reason). noted_reason o b.notes.lost) (ap (λ (x : ShardState). exit_in p x.journal) calls.3 ∙ ap (λ c. cond c (Some r) (exit_in p d.journal)) (same_pid_refl p)));
   })))
@@ -205,7 +238,7 @@ module _ (time : ℕ) (p : Pid) (b : Member) (n : Next) (d e : ShardState) (t : 
     takes = left_takes p r d e (Err Gone) calls;
     exits = inl (calls.0, calls.1);
     gone = ap (λ (x : ShardState). lives x p) calls.1 ∙ calls.0;
-    told = λ noted. dead_told (lives d p) n b.notes.ended b.notes.lost p d.journal calls.0 noted ∙ ap (λ (x : ShardState). exit_reason p x.journal b.notes.lost) (sym calls.1);
+    reason = λ noted. dead_told (lives d p) n b.notes.ended b.notes.lost p d.journal calls.0 noted ∙ ap (λ (x : ShardState). exit_reason p x.journal b.notes.lost) (sym calls.1);
   })))
   asked r is (Err Memory) calls ends = inr (inr (inl (record { now_is = ends.1; desk = calls.3; tended = inr ends.0 })))
   asked r is (Err Worn) calls ends = inr (inr (inl (record { now_is = ends.1; desk = calls.3; tended = inr ends.0 })))
@@ -213,13 +246,13 @@ module _ (time : ℕ) (p : Pid) (b : Member) (n : Next) (d e : ShardState) (t : 
   asked r is (Err Myself) calls ends = absurd calls
   asked r is (Err NoProc) calls ends = absurd calls
 
-  none_left : (over : Bool) (mid : ShardState) → mid ≡ d → lives d p ≡ true → (over ≡ true → MayBeHanded time n None) → (over ≡ true → GoesOnWithout p n d) → (over ≡ false → HasNothing time p n d) → MatchBool over (HandsTo (member_answers time) p b None mid t now e births) (StaysAs Idle (b, n) mid t now e) → MemberComes time p b n births d t now e
+  none_left : (over : Bool) (mid : ShardState) → mid ≡ d → lives d p ≡ true → (over ≡ true → MayBeHanded time n None) → (over ≡ true → GoesOnWithout p n d) → (over ≡ false → HasNothing time p n d) → MatchBool over (HandsTo (told_answers front told time) p b None mid t now e births) (StaysAs Idle (b, n) mid t now e) → MemberComes told time p b n births d t now e
   none_left true mid same alive may without nothing h = hands_it None mid (may refl) (without refl, alive, same) (ap (λ (x : ShardState). takes x.journal) same) h
   none_left false mid same alive may without nothing h = stays_so Idle mid same (inl (refl, nothing refl)) h
 
   took : (k : Pick) (over : Bool) (result : Result (Option Item) Fault) (mid : ShardState) → pick_of n ≡ Some k → (over ≡ true → MayBeHanded time n None)
       → (over ≡ true → first_match d p k ≡ None → GoesOnWithout p n d) → (over ≡ false → lives d p ≡ true → first_match d p k ≡ None → HasNothing time p n d) → Calls p (take_event d p k) (first_match d p k) d result mid
-      → TakesAs (member_answers time) p (b, n) over mid result t now e births → MemberComes time p b n births d t now e
+      → TakesAs (told_answers front told time) p (b, n) over mid result t now e births → MemberComes told time p b n births d t now e
   took k over (Ok None) mid picks may without nothing calls h =
       none_left over mid (calls.3 ∙ ap (λ (o : Option Item). after_if (option_map (Took p k) o) d) (sym calls.2)) calls.0 may (λ is. without is (sym calls.2)) (λ is. nothing is calls.0 (sym calls.2)) h
   took k over (Ok (Some i)) mid picks may without nothing calls h =
@@ -232,29 +265,29 @@ module _ (time : ℕ) (p : Pid) (b : Member) (n : Next) (d e : ShardState) (t : 
   took k over (Err Myself) mid picks may without nothing calls h = absurd calls
   took k over (Err NoProc) mid picks may without nothing calls h = absurd calls
 
-  proceeds : (alive : Bool) → lives d p ≡ alive → n ≡ Proceed → MatchBool alive (HandsTo (member_answers time) p b None d t now e births) (LeavesAs d t now e) → MemberComes time p b n births d t now e
+  proceeds : (alive : Bool) → lives d p ≡ alive → n ≡ Proceed → MatchBool alive (HandsTo (told_answers front told time) p b None d t now e births) (LeavesAs d t now e) → MemberComes told time p b n births d t now e
   proceeds true is goes_on h = hands_it None d (inl goes_on) (inl goes_on, is, refl) refl h
   proceeds false is goes_on h = left_so d refl is h
 
-  runs : (alive : Bool) → lives d p ≡ alive → (lives d p ≡ true → HasNothing time p n d) → MatchBool alive (StaysAs Idle (b, n) d t now e) (LeavesAs d t now e) → MemberComes time p b n births d t now e
+  runs : (alive : Bool) → lives d p ≡ alive → (lives d p ≡ true → HasNothing time p n d) → MatchBool alive (StaysAs Idle (b, n) d t now e) (LeavesAs d t now e) → MemberComes told time p b n births d t now e
   runs true is nothing h = stays_so Idle d refl (inl (refl, nothing is)) h
   runs false is nothing h = left_so d refl is h
 
-sees : (time : ℕ) (p : Pid) (b : Member) (n : Next) (d e : ShardState) (t : Tended) (now : Option (Member × Next)) (births : List (Role Member)) → SeesTo member_answers time p b n d t now e births → MemberComes time p b n births d t now e
-sees time p b (Stop r) d e t now births h = asked time p b (Stop r) d e t now births r refl h.0 h.1 h.2
-sees time p b Proceed d e t now births h = proceeds time p b Proceed d e t now births (lives d p) refl refl h
-sees time p b Running d e t now births h = runs time p b Running d e t now births (lives d p) refl (λ alive. alive) h
-sees time p b (Wait k) d e t now births h =
-    took time p b (Wait k) d e t now births k false h.0 h.1 refl (λ bad. absurd (cc)) (λ bad. absurd (cc)) (λ over alive none. (alive, none)) h.2 h.3
-sees time p b (WaitUntil k at) d e t now births h =
-    took time p b (WaitUntil k at) d e t now births k (nat_le at time) h.0 h.1 refl (λ over. inr (at, refl, leb-true at time over)) (λ over none. inr (k, refl, refl, none))
+sees : (front : Option Next) (told : Option Job) (time : ℕ) (p : Pid) (b : Member) (n : Next) → front ≡ Some n → (d e : ShardState) (t : Tended) (now : Option (Member × Next)) (births : List (Role Member)) → SeesTo (told_answers front told) time p b n d t now e births → MemberComes told time p b n births d t now e
+sees front told time p b (Stop r) is d e t now births h = asked front told time p b (Stop r) is d e t now births r refl h.0 h.1 h.2
+sees front told time p b Proceed is d e t now births h = proceeds front told time p b Proceed is d e t now births (lives d p) refl refl h
+sees front told time p b Running is d e t now births h = runs front told time p b Running is d e t now births (lives d p) refl (λ alive. alive) h
+sees front told time p b (Wait k) is d e t now births h =
+    took front told time p b (Wait k) is d e t now births k false h.0 h.1 refl (λ bad. absurd (cc)) (λ bad. absurd (cc)) (λ over alive none. (alive, none)) h.2 h.3
+sees front told time p b (WaitUntil k at) is d e t now births h =
+    took front told time p b (WaitUntil k at) is d e t now births k (nat_le at time) h.0 h.1 refl (λ over. inr (at, refl, leb-true at time over)) (λ over none. inr (k, refl, refl, none))
     (λ over alive none. (alive, none, leb-false at time over)) h.2 h.3
 
 -- whoever is come to was handed something, or handled something, or has stayed, or has left
-pub comes : (time : ℕ) (p : Pid) (b : Member) (n : Next) (o : Option (Member × Next)) (d e : ShardState) (t : Tended) (now : Option (Member × Next)) (births : List (Role Member))
-    → o ≡ Some (b, n) → ComesTo member_answers time p o d t now e births → MemberComes time p b n births d t now e
-comes time p b n o d e t now births is h = go (subst (λ (x : Option (Member × Next)). ComesTo member_answers time p x d t now e births) is h)
+pub comes : (front : Option Next) (told : Option Job) (time : ℕ) (p : Pid) (b : Member) (n : Next) (o : Option (Member × Next)) (d e : ShardState) (t : Tended) (now : Option (Member × Next)) (births : List (Role Member))
+    → front ≡ Some n → o ≡ Some (b, n) → ComesTo (told_answers front told) time p o d t now e births → MemberComes told time p b n births d t now e
+comes front told time p b n o d e t now births front_is is h = go (subst (λ (x : Option (Member × Next)). ComesTo (told_answers front told) time p x d t now e births) is h)
   where
-    go : StaysAs Refused (b, n) d t now e ⊎ SeesTo member_answers time p b n d t now e births → MemberComes time p b n births d t now e
-    go (inl k) = stays_so time p b n d e t now births Refused d refl (inr refl) k
-    go (inr k) = sees time p b n d e t now births k
+    go : StaysAs Refused (b, n) d t now e ⊎ SeesTo (told_answers front told) time p b n d t now e births → MemberComes told time p b n births d t now e
+    go (inl k) = stays_so front told time p b n front_is d e t now births Refused d refl (inr refl) k
+    go (inr k) = sees front told time p b n front_is d e t now births k

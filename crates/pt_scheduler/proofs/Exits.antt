@@ -13,7 +13,7 @@ use Rattle.pt_events.specs.Journal.{IsLocal, MayHere, events}
 use Rattle.pt_events.proofs.Phases.{after_ended, was_unborn}
 use Rattle.pt_shard.specs.ShardState.{ShardState, shard_after}
 use Rattle.pt_shard.specs.Calls.{Bears}
-use Rattle.pt_crew.proofs.Waking.{by_cases}
+use Rattle.pt_behaviour.proofs.Cases.{by_cases}
 use Rattle.pt_scheduler.specs.Exits.{exit_by, exit_in}
 
 -- a process that is not born has no exit in a lawful journal ------------------------------------

@@ -8,8 +8,8 @@ use Rattle.pt_events.specs.History.{Phase, unborn, living, ended, is_ended}
 use Rattle.pt_events.specs.Journal.{IsLocal}
 use Rattle.pt_shard.specs.ShardState.{ShardState, phase_of}
 use Rattle.pt_workers.specs.Waking.{need_not_wait}
-use Rattle.pt_crew.specs.declared.behaviour.Next.{Next}
-use Rattle.pt_crew.specs.declared.behaviour.Next.TheVariants.{Wait, WaitUntil, Proceed, Running, Stop}
+use Rattle.pt_behaviour.specs.declared.behaviour.Next.{Next}
+use Rattle.pt_behaviour.specs.declared.behaviour.Next.TheVariants.{Wait, WaitUntil, Proceed, Running, Stop}
 use Rattle.pt_crew.specs.declared.crew.Member.{Member as InCrew}
 use Rattle.pt_crew.specs.Visiting.{AreSame}
 use Rattle.pt_crew.specs.Crews.{AreBorn, Attends, KeepsRest, members, queue, role, roles, waiting}
@@ -60,7 +60,6 @@ none_noted h d a local bare awake p b n is = noted (exit_in p a.noted.seen) refl
 pub attends_again : (old new : Scheduler) (d e : ShardState) → SchedulerAttends old d → NoneNoted old → Attends new.crew e → AreSame (roles old.crew) (roles new.crew) → KeepsRest old.crew new.crew → new.read ≡ 0 → SchedulerAttends new e
 attends_again old new d e a none crew same rest reads = record {
   crew = crew;
-  empty = λ p b n is. a.empty p b n (sym (same p) ∙ is);
   fresh = fresh_is (waiting old.crew) (waiting new.crew) rest.waiting a.fresh;
   noted = record {
     more = e.journal;

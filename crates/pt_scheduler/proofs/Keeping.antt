@@ -11,12 +11,13 @@ use Rattle.pt_events.specs.declared.event.Event.{Event}
 use Rattle.pt_events.specs.declared.event.Event.TheVariants.{Born, Said, Came, Took, Flag, Left, Refused}
 use Rattle.pt_events.specs.declared.event.Stamped.{Stamped}
 use Rattle.pt_shard.specs.ShardState.{ShardState}
-use Rattle.pt_crew.specs.declared.behaviour.Next.{Next}
+use Rattle.pt_behaviour.specs.declared.behaviour.Next.{Next}
 use Rattle.pt_crew.specs.Visiting.{AreSame, AreWith}
 use Rattle.pt_crew.specs.Crews.{AreBorn, Attends, HasRoom, KeepsRest, queue, roles, waiting}
 use Rattle.pt_crew.specs.Stepping.{QueueIsLonger}
 use Rattle.pt_crew.proofs.Visiting.{rest_then}
-use Rattle.pt_crew.proofs.Waking.{by_cases, elsewhere, same_some, there}
+use Rattle.pt_behaviour.proofs.Cases.{by_cases, same_some}
+use Rattle.pt_crew.proofs.Waking.{elsewhere, there}
 use Rattle.pt_scheduler.specs.declared.member.Member.{Member}
 use Rattle.pt_scheduler.specs.declared.scheduler.Scheduler.{Scheduler}
 use Rattle.pt_scheduler.specs.Exits.{HasExitsOf, exit_by, exit_in}
@@ -61,10 +62,6 @@ seen_kept None (Some h) = refl
 was_role : (x : Option Reason) (o : Option (Member × Next)) (r : Member × Next) → option_map (member_role_kept x) o ≡ Some r → (was : Member × Next) × (o ≡ Some was) × (member_role_kept x was ≡ r)
 was_role x None r is = absurd (cc)
 was_role x (Some w) r is = (w, refl, same_some (member_role_kept x w) r is)
-
-still_empty : (x : Option Reason) (h : Member) → h.notes.handed ≡ None → (member_kept x h).notes.handed ≡ None
-still_empty (Some r) h is = is
-still_empty None h is = is
 
 no_end : (x : Option Reason) (h : Member) → (x ≡ None → h.notes.ended ≡ None) → (member_kept x h).notes.ended ≡ None
 no_end (Some r) h is = refl
@@ -197,7 +194,6 @@ module _ (past : List Stamped) (old mid new : Scheduler) (k : KeepsExits past ol
   attends : (d e : ShardState) → SchedulerAttends old d → HasExitsOf d.journal past → Attends new.crew e → KeepsRest mid.crew new.crew → new.read ≡ 0 → SchedulerAttends new e
   attends d e a has crew rest reads = record {
     crew = crew;
-    empty = λ p b n is. let w = came p b n is in ap (λ (r : Member × Next). r.0.notes.handed) (sym w.2) ∙ still_empty (exit_in p past) w.0.0 (a.empty p w.0.0 w.0.1 w.1);
     fresh = fresh_is (waiting old.crew) (waiting new.crew) (rest.waiting ∙ k.rest.waiting) a.fresh;
     noted = record {
       more = e.journal;

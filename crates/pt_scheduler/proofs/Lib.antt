@@ -1,7 +1,6 @@
 -- The lemmas that more than one function of the crate uses.
 pub mod Exits
 pub mod Begins
-pub mod Served
 pub mod Noting
 pub mod Coming
 pub mod Pulls

@@ -5,10 +5,8 @@ use Rattle.std.specs.Option.{option_map}
 use Rattle.std.proofs.lemmas.List.{length-reverse, get_or_default}
 use Rattle.pt_signal.specs.declared.pid.Pid.{Pid}
 use Rattle.pt_signal.specs.declared.reason.Reason.{Reason}
-use Rattle.pt_signal.specs.declared.item.Item.{Item}
 use Rattle.pt_signal.specs.Values.{same_pid}
 use Rattle.pt_signal.proofs.Same.{same_pid_refl, same_pid_is}
-use Rattle.pt_events.specs.declared.event.Event.{Event}
 use Rattle.pt_events.specs.declared.event.Event.TheVariants.{Left}
 use Rattle.pt_events.specs.declared.event.Stamped.{Stamped}
 use Rattle.pt_events.specs.History.{Phase, unborn, living, ended, is_ended, is_living}
@@ -16,27 +14,26 @@ use Rattle.pt_events.specs.Journal.{IsLocal}
 use Rattle.pt_shard.specs.ShardState.{ShardState, lives, phase_of}
 use Rattle.pt_shard.specs.Extends.{Extends}
 use Rattle.pt_workers.proofs.Unread.{Oldest, oldest}
-use Rattle.pt_crew.specs.declared.behaviour.Next.{Next}
-use Rattle.pt_crew.specs.declared.behaviour.Next.TheVariants.{Running}
-use Rattle.pt_crew.specs.declared.births.Role.{Role}
+use Rattle.pt_behaviour.specs.declared.behaviour.Next.{Next}
+use Rattle.pt_behaviour.specs.declared.behaviour.Next.TheVariants.{Running}
+use Rattle.pt_behaviour.specs.declared.births.Role.{Role}
 use Rattle.pt_crew.specs.declared.crew.Crew.{Crew}
 use Rattle.pt_crew.specs.Visiting.{AreSame, AreWith, Roles}
 use Rattle.pt_crew.specs.Crews.{Aboard, Attends, EntersAll, HasRoom, HasTimers, IsSame, KeepsRest, KnowsDesk, left, members, queue, read_events, role, roles, waiting}
 use Rattle.pt_crew.specs.Stepping.{BeginsStep, EndsStep, IsAnswered}
 use Rattle.pt_desk.proofs.Turning.{extends}
-use Rattle.pt_crew.proofs.Waking.{by_cases, elsewhere, knows_later, there, same_some, some_none}
+use Rattle.pt_behaviour.proofs.Cases.{by_cases, same_some, some_none}
+use Rattle.pt_crew.proofs.Waking.{elsewhere, knows_later, there}
 use Rattle.pt_crew.proofs.Visiting.{rest_then}
 use Rattle.pt_supervisor.specs.declared.supervisor.Supervisor.{Supervisor}
 use Rattle.pt_supervisor.specs.Hearing.{standing}
 use Rattle.pt_scheduler.specs.declared.member.Member.{Member}
 use Rattle.pt_scheduler.specs.declared.member.Notes.{Notes}
-use Rattle.pt_scheduler.specs.declared.member.Job.{Job}
 use Rattle.pt_scheduler.specs.declared.plan.Plan.{Plan}
 use Rattle.pt_scheduler.specs.declared.scheduler.Scheduler.{Scheduler}
 use Rattle.pt_scheduler.specs.Exits.{exit_by, exit_in}
-use Rattle.pt_scheduler.specs.Members.{what_of}
 use Rattle.pt_scheduler.specs.Scheduling.{AreUntold, SameViews, SchedulerAttends, MemberView, NotesLost, children_seen, member_view, member_views, new_member}
-use Rattle.pt_scheduler.specs.Taken.{DropsLeft, NotesExit, SetsBoss, SetsMember, SetsNotes, StaysElse, TakesHeld, TakesMember, TakesJob, TakesOf}
+use Rattle.pt_scheduler.specs.Taken.{DropsLeft, NotesExit, SetsBoss, SetsMember, SetsNotes, StaysElse, TakesMember}
 use Rattle.pt_scheduler.proofs.Exits.{exit_ended, none_before}
 
 -- what is seen of a member ----------------------------------------------------------------------
@@ -148,16 +145,15 @@ member_set old new p b (Err x) done back = record {
 
 -- the scheduler stays one of its desk -------------------------------------------------------------------
 
--- a member holds nothing, and has the end that it had
+-- a member has the end that it had
 abbrev pub MembersComeOf : Scheduler → Scheduler → Type 0
 MembersComeOf old new =
     (q : Pid) (b : Member) (n : Next) → roles new.crew q ≡ Some (b, n)
-    → (was : Member) × (m : Next) × (roles old.crew q ≡ Some (was, m)) × (b.notes.ended ≡ was.notes.ended) × (b.notes.handed ≡ None)
+    → (was : Member) × (m : Next) × (roles old.crew q ≡ Some (was, m)) × (b.notes.ended ≡ was.notes.ended)
 
 pub attends_then : (old new : Scheduler) (d e : ShardState) → SchedulerAttends old d → Extends d e → Attends new.crew e → AreUntold (waiting new.crew) → new.read ≡ old.read → MembersComeOf old new → SchedulerAttends new e
 attends_then old new d e a later crew fresh reads kept = record {
   crew = crew;
-  empty = λ q b n is. (kept q b n is).4;
   fresh = fresh;
   noted = record {
     more = later.more ++ a.noted.more;
@@ -185,28 +181,25 @@ fresh_back (r ∷ xs) ys a = fresh_back xs ys a.1
 
 -- where the roles are the same
 pub same_comes : (old new : Scheduler) (d : ShardState) → SchedulerAttends old d → AreSame (roles old.crew) (roles new.crew) → MembersComeOf old new
-same_comes old new d a same q b n is = let was = sym (same q) ∙ is in (b, n, was, refl, a.empty q b n was)
+same_comes old new d a same q b n is = let was = sym (same q) ∙ is in (b, n, was, refl)
 
--- where p is another member, which holds nothing, and has the same end
+-- where p is another member, which has the same end
 pub changed_comes : (old new : Scheduler) (d : ShardState) (p : Pid) (b x : Member) (m n : Next) → SchedulerAttends old d → roles old.crew p ≡ Some (b, m) → AreWith p (Some (x, n)) (roles old.crew) (roles new.crew)
-    → x.notes.ended ≡ b.notes.ended → x.notes.handed ≡ None → MembersComeOf old new
-changed_comes old new d p b x m n a was now ends bare q y k is = by_cases (same_pid p q)
+    → x.notes.ended ≡ b.notes.ended → MembersComeOf old new
+changed_comes old new d p b x m n a was now ends q y k is = by_cases (same_pid p q)
     (λ same.
     let here : roles old.crew q ≡ Some (b, m) = ap (roles old.crew) (sym (same_pid_is p q same)) ∙ was in
     let y_is : x ≡ y = ap (λ (r : Member × Next). r.0) (same_some (x, n) (y, k) (sym (there (roles old.crew) (roles new.crew) p (Some (x, n)) now q same) ∙ is)) in
-    (b, m, here, ap (λ (h : Member). h.notes.ended) (sym y_is) ∙ ends, ap (λ (h : Member). h.notes.handed) (sym y_is) ∙ bare))
+    (b, m, here, ap (λ (h : Member). h.notes.ended) (sym y_is) ∙ ends))
     (λ other.
     let here : roles old.crew q ≡ Some (y, k) = sym (elsewhere (roles old.crew) (roles new.crew) p (Some (x, n)) now q other) ∙ is in
-    (y, k, here, refl, a.empty q y k here))
+    (y, k, here, refl))
 
 -- one that enters has no exit in the journal
-pub one_entered : (old new : Scheduler) (d e : ShardState) (p : Pid) (b : Member) (n : Next) → b.notes.handed ≡ None → b.notes.ended ≡ None → SchedulerAttends old d → Extends d e → Attends new.crew e → KeepsRest old.crew new.crew → new.read ≡ old.read
+pub one_entered : (old new : Scheduler) (d e : ShardState) (p : Pid) (b : Member) (n : Next) → b.notes.ended ≡ None → SchedulerAttends old d → Extends d e → Attends new.crew e → KeepsRest old.crew new.crew → new.read ≡ old.read
     → AreWith p (Some (b, n)) (roles old.crew) (roles new.crew) → exit_in p d.journal ≡ None → SchedulerAttends new e
-one_entered old new d e p x n bare endless a later crew rest reads now none = record {
+one_entered old new d e p x n endless a later crew rest reads now none = record {
   crew = crew;
-  empty = λ q b k is. by_cases (same_pid p q)
-      (λ same. ap (λ (h : Member). h.notes.handed) (sym (its q b k same is)) ∙ bare)
-      (λ other. a.empty q b k (was q b k other is));
   fresh = fresh_is (waiting old.crew) (waiting new.crew) rest.waiting a.fresh;
   noted = record {
     more = later.more ++ a.noted.more;
@@ -232,7 +225,6 @@ one_entered old new d e p x n bare endless a later crew rest reads now none = re
 pub attends_new : (t : Scheduler) (d : ShardState) → Attends t.crew d → ((p : Pid) → roles t.crew p ≡ None) → waiting t.crew ≡ [] → t.read ≡ 0 → SchedulerAttends t d
 attends_new t d crew nobody waits reads = record {
   crew = crew;
-  empty = λ p b n is. some_none (roles t.crew p) (b, n) (nobody p) is;
   fresh = fresh_is [] (waiting t.crew) waits tt;
   noted = record {
     more = d.journal;
@@ -270,22 +262,20 @@ living_stays d p local alive = go (exit_in p d.journal) refl
     go None is = is
     go (Some r) is = absurd (living_not (phase_of d p) alive (exit_ended d.start d.config.start d.config.top_version d.number p d.journal r local is))
 
--- of so much of the journal each member has its exit, and holds nothing
+-- of so much of the journal each member has its exit
 abbrev AreTrue : List Stamped → Roles Member → Type 0
-AreTrue seen rs = (q : Pid) (b : Member) (n : Next) → rs q ≡ Some (b, n) → (b.notes.handed ≡ None) × (b.notes.ended ≡ exit_in q seen)
+AreTrue seen rs = (q : Pid) (b : Member) (n : Next) → rs q ≡ Some (b, n) → b.notes.ended ≡ exit_in q seen
 
-one_true : (seen : List Stamped) (p : Pid) (x : Member) (n : Next) (old new : Roles Member) → x.notes.handed ≡ None → x.notes.ended ≡ None → exit_in p seen ≡ None → AreWith p (Some (x, n)) old new → AreTrue seen old → AreTrue seen new
-one_true seen p x n old new bare endless none now a q b k is = by_cases (same_pid p q)
+one_true : (seen : List Stamped) (p : Pid) (x : Member) (n : Next) (old new : Roles Member) → x.notes.ended ≡ None → exit_in p seen ≡ None → AreWith p (Some (x, n)) old new → AreTrue seen old → AreTrue seen new
+one_true seen p x n old new endless none now a q b k is = by_cases (same_pid p q)
     (λ same.
-    let b_is : x ≡ b = ap (λ (r : Member × Next). r.0) (same_some (x, n) (b, k) (sym (there old new p (Some (x, n)) now q same) ∙ is)) in (
-      ap (λ (h : Member). h.notes.handed) (sym b_is) ∙ bare,
-      ap (λ (h : Member). h.notes.ended) (sym b_is) ∙ endless ∙ sym (ap (λ (y : Pid). exit_in y seen) (sym (same_pid_is p q same)) ∙ none),
-    ))
+    let b_is : x ≡ b = ap (λ (r : Member × Next). r.0) (same_some (x, n) (b, k) (sym (there old new p (Some (x, n)) now q same) ∙ is)) in
+    ap (λ (h : Member). h.notes.ended) (sym b_is) ∙ endless ∙ sym (ap (λ (y : Pid). exit_in y seen) (sym (same_pid_is p q same)) ∙ none))
     (λ other. a q b k (sym (elsewhere old new p (Some (x, n)) now q other) ∙ is))
 
-one_enters : (d : ShardState) (seen : List Stamped) (r : Role Member) (alive : Bool) (old new : Aboard Member) → lives d r.pid ≡ alive → (lives d r.pid ≡ true → exit_in r.pid seen ≡ None) → (r.behaviour.notes.handed ≡ None) × (r.behaviour.notes.ended ≡ None)
+one_enters : (d : ShardState) (seen : List Stamped) (r : Role Member) (alive : Bool) (old new : Aboard Member) → lives d r.pid ≡ alive → (lives d r.pid ≡ true → exit_in r.pid seen ≡ None) → r.behaviour.notes.ended ≡ None
     → MatchBool alive (AreWith r.pid (Some (r.behaviour, r.next)) old.0 new.0 × (new.1 ≡ old.1)) (AreSame old.0 new.0 × (new.1 ≡ old.1 ++ r ∷ [])) → AreTrue seen old.0 → AreTrue seen new.0
-one_enters d seen r true old new is none fresh h a = one_true seen r.pid r.behaviour r.next old.0 new.0 fresh.0 fresh.1 (none is) h.0 a
+one_enters d seen r true old new is none fresh h a = one_true seen r.pid r.behaviour r.next old.0 new.0 fresh (none is) h.0 a
 one_enters d seen r false old new is none fresh h a = λ q b n at. a q b n (sym (h.0 q) ∙ at)
 
 all_enter : (d : ShardState) (seen : List Stamped) (rs : List (Role Member)) (old new : Aboard Member) → ((p : Pid) → lives d p ≡ true → exit_in p seen ≡ None) → AreUntold rs → EntersAll (lives d) rs old new → AreTrue seen old.0 → AreTrue seen new.0
@@ -296,14 +286,13 @@ all_enter d seen (r ∷ rs) old new none fresh h a =
 pub attends_ended : (old new : Scheduler) (d : ShardState) → IsLocal d.start d.config.start d.config.top_version d.number d.journal → SchedulerAttends old d → EndsStep old.crew d new.crew → new.read ≡ old.read → Attends new.crew d → SchedulerAttends new d
 attends_ended old new d local a ends reads crew = record {
   crew = crew;
-  empty = λ q b n is. (true_now q b n is).0;
   fresh = fresh_back ends.entered (waiting new.crew) born;
   noted = record {
     more = a.noted.more;
     seen = a.noted.seen;
     journal = a.noted.journal;
     counted = a.noted.counted ∙ sym reads;
-    ends = λ q b n is. (true_now q b n is).1;
+    ends = true_now;
   };
 }
   where
@@ -313,14 +302,14 @@ attends_ended old new d local a ends reads crew = record {
     true_now : AreTrue a.noted.seen (roles new.crew)
     true_now = all_enter d a.noted.seen ends.entered (roles old.crew, left old.crew) (roles new.crew, left new.crew)
         (λ p alive. none_before p a.noted.more a.noted.seen (ap (exit_in p) (sym a.noted.journal) ∙ living_stays d p local alive))
-        (fresh_front ends.entered (waiting new.crew) born) ends.enters (λ q b n is. (a.empty q b n is, a.noted.ends q b n is))
+        (fresh_front ends.entered (waiting new.crew) born) ends.enters a.noted.ends
 
 -- an answer
 pub attends_answered : {E : Type 0} (old new : Scheduler) (d : ShardState) (p : Pid) (next : Next) (result : Result Bool E) → IfOk result (λ yes. MatchBool yes (IsAnswered p next old.crew new.crew) (IsSame old.crew new.crew))
     → OnErr result (IsSame old.crew new.crew) → new.read ≡ old.read → SchedulerAttends old d → Attends new.crew d → SchedulerAttends new d
 attends_answered old new d p next (Ok true) done refused reads a crew =
     attends_then old new d d a (extends d) crew (fresh_is (waiting old.crew) (waiting new.crew) done.rest.waiting a.fresh) reads
-    (changed_comes old new d p done.behaviour done.behaviour Running next a done.ran done.does refl (a.empty p done.behaviour Running done.ran))
+    (changed_comes old new d p done.behaviour done.behaviour Running next a done.ran done.does refl)
 attends_answered old new d p next (Ok false) done refused reads a crew = attends_same old new d d a (extends d) crew done reads
 attends_answered old new d p next (Err x) done refused reads a crew = attends_same old new d d a (extends d) crew refused reads
 
@@ -375,7 +364,6 @@ pub noted_next : (old mid new : Scheduler) (d : ShardState) (shown : List Stampe
     → new.crew ≡ mid.crew → new.read ≡ mid.read + 1 → SchedulerAttends old d → SchedulerAttends new d
 noted_next old mid new d shown x is within notes same reads a = record {
   crew = subst (λ (c : _). Attends c d) (sym same) (notes.attends d a.crew);
-  empty = λ q b n at. let w = was q b n at in ap (λ (h : Member). h.notes.handed) w.2 ∙ a.empty q w.0 n w.1;
   fresh = fresh_is (waiting old.crew) (waiting new.crew) (ap waiting same ∙ notes.rest.waiting) a.fresh;
   noted = record {
     more = o.front;
@@ -443,7 +431,7 @@ lost_set old new p r seen notes looked notes_is sets rest =
     subst (λ (x : Notes). AreWith p (Some (record seen { notes = x }, has.0)) (roles old.crew) (roles new.crew)) notes_is (sets.set seen has.0 has.1) in (
       record { views = lost_views old new p r seen has.0 has.1 now; queue = rest.queue; rest = rest.rest },
       λ d a. attends_then old new d d a (extends d) (rest.attends d a.crew) (fresh_is (waiting old.crew) (waiting new.crew) rest.rest.waiting a.fresh) rest.read
-          (changed_comes old new d p seen (with_lost r seen) has.0 has.0 a has.1 now refl (a.empty p seen has.0 has.1)),
+          (changed_comes old new d p seen (with_lost r seen) has.0 has.0 a has.1 now refl),
     )
 
 -- of one that is none of these nothing is noted
@@ -457,36 +445,3 @@ none_lost t p r none = record {
   queue = refl;
   rest = rest_same t.crew;
 }
-
--- what a member holds was taken
-pub job_taken : (old new : Scheduler) (p : Pid) (before : Option Next) (seen : Member) (notes : Notes) (item : Option Item) (job : Job) → Some seen ≡ option_map (λ (x : Member × Next). x.0) (roles old.crew p) → seen.notes.handed ≡ Some item
-    → notes ≡ record (seen.notes) { begun = true; handed = None } → job ≡ record { pid = p; tag = seen.tag; what = what_of seen.notes.begun seen.origin before item }
-    → SetsNotes p notes old new → StaysElse old new → TakesJob p before old (Some job) new
-job_taken old new p before seen notes item job looked holds notes_is job_is sets rest =
-    let has = its_role (roles old.crew p) seen looked in
-    subst (λ (o : Option (Member × Next)). TakesOf p before o old (Some job) new) (sym has.1)
-    (subst (λ (o : Option (Option Item)). TakesHeld p before seen has.0 o old (Some job) new) (sym holds) (
-      ap Some job_is,
-      subst (λ (x : Notes). AreWith p (Some (record seen { notes = x }, has.0)) (roles old.crew) (roles new.crew)) notes_is (sets.set seen has.0 has.1),
-      rest,
-    ))
-
--- a process that is put back with other notes is the same one
-pub notes_put : (old new : Scheduler) (p : Pid) (seen told : Member) (notes : Notes) → Some seen ≡ option_map (λ (x : Member × Next). x.0) (roles old.crew p) → told ≡ record seen { notes = notes } → SetsMember p told old new
-    → SetsNotes p notes old new
-notes_put old new p seen told notes looked is sets =
-    let has = its_role (roles old.crew p) seen looked in record {
-      set = λ was n here.
-          let same : seen ≡ was = ap (λ (x : Member × Next). x.0) (same_some (seen, has.0) (was, n) (sym has.1 ∙ here)) in
-          subst (λ (x : Member). AreWith p (Some (x, n)) (roles old.crew) (roles new.crew)) (is ∙ ap (λ (x : Member). record x { notes = notes }) same) (sets.set was n here);
-      none = sets.none;
-    }
-
-pub none_held : (t : Scheduler) (p : Pid) (before : Option Next) (seen : Member) (job : Option Job) → Some seen ≡ option_map (λ (x : Member × Next). x.0) (roles t.crew p) → seen.notes.handed ≡ None → job ≡ None → TakesJob p before t job t
-none_held t p before seen job looked holds is =
-    let has = its_role (roles t.crew p) seen looked in
-    subst (λ (o : Option (Member × Next)). TakesOf p before o t job t) (sym has.1)
-    (subst (λ (o : Option (Option Item)). TakesHeld p before seen has.0 o t job t) (sym holds) (is, refl))
-
-pub none_seen : (t : Scheduler) (p : Pid) (before : Option Next) (job : Option Job) → None ≡ option_map (λ (x : Member × Next). x.0) (roles t.crew p) → job ≡ None → TakesJob p before t job t
-none_seen t p before job looked is = subst (λ (o : Option (Member × Next)). TakesOf p before o t job t) (sym (no_role (roles t.crew p) looked)) (is, refl)

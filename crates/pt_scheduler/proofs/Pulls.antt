@@ -1,48 +1,50 @@
 -- What a pull does.
 use Rattle.std.proofs.Common.{◌≡◌, ◌⊎◌, inl, inr, ℕ, ◌≤◌, Bool, true, false, cond, ◌||◌, List, [], ◌∷◌, ◌++◌, length, Option, Some, None, refl, sym, ap, subst, ◌∙◌, length-append, append-nil, arith}
+use Rattle.std.specs.Prelude.{IfSome, is_some}
 use Rattle.std.specs.Option.{option_map}
 use Rattle.std.proofs.Math.Seq.{drop-append_seam}
 use Rattle.pt_signal.specs.declared.pid.Pid.{Pid}
-use Rattle.pt_signal.specs.declared.item.Item.{Item}
 use Rattle.pt_signal.specs.declared.reason.Reason.{Reason}
 use Rattle.pt_signal.specs.Values.{same_pid}
-use Rattle.pt_signal.proofs.Same.{same_pid_refl, same_pid_is}
+use Rattle.pt_signal.proofs.Same.{same_pid_is}
 use Rattle.pt_events.specs.declared.event.Stamped.{Stamped}
 use Rattle.pt_events.specs.History.{Past, is_unborn}
 use Rattle.pt_shard.specs.ShardState.{ShardState, lives, phase_of}
 use Rattle.pt_shard.specs.Extends.{Extends}
-use Rattle.pt_crew.specs.declared.behaviour.Next.{Next}
-use Rattle.pt_crew.specs.declared.behaviour.Next.TheVariants.{Running}
-use Rattle.pt_crew.specs.declared.births.Role.{Role}
+use Rattle.pt_behaviour.specs.declared.behaviour.Next.{Next}
+use Rattle.pt_behaviour.specs.declared.behaviour.Next.TheVariants.{Running}
+use Rattle.pt_behaviour.specs.declared.births.Role.{Role}
 use Rattle.pt_crew.specs.declared.crew.Crew.{Crew}
 use Rattle.pt_crew.specs.declared.crew.Tended.{Tended}
 use Rattle.pt_crew.specs.declared.crew.Tended.TheVariants.{Idle, Again, Done, Refused, Gone as Ended}
-use Rattle.pt_crew.specs.Births.{bore}
+use Rattle.pt_behaviour.specs.Births.{bore}
+use Rattle.pt_behaviour.specs.Behaving.{Answers}
 use Rattle.pt_crew.specs.Visiting.{AreSame, BearsChildren, VisitsOne, again_as, handed_as, is_refused, leaver, leaves_crew, left_as}
 use Rattle.pt_crew.specs.Crews.{Attends, HasRoom, HasTimers, KnowsDesk, left, queue, role, roles, scene, time_of, waiting, was_refused}
 use Rattle.pt_crew.specs.Waking.{in_queue}
-use Rattle.pt_crew.specs.Stepping.{Serves, first_of}
-use Rattle.pt_crew.proofs.Waking.{by_cases, elsewhere, first_in, same_some, some_none, there}
+use Rattle.pt_crew.specs.Stepping.{Serves, first_of, is_running}
+use Rattle.pt_crew.specs.Outside.{BeginsToRun, next_in_front}
+use Rattle.pt_crew.proofs.Upholding.{AreGone, one_upholds}
+use Rattle.pt_behaviour.proofs.Cases.{some_none, by_cases, same_some}
+use Rattle.pt_crew.proofs.Waking.{elsewhere, first_in}
 use Rattle.pt_supervisor.specs.declared.supervisor.Supervisor.{Supervisor}
 use Rattle.pt_supervisor.specs.Hearing.{standing}
 use Rattle.pt_supervisor.specs.Keeping.{BearsFrom, HoldsAs, Keeps}
 use Rattle.pt_supervisor.proofs.Bearing.{handles_bear}
 use Rattle.pt_scheduler.specs.declared.member.Member.{Member}
-use Rattle.pt_scheduler.specs.declared.member.What.{What}
 use Rattle.pt_scheduler.specs.declared.member.What.TheVariants.{Exit}
 use Rattle.pt_scheduler.specs.declared.member.Job.{Job}
 use Rattle.pt_scheduler.specs.declared.plan.Plan.{Plan}
 use Rattle.pt_scheduler.specs.declared.scheduler.Scheduler.{Scheduler}
 use Rattle.pt_scheduler.specs.Exits.{exit_in}
 use Rattle.pt_scheduler.specs.Planning.{starts_post}
-use Rattle.pt_scheduler.specs.Members.{boss_part, member_answers, what_of, job_of_exit}
+use Rattle.pt_scheduler.specs.Members.{boss_part, job_of_exit}
 use Rattle.pt_scheduler.specs.Scheduling.{AreUntold, HasNothing, SameViews, AreViewed, SchedulerAttends, MemberView, Pulls, PullsFirst, SchedulerUpholds, member_view, member_views}
-use Rattle.pt_scheduler.specs.Taken.{DropsLeft, IsAllNoted, TakesHeld, TakesJob, TakesOf}
+use Rattle.pt_scheduler.specs.Taken.{DropsLeft, IsAllNoted}
 use Rattle.pt_scheduler.proofs.Begins.{all_fresh}
 use Rattle.pt_scheduler.proofs.Noting.{attends_dropped, attends_then, fresh_both, fresh_is}
-use Rattle.pt_scheduler.proofs.Served.{AreGone, one_upholds}
-use Rattle.pt_scheduler.proofs.Upheld.{boss_upheld, upholds_seen}
-use Rattle.pt_scheduler.proofs.Coming.{HasHandled, HasLeft, HasStayed, MemberComes, WasHanded, comes, handed_stays, handed_unrefused}
+use Rattle.pt_scheduler.proofs.Upheld.{told_upheld, upholds_seen}
+use Rattle.pt_scheduler.proofs.Coming.{HasHandled, HasLeft, HasStayed, MemberComes, WasHanded, comes, handed_stays, handed_unrefused, told_answers}
 
 split : (ps : List Pid) (p : Pid) → Some p ≡ first_of ps → (rest : List Pid) × (ps ≡ p ∷ rest)
 split [] p is = absurd (cc)
@@ -85,9 +87,6 @@ not_left p o t is = ap (λ c. cond c (leaver p o) []) is
 abbrev exit_job : Pid → ℕ → Next → Reason → Job
 exit_job p tag next r = record { pid = p; tag = tag; what = Exit r next }
 
-abbrev given_job : Pid → ℕ → What → Job
-given_job p tag what = record { pid = p; tag = tag; what = what }
-
 -- all exits were noted, of a scheduler that has nobody who left
 pub record IsReady (old : Scheduler) (d : ShardState) (noted : Scheduler) : Type 0 where
   pub attends : SchedulerAttends noted d
@@ -112,28 +111,36 @@ is_ready old mid noted d s n = record {
 }
 
 -- p stood in front of the queue, and was come to once all exits were noted
-pub record MemberVisit (old noted : Scheduler) (d e : ShardState) (run : Crew Member) (p : Pid) : Type 0 where
+pub record MemberVisit (told : Option Job) (old noted : Scheduler) (d e : ShardState) (run : Crew Member) (p : Pid) : Type 0 where
   pub rest : List Pid
   pub was_queue : queue old.crew ≡ p ∷ rest
   pub member : Member
   pub next : Next
   pub role : roles noted.crew p ≡ Some (member, next)
   pub back : List Pid
-  pub visits : VisitsOne member_answers p (scene [] noted.crew d) (scene back run e)
+  pub front : Option Next
+  pub visits : VisitsOne (told_answers front told) p (scene [] noted.crew d) (scene back run e)
   pub now_queue : queue run ≡ rest ++ back
-  pub comes : MemberComes (time_of old.crew) p member next (bore (waiting noted.crew) (waiting run)) d visits.tended (roles run p) e
+  pub comes : MemberComes told (time_of old.crew) p member next (bore (waiting noted.crew) (waiting run)) d visits.tended (roles run p) e
   pub note : IsReady old d noted
   pub later : Extends d e
   pub aboard : Attends run e
+  pub begins : is_some told ≡ true → (is_running (roles noted.crew p) ≡ false) × (is_running (roles run p) ≡ true)
 
-pub visit : (old noted : Scheduler) (d e : ShardState) (run : Crew Member) (p : Pid) → IsReady old d noted → Some p ≡ first_of (queue old.crew)
-    → Serves member_answers (queue noted.crew) noted.crew d run e → Extends d e → Attends run e → MemberVisit old noted d e run p
-visit old noted d e run p note first serves later aboard =
+-- what is told of who is in front
+abbrev pub served : Option Job → Scheduler → Answers Member
+served told noted = told_answers (next_in_front (queue noted.crew) (roles noted.crew)) told
+
+pub visit : (told : Option Job) (old noted : Scheduler) (d e : ShardState) (run : Crew Member) (p : Pid) → IsReady old d noted → Some p ≡ first_of (queue old.crew)
+    → Serves (served told noted) (queue noted.crew) noted.crew d run e → Extends d e → Attends run e → IfSome told (λ job. BeginsToRun (queue noted.crew) (roles noted.crew) (roles run)) → MemberVisit told old noted d e run p
+visit told old noted d e run p note first serves later aboard begins =
     let s = split (queue old.crew) p first in
     let stands : queue noted.crew ≡ p ∷ s.0 = note.queue ∙ s.1 in
-    let v = subst (λ (ps : List Pid). Serves member_answers ps noted.crew d run e) stands serves in
+    let front : Option Next = next_in_front (queue noted.crew) (roles noted.crew) in
+    let v = subst (λ (ps : List Pid). Serves (told_answers front told) ps noted.crew d run e) stands serves in
     let m = note.attends.crew.knows.queued.marked p (ap (in_queue p) stands ∙ first_in p s.0) in
     let has : roles noted.crew p ≡ Some (m.0.behaviour, m.0.next) = ap (option_map role) m.1 in
+    let front_is : front ≡ Some m.0.next = ap (λ (ps : List Pid). next_in_front ps (roles noted.crew)) stands ∙ ap (option_map (λ (r : Member × Next). r.1)) has in
     record {
       rest = s.0;
       was_queue = s.1;
@@ -141,23 +148,29 @@ visit old noted d e run p note first serves later aboard =
       next = m.0.next;
       role = has;
       back = v.0;
+      front = front;
       visits = v.1;
       now_queue = v.2;
-      comes = subst (λ (n : ℕ). MemberComes n p m.0.behaviour m.0.next (bore (waiting noted.crew) (waiting run)) d v.1.tended (roles run p) e) note.time
-          (comes (time_of noted.crew) p m.0.behaviour m.0.next (roles noted.crew p) d e v.1.tended (roles run p) (bore (waiting noted.crew) (waiting run)) has v.1.comes);
+      comes = subst (λ (n : ℕ). MemberComes told n p m.0.behaviour m.0.next (bore (waiting noted.crew) (waiting run)) d v.1.tended (roles run p) e) note.time
+          (comes front told (time_of noted.crew) p m.0.behaviour m.0.next (roles noted.crew p) d e v.1.tended (roles run p) (bore (waiting noted.crew) (waiting run)) front_is has v.1.comes);
       note = note;
       later = later;
       aboard = aboard;
+      begins = λ some. subst (λ (ps : List Pid). BeginsToRun ps (roles noted.crew) (roles run)) stands (begun told some begins);
     }
+  where
+    begun : {P : Type 0} (o : Option Job) → is_some o ≡ true → IfSome o (λ job. P) → P
+    begun None some h = absurd (cc)
+    begun (Some job) some h = h
 
 -- so it is after the calls of a pull
-pub visited : (old dropped noted : Scheduler) (d e : ShardState) (run : Crew Member) (p : Pid) → SchedulerAttends old d → DropsLeft old dropped → (SchedulerAttends dropped d → IsAllNoted dropped d noted) → Some p ≡ first_of (queue old.crew)
-    → Serves member_answers (queue noted.crew) noted.crew d run e → Extends d e → (KnowsDesk noted.crew d → KnowsDesk run e) → (HasRoom noted.crew → HasRoom run) → (KnowsDesk noted.crew d → HasTimers noted.crew → HasTimers run)
-    → MemberVisit old noted d e run p
-visited old dropped noted d e run p a drops notes first serves later knows room timers =
+pub visited : (told : Option Job) (old dropped noted : Scheduler) (d e : ShardState) (run : Crew Member) (p : Pid) → SchedulerAttends old d → DropsLeft old dropped → (SchedulerAttends dropped d → IsAllNoted dropped d noted) → Some p ≡ first_of (queue old.crew)
+    → Serves (served told noted) (queue noted.crew) noted.crew d run e → Extends d e → (KnowsDesk noted.crew d → KnowsDesk run e) → (HasRoom noted.crew → HasRoom run) → (KnowsDesk noted.crew d → HasTimers noted.crew → HasTimers run)
+    → IfSome told (λ job. BeginsToRun (queue noted.crew) (roles noted.crew) (roles run)) → MemberVisit told old noted d e run p
+visited told old dropped noted d e run p a drops notes first serves later knows room timers begins =
     let ready = is_ready old dropped noted d drops (notes (attends_dropped old dropped d a drops)) in
     let k = ready.attends.crew in
-    visit old noted d e run p ready first serves later (record { knows = knows k.knows; room = room k.room; timers = timers k.knows k.timers })
+    visit told old noted d e run p ready first serves later (record { knows = knows k.knows; room = room k.room; timers = timers k.knows k.timers }) begins
 
 -- those who wait grow at the end
 pub grown : (t : Tended) (old new : List (Role Member)) → BearsChildren t old new → (more : List (Role Member)) × (new ≡ old ++ more)
@@ -167,7 +180,7 @@ grown Idle old new h = ([], h ∙ sym (append-nil old))
 grown Refused old new h = ([], h ∙ sym (append-nil old))
 grown Ended old new h = ([], h ∙ sym (append-nil old))
 
-module _ (old noted : Scheduler) (d e : ShardState) (run : Crew Member) (p : Pid) (w : MemberVisit old noted d e run p) where
+module _ (told : Option Job) (old noted : Scheduler) (d e : ShardState) (run : Crew Member) (p : Pid) (w : MemberVisit told old noted d e run p) where
   was_view : member_views old p ≡ Some (member_view (w.member, w.next))
   was_view = sym (w.note.views p) ∙ ap (option_map member_view) w.role
 
@@ -189,10 +202,10 @@ module _ (old noted : Scheduler) (d e : ShardState) (run : Crew Member) (p : Pid
 
   -- and is as it was noted
   other_of : (new : Scheduler) → ((q : Pid) → same_pid p q ≡ false → roles new.crew q ≡ roles run q) → (q : Pid) (b : Member) (n : Next) → same_pid p q ≡ false → roles new.crew q ≡ Some (b, n)
-      → (was : Member) × (m : Next) × (roles noted.crew q ≡ Some (was, m)) × (b.notes.ended ≡ was.notes.ended) × (b.notes.handed ≡ None)
+      → (was : Member) × (m : Next) × (roles noted.crew q ≡ Some (was, m)) × (b.notes.ended ≡ was.notes.ended)
   other_of new others q b n other is =
       let was : roles noted.crew q ≡ Some (b, n) = sym (others q other ∙ elsewhere_role q other) ∙ is in
-      (b, n, was, refl, w.note.attends.empty q b n was)
+      (b, n, was, refl)
 
   viewed : (new : Scheduler) (v : Option MemberView) → ((q : Pid) → same_pid p q ≡ false → roles new.crew q ≡ roles run q) → member_views new p ≡ v → AreViewed p v old new
   viewed new v others here q = by_cases (same_pid p q)
@@ -237,7 +250,7 @@ module _ (old noted : Scheduler) (d e : ShardState) (run : Crew Member) (p : Pid
     ]
   ]
     where
-      born_fresh : HasHandled (time_of old.crew) p w.member w.next (bore (waiting noted.crew) (waiting run)) d w.visits.tended (roles run p) e → AreUntold (bore (waiting noted.crew) (waiting run))
+      born_fresh : HasHandled told (time_of old.crew) p w.member w.next (bore (waiting noted.crew) (waiting run)) d w.visits.tended (roles run p) e → AreUntold (bore (waiting noted.crew) (waiting run))
       born_fresh h =
           let k = h.handles in
           let b : BearsFrom starts_post p k.waited (k.waited ++ bore (waiting noted.crew) (waiting run)) = handles_bear starts_post p (time_of old.crew) h.item _ h.next _ k.handles in
@@ -251,7 +264,7 @@ module _ (old noted : Scheduler) (d e : ShardState) (run : Crew Member) (p : Pid
     none_stays : {X : Type 0} → leaves_crew w.visits.tended ≡ false → X
     none_stays is = absurd (none_left (left new.crew) gone (sym lefts ∙ left_now ∙ not_left p (Some (w.member, w.next)) w.visits.tended is))
 
-    pub has_left : HasLeft (time_of old.crew) p w.member w.next (bore (waiting noted.crew) (waiting run)) d w.visits.tended (roles run p) e
+    pub has_left : HasLeft told (time_of old.crew) p w.member w.next (bore (waiting noted.crew) (waiting run)) d w.visits.tended (roles run p) e
     has_left = elim w.comes [
       | inl h ↦ none_stays (ap leaves_crew h.tended)
       | inr k ↦ elim k [
@@ -276,20 +289,20 @@ module _ (old noted : Scheduler) (d e : ShardState) (run : Crew Member) (p : Pid
     gone_stands : (past : Past) → SchedulerUpholds past old d → (is_unborn (phase_of e p) ≡ false) × HoldsAs past (boss_part w.member) w.next p e
     gone_stands past u =
         let n = upholds_seen past old noted d w.note.views w.note.waiting u in
-        let f = one_upholds member_answers (Keeps past boss_part) (boss_upheld past) p (scene [] noted.crew d) (scene w.back run e) w.visits
+        let f = one_upholds (told_answers w.front told) (Keeps past boss_part) (told_upheld past w.front told) p (scene [] noted.crew d) (scene w.back run e) w.visits
         (record { members = n.members; waiting = n.waiting; left = none_gone past (left noted.crew) w.note.left }) in
-        let g = subst (λ (rs : List (Role Member)). AreGone member_answers (Keeps past boss_part) (boss_upheld past) (roles run) rs e) left_is f.left in
+        let g = subst (λ (rs : List (Role Member)). AreGone (told_answers w.front told) (Keeps past boss_part) (told_upheld past w.front told) (roles run) rs e) left_is f.left in
         (g.0.1, g.0.2)
       where
-        none_gone : (past : Past) (rs : List (Role Member)) → rs ≡ [] → AreGone member_answers (Keeps past boss_part) (boss_upheld past) (roles noted.crew) rs d
-        none_gone past rs is = subst (λ (xs : List (Role Member)). AreGone member_answers (Keeps past boss_part) (boss_upheld past) (roles noted.crew) xs d) (sym is) tt
+        none_gone : (past : Past) (rs : List (Role Member)) → rs ≡ [] → AreGone (told_answers w.front told) (Keeps past boss_part) (told_upheld past w.front told) (roles noted.crew) rs d
+        none_gone past rs is = subst (λ (xs : List (Role Member)). AreGone (told_answers w.front told) (Keeps past boss_part) (told_upheld past w.front told) (roles noted.crew) xs d) (sym is) tt
 
     pub pulls_exit : (alive : Bool) → alive ≡ lives d p → Pulls old d (Some (job_of_exit alive gone)) new e
     pulls_exit alive lives_is = subst (λ (ps : List Pid). PullsFirst ps old d (Some (job_of_exit alive gone)) new e) (sym w.was_queue) (
       inr (record {
         view = member_view (w.member, w.next);
         was = was_view;
-        says = (λ j. job_of_exit (lives_is j) (it_is.1 j)) ∙ ap (exit_job p w.member.tag w.next) (has_left.told ended_is);
+        says = (λ j. job_of_exit (lives_is j) (it_is.1 j)) ∙ ap (exit_job p w.member.tag w.next) (has_left.reason ended_is);
         now = viewed new None (λ q other. same q) (ap (option_map member_view) out);
         exits = has_left.exits;
         gone = has_left.gone;
@@ -307,110 +320,108 @@ module _ (old noted : Scheduler) (d e : ShardState) (run : Crew Member) (p : Pid
         (λ it. some_none (roles new.crew q) (b, n) (ap (roles new.crew) (sym (same_pid_is p q it)) ∙ out) is)
         (λ other. other_of new (λ x o. same x) q b n other is))
 
-  -- nobody has left ------------------------------------------------------------------------------
+  -- the outside was told -------------------------------------------------------------------------
 
-  module _ (mid new : Scheduler) (job : Option Job) (nobody : left run ≡ []) (same : AreSame (roles run) (roles mid.crew)) (stands : queue mid.crew ≡ queue run) (refused : was_refused mid.crew ≡ was_refused run) (waits : waiting mid.crew ≡ waiting run)
-      (before : Option Next) (before_is : before ≡ option_map (λ (r : Member × Next). r.1) (roles noted.crew p)) (takes_job : TakesJob p before mid job new) where
-    before_was : before ≡ Some w.next
-    before_was = before_is ∙ ap (option_map (λ (r : Member × Next). r.1)) w.role
+  module _ (job : Job) (is : told ≡ Some job) (new : Scheduler) (its_crew : new.crew ≡ run) where
+    some_told : {X : Type 0} → told ≡ None → X
+    some_told none = absurd (let bad : Some job ≡ None = sym is ∙ none in cc)
 
-    none_held_by : (b : Member) (n : Next) → b.notes.handed ≡ None → roles run p ≡ Some (b, n) → (job ≡ None) × (new ≡ mid)
-    none_held_by b n bare is = subst (λ (o : Option (Option Item)). TakesHeld p before b n o mid job new) bare (subst (λ (o : Option (Member × Next)). TakesOf p before o mid job new) (same p ∙ is) takes_job)
+    begins_now : (is_running (roles noted.crew p) ≡ false) × (is_running (roles run p) ≡ true)
+    begins_now = w.begins (ap is_some is)
 
-    empty : w.member.notes.handed ≡ None
-    empty = w.note.attends.empty p w.member w.next w.role
+    still_not : {X : Type 0} → roles run p ≡ Some (w.member, w.next) → X
+    still_not same = absurd (let b = begins_now in let bad : false ≡ true = sym b.0 ∙ ap is_running (w.role ∙ sym same) ∙ b.1 in cc)
 
-    -- one whose handler is outside
-    module _ (h : WasHanded (time_of old.crew) p w.member w.next (bore (waiting noted.crew) (waiting run)) d w.visits.tended (roles run p) e) where
-      abbrev told_member : Member
-      told_member = record w.member { notes = record (w.member.notes) { begun = true; handed = None } }
+    gone_not : {X : Type 0} → roles run p ≡ None → X
+    gone_not none = absurd (let b = begins_now in let bad : false ≡ true = ap is_running (sym none) ∙ b.1 in cc)
 
-      took : TakesHeld p before (record w.member { notes = record (w.member.notes) { handed = Some h.item } }) Running (Some h.item) mid job new
-      took = subst (λ (o : Option (Member × Next)). TakesOf p before o mid job new) (same p ∙ h.now_is) takes_job
+    pub was_handed : WasHanded told (time_of old.crew) p w.member w.next (bore (waiting noted.crew) (waiting run)) d w.visits.tended (roles run p) e
+    was_handed = elim w.comes [ inl h ↦ h | inr k ↦ elim k [ inl h ↦ some_told h.silent | inr j ↦ elim j [ inl h ↦ still_not h.now_is | inr h ↦ gone_not h.now_is ] ] ]
 
-      others : (q : Pid) → same_pid p q ≡ false → roles new.crew q ≡ roles run q
-      others q other = elsewhere (roles mid.crew) (roles new.crew) p (Some (told_member, Running)) took.1 q other ∙ same q
+    abbrev told_member : Member
+    told_member = record w.member { notes = record (w.member.notes) { begun = true } }
 
-      here : roles new.crew p ≡ Some (told_member, Running)
-      here = there (roles mid.crew) (roles new.crew) p (Some (told_member, Running)) took.1 p (same_pid_refl p)
+    others : (q : Pid) → same_pid p q ≡ false → roles new.crew q ≡ roles run q
+    others q other = ap (λ (c : Crew Member). roles c q) its_crew
 
-      pulls_handed : Pulls old d job new e
-      pulls_handed = subst (λ (o : Option Job). Pulls old d o new e) (sym took.0)
-          (subst (λ (ps : List Pid). PullsFirst ps old d (Some (record { pid = p; tag = w.member.tag; what = what_of w.member.notes.begun w.member.origin before h.item })) new e) (sym w.was_queue) (
-            inl (record {
-              view = member_view (w.member, w.next);
-              was = was_view;
-              outside = h.outside;
-              item = h.item;
-              may = h.may;
-              says = ap (λ (o : Option Next). given_job p w.member.tag (what_of w.member.notes.begun w.member.origin o h.item)) before_was;
-              taken = h.taken;
-              now = viewed new (Some (record (member_view (w.member, w.next)) { begun = true; next = Running })) others (ap (option_map member_view) here);
-              takes = h.takes;
-            }),
-            took.2.queue ∙ stands ∙ queue_rest Done h.tended refl,
-            (took.2.rest.waiting ∙ waits ∙ bare_waits h.bare ∙ w.note.waiting, took.2.rest.refused ∙ refused ∙ unrefused Done h.tended refl),
-          ))
+    here : roles new.crew p ≡ Some (told_member, Running)
+    here = ap (λ (c : Crew Member). roles c p) its_crew ∙ was_handed.now_is
 
-      attends_handed : Attends mid.crew e → mid.read ≡ noted.read → SchedulerAttends new e
-      attends_handed crew reads =
-          attends_then noted new d e w.note.attends w.later (took.2.attends e crew) (fresh_is (waiting run) (waiting new.crew) (took.2.rest.waiting ∙ waits) now_fresh) (took.2.read ∙ reads)
-          (λ q b n is. by_cases (same_pid p q)
-          (λ it.
-          let was : roles noted.crew q ≡ Some (w.member, w.next) = ap (roles noted.crew) (sym (same_pid_is p q it)) ∙ w.role in
-          let b_is : told_member ≡ b = ap (λ (r : Member × Next). r.0) (same_some _ (b, n) (sym here ∙ ap (roles new.crew) (same_pid_is p q it) ∙ is)) in
-          (w.member, w.next, was, ap (λ (x : Member). x.notes.ended) (sym b_is), ap (λ (x : Member). x.notes.handed) (sym b_is)))
-          (λ other. other_of new others q b n other is))
+    pub pulls_told : Pulls old d (Some job) new e
+    pulls_told = subst (λ (ps : List Pid). PullsFirst ps old d (Some job) new e) (sym w.was_queue) (
+      inl (record {
+        view = member_view (w.member, w.next);
+        was = was_view;
+        outside = was_handed.outside;
+        item = was_handed.item;
+        may = was_handed.may;
+        says = same_some job _ (sym is ∙ was_handed.says);
+        taken = was_handed.taken;
+        now = viewed new (Some (record (member_view (w.member, w.next)) { begun = true; next = Running })) others (ap (option_map member_view) here);
+        takes = was_handed.takes;
+      }),
+      ap queue its_crew ∙ queue_rest Done was_handed.tended refl,
+      (ap waiting its_crew ∙ bare_waits was_handed.bare ∙ w.note.waiting, ap was_refused its_crew ∙ unrefused Done was_handed.tended refl),
+    )
+
+    pub attends_told : new.read ≡ noted.read → SchedulerAttends new e
+    attends_told reads =
+        attends_then noted new d e w.note.attends w.later (subst (λ (c : Crew Member). Attends c e) (sym its_crew) w.aboard) (fresh_is (waiting run) (waiting new.crew) (ap waiting its_crew) now_fresh) reads
+        (λ q b n at. by_cases (same_pid p q)
+        (λ it.
+        let was : roles noted.crew q ≡ Some (w.member, w.next) = ap (roles noted.crew) (sym (same_pid_is p q it)) ∙ w.role in
+        let b_is : told_member ≡ b = ap (λ (r : Member × Next). r.0) (same_some _ (b, n) (sym here ∙ ap (roles new.crew) (same_pid_is p q it) ∙ at)) in
+        (w.member, w.next, was, ap (λ (x : Member). x.notes.ended) (sym b_is)))
+        (λ other. other_of new others q b n other at))
+
+  -- nothing was told, and nobody has left ------------------------------------------------------------
+
+  module _ (new : Scheduler) (none : told ≡ None) (nobody : left run ≡ []) (same : AreSame (roles run) (roles new.crew)) (stands : queue new.crew ≡ queue run) (refused : was_refused new.crew ≡ was_refused run) (waits : waiting new.crew ≡ waiting run) where
+    told_not : {X : Type 0} → WasHanded told (time_of old.crew) p w.member w.next (bore (waiting noted.crew) (waiting run)) d w.visits.tended (roles run p) e → X
+    told_not h = absurd (let bad = sym none ∙ h.says in cc)
 
     -- a supervisor
-    module _ (h : HasHandled (time_of old.crew) p w.member w.next (bore (waiting noted.crew) (waiting run)) d w.visits.tended (roles run p) e) where
+    module _ (h : HasHandled told (time_of old.crew) p w.member w.next (bore (waiting noted.crew) (waiting run)) d w.visits.tended (roles run p) e) where
       abbrev later_member : Member
       later_member = record w.member { boss = Some h.later }
 
-      silent : (job ≡ None) × (new ≡ mid)
-      silent = none_held_by later_member h.next empty h.now_is
+      new_here : roles new.crew p ≡ Some (later_member, h.next)
+      new_here = same p ∙ h.now_is
 
-      mid_here : roles mid.crew p ≡ Some (later_member, h.next)
-      mid_here = same p ∙ h.now_is
+      pulls_boss : Pulls old d None new e
+      pulls_boss = subst (λ (ps : List Pid). PullsFirst ps old d None new e) (sym w.was_queue) (inl (record {
+        view = member_view (w.member, w.next);
+        was = was_view;
+        boss = h.boss;
+        inside = h.inside;
+        item = h.item;
+        may = h.may;
+        mid = h.mid;
+        taken = h.taken;
+        next = h.next;
+        later = h.later;
+        births = bore (waiting noted.crew) (waiting run);
+        handles = h.handles;
+        now = viewed new (Some (record (member_view (w.member, w.next)) { next = h.next; boss = Some h.later })) (λ q other. same q) (ap (option_map member_view) new_here);
+        born = waits ∙ more.1 ∙ (λ j. w.note.waiting j ++ sym bore_is j);
+        takes = h.takes;
+        queue = stands ∙ queue_as (handed_as h.next (phase_of e p)) h.tended;
+        refused = refused ∙ unrefused (handed_as h.next (phase_of e p)) h.tended (handed_unrefused h.next (phase_of e p));
+      }))
 
-      pulls_boss : Pulls old d job new e
-      pulls_boss = subst (λ (o : Option Job). Pulls old d o new e) (sym silent.0) (subst (λ (x : Scheduler). Pulls old d None x e) (sym silent.1)
-          (subst (λ (ps : List Pid). PullsFirst ps old d None mid e) (sym w.was_queue) (inl (record {
-            view = member_view (w.member, w.next);
-            was = was_view;
-            boss = h.boss;
-            inside = h.inside;
-            item = h.item;
-            may = h.may;
-            mid = h.mid;
-            taken = h.taken;
-            next = h.next;
-            later = h.later;
-            births = bore (waiting noted.crew) (waiting run);
-            handles = h.handles;
-            now = viewed mid (Some (record (member_view (w.member, w.next)) { next = h.next; boss = Some h.later })) (λ q other. same q) (ap (option_map member_view) mid_here);
-            born = waits ∙ more.1 ∙ (λ j. w.note.waiting j ++ sym bore_is j);
-            takes = h.takes;
-            queue = stands ∙ queue_as (handed_as h.next (phase_of e p)) h.tended;
-            refused = refused ∙ unrefused (handed_as h.next (phase_of e p)) h.tended (handed_unrefused h.next (phase_of e p));
-          }))))
-
-      attends_boss : Attends mid.crew e → mid.read ≡ noted.read → SchedulerAttends new e
-      attends_boss crew reads = subst (λ (x : Scheduler). SchedulerAttends x e) (sym silent.1)
-          (attends_then noted mid d e w.note.attends w.later crew (fresh_is (waiting run) (waiting mid.crew) waits now_fresh) reads
+      attends_boss : Attends new.crew e → new.read ≡ noted.read → SchedulerAttends new e
+      attends_boss crew reads =
+          attends_then noted new d e w.note.attends w.later crew (fresh_is (waiting run) (waiting new.crew) waits now_fresh) reads
           (λ q b n is. by_cases (same_pid p q)
           (λ it.
           let was : roles noted.crew q ≡ Some (w.member, w.next) = ap (roles noted.crew) (sym (same_pid_is p q it)) ∙ w.role in
-          let b_is : later_member ≡ b = ap (λ (r : Member × Next). r.0) (same_some _ (b, n) (sym mid_here ∙ ap (roles mid.crew) (same_pid_is p q it) ∙ is)) in
-          (w.member, w.next, was, ap (λ (x : Member). x.notes.ended) (sym b_is), ap (λ (x : Member). x.notes.handed) (sym b_is) ∙ empty))
-          (λ other. other_of mid (λ x o. same x) q b n other is)))
+          let b_is : later_member ≡ b = ap (λ (r : Member × Next). r.0) (same_some _ (b, n) (sym new_here ∙ ap (roles new.crew) (same_pid_is p q it) ∙ is)) in
+          (w.member, w.next, was, ap (λ (x : Member). x.notes.ended) (sym b_is)))
+          (λ other. other_of new (λ x o. same x) q b n other is))
 
     -- nothing was done
-    module _ (h : HasStayed (time_of old.crew) p w.member w.next (bore (waiting noted.crew) (waiting run)) d w.visits.tended (roles run p) e) where
-      nothing : (job ≡ None) × (new ≡ mid)
-      nothing = none_held_by w.member w.next empty h.now_is
-
-      all_same : (q : Pid) → roles mid.crew q ≡ roles noted.crew q
+    module _ (h : HasStayed told (time_of old.crew) p w.member w.next (bore (waiting noted.crew) (waiting run)) d w.visits.tended (roles run p) e) where
+      all_same : (q : Pid) → roles new.crew q ≡ roles noted.crew q
       all_same q = same q ∙ by_cases (same_pid p q)
           (λ it. ap (roles run) (sym (same_pid_is p q it)) ∙ h.now_is ∙ sym w.role ∙ ap (roles noted.crew) (same_pid_is p q it))
           (λ other. elsewhere_role q other)
@@ -420,35 +431,34 @@ module _ (old noted : Scheduler) (d e : ShardState) (run : Crew Member) (p : Pid
       none_comes (inr is) = no_births Refused is (λ x. x)
 
       puts : ((w.visits.tended ≡ Idle) × HasNothing (time_of old.crew) p w.next d) ⊎ (w.visits.tended ≡ Refused)
-          → (HasNothing (time_of old.crew) p w.next d × (queue mid.crew ≡ w.rest) × (was_refused mid.crew ≡ was_refused old.crew))
-          ⊎ ((queue mid.crew ≡ w.rest ++ p ∷ []) × (was_refused mid.crew ≡ true))
+          → (HasNothing (time_of old.crew) p w.next d × (queue new.crew ≡ w.rest) × (was_refused new.crew ≡ was_refused old.crew))
+          ⊎ ((queue new.crew ≡ w.rest ++ p ∷ []) × (was_refused new.crew ≡ true))
       puts (inl is) = inl (is.1, stands ∙ queue_rest Idle is.0 refl, refused ∙ unrefused Idle is.0 refl)
       puts (inr is) = inr (
         stands ∙ queue_as Refused is,
         refused ∙ w.visits.refused ∙ or_true (was_refused noted.crew) (is_refused w.visits.tended) (ap is_refused is),
       )
 
-      pulls_nothing : Pulls old d job new e
-      pulls_nothing = subst (λ (o : Option Job). Pulls old d o new e) (sym nothing.0) (subst (λ (x : Scheduler). Pulls old d None x e) (sym nothing.1)
-          (subst (λ (ps : List Pid). PullsFirst ps old d None mid e) (sym w.was_queue) (inr (record {
-            view = member_view (w.member, w.next);
-            was = was_view;
-            views = λ q. ap (option_map member_view) (all_same q) ∙ w.note.views q;
-            desk = h.desk;
-            waits = waits ∙ none_comes h.tended ∙ w.note.waiting;
-            queue = puts h.tended;
-          }))))
+      pulls_nothing : Pulls old d None new e
+      pulls_nothing = subst (λ (ps : List Pid). PullsFirst ps old d None new e) (sym w.was_queue) (inr (record {
+        view = member_view (w.member, w.next);
+        was = was_view;
+        views = λ q. ap (option_map member_view) (all_same q) ∙ w.note.views q;
+        desk = h.desk;
+        waits = waits ∙ none_comes h.tended ∙ w.note.waiting;
+        queue = puts h.tended;
+      }))
 
-      attends_nothing : Attends mid.crew e → mid.read ≡ noted.read → SchedulerAttends new e
-      attends_nothing crew reads = subst (λ (x : Scheduler). SchedulerAttends x e) (sym nothing.1)
-          (attends_then noted mid d e w.note.attends w.later crew (fresh_is (waiting run) (waiting mid.crew) waits now_fresh) reads
-          (λ q b n is. let was : roles noted.crew q ≡ Some (b, n) = sym (all_same q) ∙ is in (b, n, was, refl, w.note.attends.empty q b n was)))
+      attends_nothing : Attends new.crew e → new.read ≡ noted.read → SchedulerAttends new e
+      attends_nothing crew reads =
+          attends_then noted new d e w.note.attends w.later crew (fresh_is (waiting run) (waiting new.crew) waits now_fresh) reads
+          (λ q b n is. let was : roles noted.crew q ≡ Some (b, n) = sym (all_same q) ∙ is in (b, n, was, refl))
 
-    gone_not : {X : Type 0} → HasLeft (time_of old.crew) p w.member w.next (bore (waiting noted.crew) (waiting run)) d w.visits.tended (roles run p) e → X
-    gone_not h = absurd (let bad : [] ≡ left_as p (Some (w.member, w.next)) Ended = sym nobody ∙ left_now ∙ ap (left_as p (Some (w.member, w.next))) h.tended in cc)
+    left_not : {X : Type 0} → HasLeft told (time_of old.crew) p w.member w.next (bore (waiting noted.crew) (waiting run)) d w.visits.tended (roles run p) e → X
+    left_not h = absurd (let bad : [] ≡ left_as p (Some (w.member, w.next)) Ended = sym nobody ∙ left_now ∙ ap (left_as p (Some (w.member, w.next))) h.tended in cc)
 
-    pub pulls_job : Pulls old d job new e
-    pulls_job = elim w.comes [ inl h ↦ pulls_handed h | inr k ↦ elim k [ inl h ↦ pulls_boss h | inr j ↦ elim j [ inl h ↦ pulls_nothing h | inr h ↦ gone_not h ] ] ]
+    pub pulls_none_told : Pulls old d None new e
+    pulls_none_told = elim w.comes [ inl h ↦ told_not h | inr k ↦ elim k [ inl h ↦ pulls_boss h | inr j ↦ elim j [ inl h ↦ pulls_nothing h | inr h ↦ left_not h ] ] ]
 
-    pub attends_job : Attends mid.crew e → mid.read ≡ noted.read → SchedulerAttends new e
-    attends_job crew reads = elim w.comes [ inl h ↦ attends_handed h crew reads | inr k ↦ elim k [ inl h ↦ attends_boss h crew reads | inr j ↦ elim j [ inl h ↦ attends_nothing h crew reads | inr h ↦ gone_not h ] ] ]
+    pub attends_none_told : Attends new.crew e → new.read ≡ noted.read → SchedulerAttends new e
+    attends_none_told crew reads = elim w.comes [ inl h ↦ told_not h | inr k ↦ elim k [ inl h ↦ attends_boss h crew reads | inr j ↦ elim j [ inl h ↦ attends_nothing h crew reads | inr h ↦ left_not h ] ] ]

@@ -18,22 +18,25 @@ use Rattle.pt_shard.specs.Calls.{BearsChild, birth_link}
 use Rattle.pt_desk.specs.DeskState.{DeskState}
 use Rattle.pt_desk.specs.Turns.{Turns}
 use Rattle.pt_desk.specs.declared.turned.Turned.{Turned}
-use Rattle.pt_crew.specs.declared.behaviour.Next.{Next}
-use Rattle.pt_crew.specs.declared.behaviour.Next.TheVariants.{Running, Proceed}
-use Rattle.pt_crew.specs.declared.births.Role.{Role}
+use Rattle.pt_behaviour.specs.declared.behaviour.Next.{Next}
+use Rattle.pt_behaviour.specs.declared.behaviour.Next.TheVariants.{Running, Proceed}
+use Rattle.pt_behaviour.specs.declared.births.Role.{Role}
 use Rattle.pt_crew.specs.declared.crew.Crew.{Crew}
 use Rattle.pt_crew.specs.Visiting.{AreSame, AreWith, Roles}
 use Rattle.pt_crew.specs.Crews.{Enters, IsSame, left, queue, role, roles, scene, waiting}
 use Rattle.pt_crew.specs.Stepping.{EndsStep, EntersChild, IsAnswered, Serves}
-use Rattle.pt_crew.specs.Upholding.{AllFirst, AllStand, IsLater, IsLeftAlone, IsUpheld, Upholds}
-use Rattle.pt_crew.proofs.Upholding.{alone_event, alone_same, alone_then, born_then, enter_upholds, first_back, first_front, later_after, later_same, later_then, same_pid_sym, turn_upholds}
-use Rattle.pt_crew.proofs.Waking.{by_cases, elsewhere, same_some, there}
+use Rattle.pt_behaviour.specs.Upholding.{AllFirst, IsLater, IsLeftAlone, IsUpheld}
+use Rattle.pt_crew.specs.Upholding.{AllStand, Upholds}
+use Rattle.pt_behaviour.proofs.Upholding.{acts_is, alone_event, alone_same, alone_then, born_then, first_back, first_front, later_after, later_same, later_then, same_pid_sym}
+use Rattle.pt_crew.proofs.Upholding.{AreGone, all_enter, enter_upholds, one_upholds, turn_upholds}
+use Rattle.pt_behaviour.proofs.Cases.{by_cases, same_some}
+use Rattle.pt_crew.proofs.Waking.{elsewhere, there}
 use Rattle.pt_events.specs.declared.event.Stamped.{Stamped}
 use Rattle.pt_supervisor.specs.declared.children.Child.{Child}
 use Rattle.pt_supervisor.specs.declared.supervisor.Supervisor.{Supervisor}
 use Rattle.pt_supervisor.specs.Children.{NoneLives}
 use Rattle.pt_supervisor.specs.Hearing.{Standing, standing}
-use Rattle.pt_supervisor.specs.Keeping.{HoldsAs, Keeps, SupervisorBegins}
+use Rattle.pt_supervisor.specs.Keeping.{ActsAs, AllBegin, AnswerAs, HoldsAs, Keeps, SupervisorBegins}
 use Rattle.pt_supervisor.proofs.Tending.{begins, upheld}
 use Rattle.pt_scheduler.specs.Exits.{exit_in}
 use Rattle.pt_scheduler.specs.declared.member.Member.{Member}
@@ -43,11 +46,11 @@ use Rattle.pt_scheduler.specs.declared.plan.Plan.{Plan}
 use Rattle.pt_scheduler.specs.declared.plan.SupervisorSpec.{SupervisorSpec}
 use Rattle.pt_scheduler.specs.declared.scheduler.Scheduler.{Scheduler}
 use Rattle.pt_scheduler.specs.Planning.{child_as}
-use Rattle.pt_scheduler.specs.Members.{boss_part, member_answers}
+use Rattle.pt_scheduler.specs.Members.{TellsBy, boss_part, member_answers}
 use Rattle.pt_scheduler.specs.Scheduling.{AreLeftAlone, SameViews, SchedulerAttends, BecomesBoss, IsNewBoss, IsNoBoss, MemberView, NotesLost, SchedulerUpholds, member_view, member_views}
-use Rattle.pt_scheduler.specs.Taken.{DropsLeft, IsAllNoted, KeepsExits, member_role_kept, TakesHeld, TakesJob, TakesOf}
+use Rattle.pt_scheduler.specs.Taken.{DropsLeft, IsAllNoted, KeepsExits, member_role_kept}
+use Rattle.pt_scheduler.proofs.Coming.{told_answers}
 use Rattle.pt_scheduler.proofs.Noting.{attends_dropped}
-use Rattle.pt_scheduler.proofs.Served.{AreGone, all_enter, one_upholds}
 
 module _ (past : Past) where
   abbrev pub holds : Member → Next → Pid → ShardState → Type 0
@@ -55,6 +58,30 @@ module _ (past : Past) where
 
   pub boss_upheld : IsUpheld member_answers (Keeps past boss_part)
   boss_upheld = upheld past boss_part member_answers (λ time b d me item next now e births h. h.0)
+
+  -- so it is if the outside is told
+  outside_as : (time : ℕ) (b : Member) (d : ShardState) (p : Pid) (item : Option Item) (now : Member) (e : ShardState) (births : List (Role Member)) (before : Next) (job : Job) (o : Option (Supervisor Plan))
+      → b.boss ≡ o → TellsBy o p before item b (Some job) now → e ≡ d → births ≡ [] → AnswerAs boss_part time b d p item Running now e births
+  outside_as time b d p item now e births before job (Some boss) is tells same bare = absurd (let bad = tells.0 in cc)
+  outside_as time b d p item now e births before job None is tells same bare = (
+    subst (λ (o : Option Standing). ActsAs o p item d Running (boss_part now) e) (sym (ap (option_map standing) is))
+        (ap boss_part tells.1 ∙ ap (option_map standing) is, acts_is p d e same),
+    subst (λ (bs : List (Role Member)). AllBegin boss_part bs) (sym bare) tt,
+  )
+
+  inside_as : (time : ℕ) (b : Member) (d : ShardState) (p : Pid) (item : Option Item) (next : Next) (now : Member) (e : ShardState) (births : List (Role Member)) (before : Next) (mid : Member) (o : Option (Supervisor Plan))
+      → TellsBy o p before item b None mid → member_answers time mid d p item next now e births → AnswerAs boss_part time b d p item next now e births
+  inside_as time b d p item next now e births before mid None tells h = absurd (let bad = tells.0 in cc)
+  inside_as time b d p item next now e births before mid (Some boss) tells h = subst (λ (x : Member). AnswerAs boss_part time x d p item next now e births) tells.1 h.0
+
+  told_as : (front : Option Next) (told : Option Job) (time : ℕ) (b : Member) (d : ShardState) (p : Pid) (item : Option Item) (next : Next) (now : Member) (e : ShardState) (births : List (Role Member))
+      → told_answers front told time b d p item next now e births → AnswerAs boss_part time b d p item next now e births
+  told_as front (Some job) time b d p item next now e births h =
+      subst (λ (n : Next). AnswerAs boss_part time b d p item n now e births) (sym h.3) (outside_as time b d p item now e births h.0 job b.boss refl h.2 h.4 h.5)
+  told_as front None time b d p item next now e births h = inside_as time b d p item next now e births h.0 h.1 b.boss h.3 h.4
+
+  pub told_upheld : (front : Option Next) (told : Option Job) → IsUpheld (told_answers front told) (Keeps past boss_part)
+  told_upheld front told = upheld past boss_part (told_answers front told) (told_as front told)
 
   -- of what is seen of a member
   abbrev pub HoldsSeen : MemberView → Pid → ShardState → Type 0
@@ -207,38 +234,22 @@ module _ (past : Past) where
 
   -- one is come to -----------------------------------------------------------------------------------
 
-  pub served_upholds : (ps : List Pid) (old new : Crew Member) (d e : ShardState) → left old ≡ [] → Serves member_answers ps old d new e → Upholds (Keeps past boss_part) old d → Upholds (Keeps past boss_part) new e
-  served_upholds [] old new d e bare s u =
+  pub served_upholds : (front : Option Next) (told : Option Job) (ps : List Pid) (old new : Crew Member) (d e : ShardState) → left old ≡ [] → Serves (told_answers front told) ps old d new e → Upholds (Keeps past boss_part) old d → Upholds (Keeps past boss_part) new e
+  served_upholds front told [] old new d e bare s u =
       subst (λ (x : ShardState). Upholds (Keeps past boss_part) new x) (sym s.1) (record {
         members = λ q r is. u.members q r (sym (ap (option_map role) (s.0.members q)) ∙ is);
         waiting = subst (AllFirst (Keeps past boss_part)) (sym s.0.rest.waiting) u.waiting;
       })
-  served_upholds (p ∷ ps) old new d e bare s u =
-      let f = one_upholds member_answers (Keeps past boss_part) boss_upheld p (scene [] old d) (scene s.0 new e) s.1
+  served_upholds front told (p ∷ ps) old new d e bare s u =
+      let f = one_upholds (told_answers front told) (Keeps past boss_part) (told_upheld front told) p (scene [] old d) (scene s.0 new e) s.1
       (record { members = u.members; waiting = u.waiting; left = nobody (left old) bare }) in
       record { members = f.members; waiting = f.waiting }
     where
       open_gone : List (Role Member) → Type 0
-      open_gone rs = AreGone member_answers (Keeps past boss_part) boss_upheld (roles old) rs d
+      open_gone rs = AreGone (told_answers front told) (Keeps past boss_part) (told_upheld front told) (roles old) rs d
 
       nobody : (rs : List (Role Member)) → rs ≡ [] → open_gone rs
       nobody rs is = subst open_gone (sym is) tt
-
-  -- what a member holds is taken
-  held_stands : (old new : Scheduler) (d : ShardState) (p : Pid) (before : Option Next) (job : Option Job) (b : Member) (n : Next) (o : Option (Option Item)) → roles old.crew p ≡ Some (b, n) → TakesHeld p before b n o old job new
-      → SchedulerUpholds past old d → SchedulerUpholds past new d
-  held_stands old new d p before job b n None was t u = subst (λ (x : Scheduler). SchedulerUpholds past x d) (sym t.1) u
-  held_stands old new d p before job b n (Some item) was t u = record {
-    members = stands_with (roles old.crew) (roles new.crew) d p (record b { notes = record (b.notes) { begun = true; handed = None } }) n t.1 (u.members p (b, n) was) u.members;
-    waiting = subst (AllFirst (Keeps past boss_part)) (sym t.2.rest.waiting) u.waiting;
-  }
-
-  role_stands : (old new : Scheduler) (d : ShardState) (p : Pid) (before : Option Next) (job : Option Job) (o : Option (Member × Next)) → roles old.crew p ≡ o → TakesOf p before o old job new → SchedulerUpholds past old d → SchedulerUpholds past new d
-  role_stands old new d p before job None was t u = subst (λ (x : Scheduler). SchedulerUpholds past x d) (sym t.1) u
-  role_stands old new d p before job (Some r) was t u = held_stands old new d p before job r.0 r.1 r.0.notes.handed was t u
-
-  pub taken_upholds : (old new : Scheduler) (d : ShardState) (p : Pid) (before : Option Next) (job : Option Job) → TakesJob p before old job new → SchedulerUpholds past old d → SchedulerUpholds past new d
-  taken_upholds old new d p before job t u = role_stands old new d p before job (roles old.crew p) refl t u
 
   -- a loss is noted
   lost_seen : (b : Bool) (r : Reason) (o : Option MemberView) (v : MemberView) (q : Pid) (d : ShardState) → cond b (option_map (λ (x : MemberView). record x { lost = Some r }) o) o ≡ Some v → ((x : MemberView) → o ≡ Some x → HoldsSeen x q d) → HoldsSeen v q d
@@ -252,13 +263,13 @@ module _ (past : Past) where
     waiting = subst (AllFirst (Keeps past boss_part)) (sym l.rest.waiting) u.waiting;
   }
 
-  -- so it is after the calls of a pull, up to the one that takes who left
-  pub pulled_upholds : (old dropped noted now : Scheduler) (run : Crew Member) (d e : ShardState) → SchedulerAttends old d → DropsLeft old dropped → (SchedulerAttends dropped d → IsAllNoted dropped d noted)
-      → Serves member_answers (queue noted.crew) noted.crew d run e → AreSame (roles run) (roles now.crew) → waiting now.crew ≡ waiting run → SchedulerUpholds past old d → SchedulerUpholds past now e
-  pulled_upholds old dropped noted now run d e a drops notes serves same waits u =
+  -- so it is after the calls of a pull
+  pub pulled_upholds : (front : Option Next) (told : Option Job) (old dropped noted now : Scheduler) (run : Crew Member) (d e : ShardState) → SchedulerAttends old d → DropsLeft old dropped → (SchedulerAttends dropped d → IsAllNoted dropped d noted)
+      → Serves (told_answers front told) (queue noted.crew) noted.crew d run e → AreSame (roles run) (roles now.crew) → waiting now.crew ≡ waiting run → SchedulerUpholds past old d → SchedulerUpholds past now e
+  pulled_upholds front told old dropped noted now run d e a drops notes serves same waits u =
       let n = notes (attends_dropped old dropped d a drops) in
       let seen = upholds_seen dropped noted d n.views n.rest.waiting (upholds_same old dropped d drops.roles drops.waiting u) in
-      upholds_same (record now { crew = run }) now e same waits (served_upholds (queue noted.crew) noted.crew run d e (n.rest.left ∙ drops.left) serves seen)
+      upholds_same (record now { crew = run }) now e same waits (served_upholds front told (queue noted.crew) noted.crew run d e (n.rest.left ∙ drops.left) serves seen)
 
   -- a turn of the desk
   pub turned_upholds : (t : Scheduler) (budget : ℕ) (d e : DeskState) (turned : Turned) → Turns budget d turned e → SchedulerUpholds past t d.shard → SchedulerUpholds past t e.shard

@@ -7,8 +7,8 @@ use Rattle.pt_signal.specs.Values.{same_pid}
 use Rattle.pt_events.specs.declared.event.Event.{Event}
 use Rattle.pt_events.specs.declared.event.Event.TheVariants.{Left}
 use Rattle.pt_events.specs.declared.event.Stamped.{Stamped}
-use Rattle.pt_crew.specs.declared.behaviour.Next.{Next}
-use Rattle.pt_crew.specs.declared.behaviour.Next.TheVariants.{Stop}
+use Rattle.pt_behaviour.specs.declared.behaviour.Next.{Next}
+use Rattle.pt_behaviour.specs.declared.behaviour.Next.TheVariants.{Stop}
 
 -- the reason that was noted of an exit: by the journal, or else by a loss
 abbrev pub noted_reason : Option Reason → Option Reason → Reason

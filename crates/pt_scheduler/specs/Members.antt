@@ -1,14 +1,15 @@
 -- What a process of a scheduler is, what it answers, and what is told of it.
-use Rattle.std.specs.Prelude.{◌≡◌, ℕ, cond, Bool, List, [], ◌++◌, Option, Some, None}
+use Rattle.std.specs.Prelude.{◌≡◌, ℕ, cond, Bool, true, List, [], ◌++◌, Option, Some, None}
 use Rattle.std.specs.Option.{option_map}
 use Rattle.pt_signal.specs.declared.pid.Pid.{Pid}
 use Rattle.pt_signal.specs.declared.item.Item.{Item}
 use Rattle.pt_shard.specs.ShardState.{ShardState}
 use Rattle.pt_desk.specs.DeskState.{DeskState}
-use Rattle.pt_crew.specs.declared.behaviour.Next.{Next}
-use Rattle.pt_crew.specs.declared.behaviour.Next.TheVariants.{Proceed, Running}
-use Rattle.pt_crew.specs.declared.births.Role.{Role}
-use Rattle.pt_crew.specs.Visiting.{Answers}
+use Rattle.pt_behaviour.specs.declared.behaviour.Next.{Next}
+use Rattle.pt_behaviour.specs.declared.behaviour.Next.TheVariants.{Proceed, Running}
+use Rattle.pt_behaviour.specs.declared.births.Role.{Role}
+use Rattle.pt_behaviour.specs.Behaving.{Answers}
+use Rattle.pt_crew.specs.Outside.{TellsOf}
 use Rattle.pt_supervisor.specs.declared.supervisor.Supervisor.{Supervisor}
 use Rattle.pt_supervisor.specs.Ending.{child_end_heard}
 use Rattle.pt_supervisor.specs.Hearing.{program_of, standing}
@@ -43,10 +44,10 @@ pub record BossHandles (time : ℕ) (old : Supervisor Plan) (d : ShardState) (me
       (record { start = plan; standing = standing old; desk = desk; born = waited }) next
       (record { start = program_of new; standing = standing new; desk = later; born = waited ++ births })
 
--- one whose handler is outside has what it was handed then, and is running; a supervisor handles it
+-- one whose handler is outside is running then; a supervisor handles it
 abbrev pub AnswersBy : Option (Supervisor Plan) → Answers Member
 AnswersBy None time old d me item next new e births =
-    (next ≡ Running) × (new ≡ record old { notes = record (old.notes) { handed = Some item } }) × (e ≡ d) × (births ≡ [])
+    (next ≡ Running) × (new ≡ old) × (e ≡ d) × (births ≡ [])
 AnswersBy (Some boss) time old d me item next new e births =
     (later : Supervisor Plan) × (new ≡ record old { boss = Some later })
     × BossHandles time boss d me item next later e births
@@ -56,11 +57,21 @@ abbrev pub member_answers : Answers Member
 member_answers time old d me item next new e births =
     AnswerAs boss_part time old d me item next new e births × AnswersBy old.boss time old d me item next new e births
 
--- what a process is told that was handed this, by whether it has begun, who started it, and what it was to do
+-- what a process is told that gets this, by whether it has begun, who started it, and what it was to do
 abbrev pub what_of : Bool → Option Origin → Option Next → Option Item → What
 what_of begun origin before (Some item) = Gets item
 what_of begun origin (Some Proceed) None = cond begun Proceeds (Start origin)
 what_of begun origin before None = Timeout
+
+-- what is told of a process whose handler is outside: it has begun then. Of a supervisor nothing is told
+abbrev pub TellsBy : Option (Supervisor Plan) → TellsOf Member Job
+TellsBy None me before item old told new =
+    (told ≡ Some (record { pid = me; tag = old.tag; what = what_of old.notes.begun old.origin (Some before) item }))
+    × (new ≡ record old { notes = record (old.notes) { begun = true } })
+TellsBy (Some boss) me before item old told new = (told ≡ None) × (new ≡ old)
+
+abbrev pub member_tells : TellsOf Member Job
+member_tells me before item old told new = TellsBy old.boss me before item old told new
 
 -- what is told of one that left, and was alive or not as it was come to
 abbrev pub job_of_exit : Bool → Role Member → Job

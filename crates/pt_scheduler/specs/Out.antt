@@ -2,7 +2,7 @@
 use Rattle.std.specs.Prelude.{◌≡◌, cond, Bool, false, Option, Some, None}
 use Rattle.pt_signal.specs.declared.pid.Pid.{Pid}
 use Rattle.pt_shard.specs.ShardState.{ShardState}
-use Rattle.pt_crew.specs.declared.behaviour.Next.{Next}
+use Rattle.pt_behaviour.specs.declared.behaviour.Next.{Next}
 use Rattle.pt_crew.specs.Visiting.{AreWith}
 use Rattle.pt_crew.specs.Crews.{Attends, KeepsRest, queue, roles}
 use Rattle.pt_crew.specs.Stepping.{QueueIsLonger}

@@ -2,8 +2,8 @@
 use Rattle.std.specs.Prelude.{◌≡◌, ℕ, true, false, List, [], map, Option, Some, None, Result, Ok, Err, length, position, slice_get, slice_set}
 use Rattle.pt_signal.specs.declared.pid.Pid.{Pid}
 use Rattle.pt_shard.specs.declared.fault.Fault.{Fault}
-use Rattle.pt_crew.specs.declared.behaviour.Next.{Next}
-use Rattle.pt_crew.specs.declared.behaviour.Next.TheVariants.{Proceed}
+use Rattle.pt_behaviour.specs.declared.behaviour.Next.{Next}
+use Rattle.pt_behaviour.specs.declared.behaviour.Next.TheVariants.{Proceed}
 use Rattle.pt_supervisor.specs.declared.children.Child.{Child}
 use Rattle.pt_supervisor.specs.declared.trial.Trial.TheVariants.{First}
 use Rattle.pt_signal.specs.Values.{is_pid}
@@ -42,7 +42,7 @@ abbrev pub new_child : Post → Pid → Member
 new_child post boss = record {
   tag = post.tag;
   origin = Some (record { supervisor = boss; again = post.again });
-  notes = record { begun = false; handed = None; ended = None; lost = None };
+  notes = record { begun = false; ended = None; lost = None };
   boss = None;
 }
 

@@ -15,15 +15,17 @@ use Rattle.pt_shard.specs.Calls.{Bears, first_match}
 use Rattle.pt_shard.specs.declared.loss.Loss.{Loss}
 use Rattle.pt_shard.specs.declared.loss.Loss.TheVariants.{Exited, Stray}
 use Rattle.pt_shard.specs.ShardState.{ShardState, lives, phase_of, shard_after}
-use Rattle.pt_crew.specs.declared.behaviour.Next.{Next}
-use Rattle.pt_crew.specs.declared.behaviour.Next.TheVariants.{Wait, WaitUntil, Proceed, Running, Stop}
-use Rattle.pt_crew.specs.declared.births.Role.{Role}
+use Rattle.pt_behaviour.specs.declared.behaviour.Next.{Next}
+use Rattle.pt_behaviour.specs.declared.behaviour.Next.TheVariants.{Wait, WaitUntil, Proceed, Running, Stop}
+use Rattle.pt_behaviour.specs.declared.births.Role.{Role}
 use Rattle.pt_crew.specs.declared.crew.Crew.{Crew}
 use Rattle.pt_crew.specs.declared.crew.Member.{Member as Place}
-use Rattle.pt_crew.specs.Visiting.{AreSame, AreWith, again_as, handed_as, takes}
+use Rattle.pt_behaviour.specs.Behaving.{takes}
+use Rattle.pt_crew.specs.Visiting.{AreSame, AreWith, again_as, handed_as}
 use Rattle.pt_crew.specs.Handing.{MayBeHanded, item_handed}
 use Rattle.pt_crew.specs.Waking.{is_queued}
-use Rattle.pt_crew.specs.Upholding.{IsLeftAlone, ItemIsTaken, StandsStill, Upholds}
+use Rattle.pt_behaviour.specs.Upholding.{IsLeftAlone, ItemIsTaken}
+use Rattle.pt_crew.specs.Upholding.{StandsStill, Upholds}
 use Rattle.pt_crew.specs.Crews.{AreBorn, Attends, Enters, IsSame, KeepsRest, members, queue, roles, time_of, waiting, was_refused}
 use Rattle.pt_crew.specs.Stepping.{QueueIsLonger}
 use Rattle.pt_supervisor.specs.declared.children.Child.{Child}
@@ -51,7 +53,7 @@ abbrev pub new_member : ℕ → Option (Supervisor Plan) → Member
 new_member tag boss = record {
   tag = tag;
   origin = None;
-  notes = record { begun = false; handed = None; ended = None; lost = None };
+  notes = record { begun = false; ended = None; lost = None };
   boss = boss;
 }
 
@@ -120,15 +122,14 @@ pub record Noted (t : Scheduler) (d : ShardState) : Type 0 where
   pub counted : length seen ≡ t.read
   pub ends : (p : Pid) (b : Member) (n : Next) → roles t.crew p ≡ Some (b, n) → b.notes.ended ≡ exit_in p seen
 
--- of those who wait to enter nothing is known yet
+-- of those who wait to enter no exit is known yet
 abbrev pub AreUntold : List (Role Member) → Type 0
 AreUntold [] = ⊤
-AreUntold (r ∷ rs) = ((r.behaviour.notes.handed ≡ None) × (r.behaviour.notes.ended ≡ None)) × AreUntold rs
+AreUntold (r ∷ rs) = (r.behaviour.notes.ended ≡ None) × AreUntold rs
 
--- The scheduler is one of this desk. It is so as it is made, and each call leaves it so. No member holds anything.
+-- The scheduler is one of this desk. It is so as it is made, and each call leaves it so.
 pub record SchedulerAttends (t : Scheduler) (d : ShardState) : Type 0 where
   pub crew : Attends t.crew d
-  pub empty : (p : Pid) (b : Member) (n : Next) → roles t.crew p ≡ Some (b, n) → b.notes.handed ≡ None
   pub fresh : AreUntold (waiting t.crew)
   pub noted : Noted t d
 

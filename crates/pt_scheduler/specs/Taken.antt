@@ -1,13 +1,12 @@
 -- What the parts of a pull do. No public clause cites this module.
-use Rattle.std.specs.Prelude.{◌≡◌, ◌+◌, ◌≤◌, ℕ, true, List, [], length, slice_set, Option, Some, None}
+use Rattle.std.specs.Prelude.{◌≡◌, ◌+◌, ◌≤◌, ℕ, List, [], length, slice_set, Option, Some, None}
 use Rattle.std.specs.Option.{option_map}
 use Rattle.pt_signal.specs.declared.pid.Pid.{Pid}
-use Rattle.pt_signal.specs.declared.item.Item.{Item}
 use Rattle.pt_signal.specs.declared.reason.Reason.{Reason}
 use Rattle.pt_events.specs.declared.event.Event.{Event}
 use Rattle.pt_events.specs.declared.event.Stamped.{Stamped}
 use Rattle.pt_shard.specs.ShardState.{ShardState}
-use Rattle.pt_crew.specs.declared.behaviour.Next.{Next}
+use Rattle.pt_behaviour.specs.declared.behaviour.Next.{Next}
 use Rattle.pt_crew.specs.Visiting.{AreSame, AreWith}
 use Rattle.pt_crew.specs.Crews.{Attends, KeepsRest, left, queue, roles, time_of, waiting, was_refused}
 use Rattle.pt_supervisor.specs.declared.supervisor.Supervisor.{Supervisor}
@@ -17,7 +16,6 @@ use Rattle.pt_scheduler.specs.declared.member.Job.{Job}
 use Rattle.pt_scheduler.specs.declared.plan.Plan.{Plan}
 use Rattle.pt_scheduler.specs.declared.scheduler.Scheduler.{Scheduler}
 use Rattle.pt_scheduler.specs.Exits.{exit_by, exit_in}
-use Rattle.pt_scheduler.specs.Members.{what_of}
 use Rattle.pt_scheduler.specs.Scheduling.{SameViews, SchedulerAttends, Pulls, new_member}
 
 -- all exits of the journal were noted, and nothing else has changed
@@ -70,21 +68,6 @@ pub record SetsBoss (p : Pid) (boss : Supervisor Plan) (old new : Scheduler) : T
   pub set : (was : Member) (n : Next) → roles old.crew p ≡ Some (was, n)
       → AreWith p (Some (record was { boss = Some boss }, n)) (roles old.crew) (roles new.crew)
   pub none : roles old.crew p ≡ None → AreSame (roles old.crew) (roles new.crew)
-
--- the member gives what it holds, and holds nothing then; all else stays
-abbrev pub TakesHeld : Pid → Option Next → Member → Next → Option (Option Item) → Scheduler → Option Job → Scheduler → Type 0
-TakesHeld p before b n None old job new = (job ≡ None) × (new ≡ old)
-TakesHeld p before b n (Some item) old job new =
-    (job ≡ Some (record { pid = p; tag = b.tag; what = what_of b.notes.begun b.origin before item }))
-    × AreWith p (Some (record b { notes = record (b.notes) { begun = true; handed = None } }, n)) (roles old.crew) (roles new.crew)
-    × StaysElse old new
-
-abbrev pub TakesOf : Pid → Option Next → Option (Member × Next) → Scheduler → Option Job → Scheduler → Type 0
-TakesOf p before None old job new = (job ≡ None) × (new ≡ old)
-TakesOf p before (Some r) old job new = TakesHeld p before r.0 r.1 r.0.notes.handed old job new
-
-abbrev pub TakesJob : Pid → Option Next → Scheduler → Option Job → Scheduler → Type 0
-TakesJob p before old job new = TakesOf p before (roles old.crew p) old job new
 
 -- those who left are forgotten, and nothing else
 pub record DropsLeft (old new : Scheduler) : Type 0 where

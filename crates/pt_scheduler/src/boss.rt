@@ -1,8 +1,8 @@
 //! The supervisor that a process is, on the heap.
 
 ghost use Rattle.std.specs.Prelude.{◌≡◌, IfOk, position};
-ghost use Rattle.pt_crew.specs.Births.{bore, born, kept_roles, time_told};
-ghost use Rattle.pt_crew.specs.Visiting.{takes};
+ghost use Rattle.pt_behaviour.specs.Births.{bore, born, kept_roles, time_told};
+ghost use Rattle.pt_behaviour.specs.Behaving.{takes};
 ghost use Rattle.pt_desk.specs.DeskState.{GoesOn};
 ghost use Rattle.pt_signal.specs.Values.{is_pid};
 ghost use Rattle.pt_supervisor.specs.Ending.{child_end_heard};
@@ -17,7 +17,7 @@ ghost use Rattle.pt_scheduler.specs.Planning.{again_at, posts_heard, posts_of, s
 
 use crate::member::Member;
 use crate::plan::{ChildSpec, Plan, delete_child, mark, start_child};
-use pt_crew::{Births, Next};
+use pt_behaviour::{Births, Next};
 use pt_supervisor::{Child, ChildCounts, ChildFault, GaveUp, Supervisor};
 use pt_workers::{Desk, Item, Pid};
 use std::alloc::{AllocError, Global};

@@ -24,7 +24,8 @@
 //! - **Nothing else is done.** On the desk a job takes the first item that the pick of its process fits, or makes the exit
 //!   that was answered, or does nothing. A supervisor does there what its handler does. (`HandsOut`, `TellsExit`,
 //!   `RunsBoss`, `StaysPut`)
-//! - **Nothing is kept back.** Between calls no member holds anything that it has not been told. (`SchedulerAttends`)
+//! - **Nothing is kept back.** The call that takes an item returns it, and no process has a place to hold one.
+//!   (`HandsOut`)
 //! - **No lost wake-up.** After each call a process that has something to do is in the queue, or what it got is not read
 //!   yet. After `begin_step` and `end_step` it is in the queue. (`attends`, `awake`)
 //! - **Supervisors as they are.** A supervisor of a scheduler handles each item as `Supervisor::handle` does. So its

@@ -1,17 +1,18 @@
 //! A process of a scheduler, and what is told of it.
 
 ghost use Rattle.std.specs.Prelude.{◌≡◌, None, Some, false, true};
-ghost use Rattle.std.specs.Option.{ForSome, option_copied, option_map};
-ghost use Rattle.pt_crew.specs.declared.behaviour.Next.TheVariants.{Running};
+ghost use Rattle.std.specs.Option.{option_copied, option_map};
+ghost use Rattle.pt_behaviour.specs.declared.behaviour.Next.TheVariants.{Running};
 ghost use Rattle.pt_scheduler.specs.Exits.{noted_reason, reason_told};
 ghost use Rattle.pt_supervisor.specs.Hearing.{standing};
 ghost use Rattle.pt_scheduler.specs.Planning.{new_child};
 ghost use Rattle.pt_scheduler.specs.Out.{IsApart};
-ghost use Rattle.pt_scheduler.specs.Members.{boss_part, member_answers, what_of, job_of_exit};
+ghost use Rattle.pt_scheduler.specs.Members.{boss_part, member_answers, member_tells, what_of, job_of_exit};
 
 use crate::boss::Boss;
 use crate::plan::{Origin, Post};
-use pt_crew::{Behaviour, Births, Next, Role};
+use pt_behaviour::{Behaviour, Births, Next, Role};
+use pt_crew::Outside;
 use pt_supervisor::{Child, Supervised};
 use pt_workers::{Desk, Item, Pid, Reason};
 
@@ -49,8 +50,6 @@ pub struct Job {
 pub struct Notes {
     /// Whether it has been told anything.
     pub(crate) begun: bool,
-    /// What it was handed, until it is told: an item, or `None` if it proceeds or its time has come.
-    pub(crate) handed: Option<Option<Item>>,
     /// The reason with which it exited, once that was read in the journal.
     pub(crate) ended: Option<Reason>,
     /// The reason with which it exited, once a loss told it, or the history of a node that was resumed.
@@ -71,11 +70,10 @@ impl Notes {
     /// Of a process that begins.
     #[inline(always)]
     fn none() -> Notes
-        ensures { result ≡ record { begun = false; handed = None; ended = None; lost = None } }
+        ensures { result ≡ record { begun = false; ended = None; lost = None } }
     {
         Notes {
             begun: false,
-            handed: None,
             ended: None,
             lost: None,
         }
@@ -89,7 +87,7 @@ impl Member {
         ensures { result ≡ record {
           tag = tag;
           origin = None;
-          notes = record { begun = false; handed = None; ended = None; lost = None };
+          notes = record { begun = false; ended = None; lost = None };
           boss = boss;
         } }
     {
@@ -133,14 +131,6 @@ impl Member {
         self.notes
     }
 
-    /// What it was handed and has not been told.
-    #[inline(always)]
-    pub(crate) fn handed(&self) -> Option<Option<Item>>
-        ensures { result ≡ self.now.notes.handed }
-    {
-        self.notes.handed
-    }
-
     /// The children of the supervisor that it is, if it is one.
     pub(crate) fn children(&self) -> Option<&[Child]>
         ensures { option_copied result ≡ option_map (λ s. (standing s).children) self.now.boss }
@@ -167,22 +157,6 @@ impl Member {
             origin,
             notes,
             boss,
-        }
-    }
-
-    /// The same process, of which this is known, if it is no supervisor.
-    #[inline(always)]
-    pub(crate) fn told(&self, notes: Notes) -> Option<Member>
-        ensures { ForSome result (λ it. (self.now.boss ≡ None) × (it ≡ record self.now { notes = notes })) }
-    {
-        match &self.boss {
-            Some(_) => None,
-            None => Some(Member {
-                tag: self.tag,
-                origin: self.origin,
-                notes,
-                boss: None,
-            }),
         }
     }
 
@@ -234,14 +208,14 @@ impl Member {
         }
     }
 
-    /// What it is told, which was to do this, and was handed this item or none.
+    /// What it is told, which was to do this, and got this item or none.
     #[inline(always)]
-    pub(crate) fn what(&self, before: Option<Next>, item: Option<Item>) -> What
-        ensures { result ≡ what_of self.now.notes.begun self.now.origin before item }
+    fn what(&self, before: Next, item: Option<Item>) -> What
+        ensures { result ≡ what_of self.now.notes.begun self.now.origin (Some before) item }
     {
         match (item, before) {
             (Some(item), _) => What::Item(item),
-            (None, Some(Next::Proceed)) => {
+            (None, Next::Proceed) => {
                 if self.notes.begun {
                     What::Proceed
                 } else {
@@ -302,11 +276,28 @@ impl Behaviour for Member {
     ) -> Next {
         match &mut self.boss {
             Some(boss) => boss.handle(desk, births, me, item),
-            None => {
-                self.notes.handed = Some(item);
-                Next::Running
-            }
+            None => Next::Running,
         }
+    }
+}
+
+impl Outside for Member {
+    type Told = Job;
+
+    ghost tells = { member_tells };
+
+    #[inline(always)]
+    fn tell(&mut self, me: Pid, before: Next, item: Option<Item>) -> Option<Job> {
+        if self.boss.is_some() {
+            return None;
+        }
+        let what = self.what(before, item);
+        self.notes.begun = true;
+        Some(Job {
+            pid: me,
+            tag: self.tag,
+            what,
+        })
     }
 }
 

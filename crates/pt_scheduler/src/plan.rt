@@ -1,7 +1,7 @@
 //! What a supervisor is made of, as plain data.
 
 ghost use Rattle.std.specs.Prelude.{◌≡◌, ◌∷◌, ◌++◌, [], IfOk, OnErr, OnOk, false, length, map, remove, slice_get};
-ghost use Rattle.pt_crew.specs.declared.behaviour.Next.TheVariants.{Proceed};
+ghost use Rattle.pt_behaviour.specs.declared.behaviour.Next.TheVariants.{Proceed};
 ghost use Rattle.pt_supervisor.specs.Hearing.{program_of, standing};
 ghost use Rattle.pt_supervisor.specs.Changed.{RemembersWhere};
 ghost use Rattle.pt_supervisor.specs.Keeping.{HoldsWhere, SupervisorBegins};
@@ -10,7 +10,7 @@ ghost use Rattle.pt_scheduler.specs.Planning.{begun_as, child_as, post_as, post_
 
 use crate::boss::Boss;
 use crate::member::Member;
-use pt_crew::Next;
+use pt_behaviour::Next;
 use pt_supervisor::{Child, ChildFault, Limit, Restart, Shutdown, Start, Strategy, Supervisor};
 use pt_workers::{Fault, Pid};
 use std::alloc::{AllocError, Global};

@@ -9,23 +9,23 @@ ghost use Rattle.pt_shard.specs.ShardState.{ShardState};
 ghost use Rattle.pt_shard.specs.Extends.{Extends};
 ghost use Rattle.pt_desk.specs.DeskState.{GoesOn};
 ghost use Rattle.pt_crew.specs.Visiting.{AreSame};
-ghost use Rattle.pt_crew.specs.Crews.{AreBorn, Attends, Enters, HasRoom, IsNextTime, IsSame, KeepsRest};
+ghost use Rattle.pt_crew.specs.Crews.{AreBorn, Attends, Enters, HasRoom, IsNextTime, IsSame, KeepsRest, IsIdle};
 ghost use Rattle.pt_crew.specs.Crews.{crew_size, left, queue, roles, time_of, was_refused};
 ghost use Rattle.pt_crew.specs.Running.{is_idle};
 ghost use Rattle.pt_crew.specs.Stepping.{BeginsStep, EndsStep, EntersChild, IsAnswered, QueueIsLonger, is_running};
-ghost use Rattle.pt_supervisor.specs.Keeping.{IsIdle};
 ghost use Rattle.pt_scheduler.specs.Owning.{desk_after, desk_of};
 ghost use Rattle.pt_scheduler.specs.Scheduling.{AreAllQueued, BecomesBoss, Fills, IsNoBoss, NoneNoted, NotesLoss};
 ghost use Rattle.pt_scheduler.specs.Scheduling.{NotesLost, Pulls, SchedulerAttends, SchedulerGoesOn, SchedulerUpholds};
 ghost use Rattle.pt_scheduler.specs.Scheduling.{SpawnsBoss, children_seen, crew_of, member_views, new_member};
 ghost use Rattle.pt_scheduler.specs.Taken.{DropsLeft, IsAllNoted, NotesExit, PullsInto, SetsBoss, SetsMember};
 ghost use Rattle.pt_scheduler.specs.Taken.{KeepsExit, KeepsExits};
-ghost use Rattle.pt_scheduler.specs.Taken.{SetsNotes, StaysElse, TakesMember, TakesJob};
+ghost use Rattle.pt_scheduler.specs.Taken.{SetsNotes, StaysElse, TakesMember};
 
 use crate::boss::Boss;
 use crate::member::{Job, Member, Notes, What, job_of_exit};
 use crate::plan::{ChildSpec, SupervisorSpec, supervisor};
-use pt_crew::{Crew, Next};
+use pt_behaviour::Next;
+use pt_crew::Crew;
 use pt_events::Stamped;
 use pt_supervisor::Child;
 use pt_workers::{Desk, Event, Fault, Loss, Pid, Reason};
@@ -257,7 +257,8 @@ impl Scheduler {
         Ok(true)
     }
 
-    /// Says what a running process does next. It joins the queue's end.
+    /// Says what a running process does next. It joins the queue's end, unless it waits without an end and its mailbox
+    /// has been empty since it was told.
     ///
     /// It returns `false`, and nothing has changed, if the process is not running or is none of these. It fails for
     /// want of memory only if this attends no desk.
@@ -369,12 +370,13 @@ impl Scheduler {
         let p = self.crew.first()?;
         self.drop_left();
         self.note(desk);
-        let before = self.crew.next(p);
         let alive = desk.alive_here(p);
-        self.crew.run_first(desk);
+        if let Some(job) = self.crew.serve_first(desk) {
+            return Some(job);
+        }
         match self.crew.take_left() {
             Some(left) => Some(job_of_exit(left, alive)),
-            None => self.take_job(p, before),
+            None => None,
         }
     }
 
@@ -496,30 +498,6 @@ impl Scheduler {
             ..known
         };
         self.set_notes(p, notes);
-    }
-
-    /// What p is told, if it was handed something, which was to do this before. It holds nothing then.
-    fn take_job(&mut self, p: Pid, before: Option<Next>) -> Option<Job>
-        ensures { TakesJob p before self.old result self.new }
-    {
-        let member = self.crew.behaviour(p)?;
-        let item = member.handed()?;
-        let job = Job {
-            pid: p,
-            tag: member.tag(),
-            what: member.what(before, item),
-        };
-        let known = member.notes();
-        let notes = Notes {
-            begun: true,
-            handed: None,
-            ..known
-        };
-        match member.told(notes) {
-            Some(told) => self.put_back(p, told),
-            None => self.set_notes(p, notes),
-        }
-        Some(job)
     }
 
     /// Keeps the reason of each exit in a history.

@@ -10,7 +10,8 @@ use Rattle.pt_shard.specs.ShardState.{ShardState}
 use Rattle.pt_desk.specs.DeskState.{DeskState}
 use Rattle.pt_node.specs.Pasts.{GoOnFrom}
 use Rattle.pt_crew.specs.Crews.{AreBorn, roles}
-use Rattle.pt_crew.specs.Upholding.{AllFirst, AllStand}
+use Rattle.pt_behaviour.specs.Upholding.{AllFirst}
+use Rattle.pt_crew.specs.Upholding.{AllStand}
 use Rattle.pt_supervisor.specs.Keeping.{Keeps}
 use Rattle.pt_scheduler.specs.declared.member.Member.{Member}
 use Rattle.pt_scheduler.specs.declared.scheduler.Scheduler.{Scheduler}

@@ -6,7 +6,7 @@ ghost use Rattle.pt_shard.specs.ShardState.{ShardState};
 ghost use Rattle.pt_desk.specs.DeskState.{DeskState};
 ghost use Rattle.pt_desk.specs.Turns.{Turns};
 ghost use Rattle.pt_desk.specs.declared.turned.Turned.{Turned};
-ghost use Rattle.pt_crew.specs.Upholding.{IsLater};
+ghost use Rattle.pt_behaviour.specs.Upholding.{IsLater};
 ghost use Rattle.pt_pauses.specs.Still.{QuietChildrenLive};
 ghost use Rattle.pt_pauses.specs.Stopping.{StoppedChildrenEnded};
 ghost use Rattle.pt_scheduler.specs.declared.scheduler.Scheduler.{Scheduler};

@@ -22,13 +22,13 @@ use Rattle.pt_shard.specs.declared.fault.Fault.TheVariants.{Full, Memory, Worn, 
 use Rattle.pt_shard.specs.ShardState.{ShardState, phase_of, state_in, shard_after, written}
 use Rattle.pt_shard.specs.Known.{knows}
 use Rattle.pt_desk.specs.DeskState.{DeskState}
-use Rattle.pt_crew.specs.declared.behaviour.Next.{Next}
-use Rattle.pt_crew.specs.declared.behaviour.Next.TheVariants.{WaitUntil}
-use Rattle.pt_crew.specs.declared.call_fault.CallFault.{CallFault}
-use Rattle.pt_crew.specs.declared.call_fault.CallFault.TheVariants.{Unknown}
-use Rattle.pt_crew.specs.Upholding.{IsLater}
-use Rattle.pt_crew.proofs.Waking.{by_cases}
-use Rattle.pt_crew.proofs.Upholding.{phase_is}
+use Rattle.pt_behaviour.specs.declared.behaviour.Next.{Next}
+use Rattle.pt_behaviour.specs.declared.behaviour.Next.TheVariants.{WaitUntil}
+use Rattle.pt_behaviour.specs.declared.call_fault.CallFault.{CallFault}
+use Rattle.pt_behaviour.specs.declared.call_fault.CallFault.TheVariants.{Unknown}
+use Rattle.pt_behaviour.specs.Upholding.{IsLater}
+use Rattle.pt_behaviour.proofs.Cases.{by_cases}
+use Rattle.pt_behaviour.proofs.Upholding.{phase_is}
 use Rattle.pt_supervisor.specs.declared.asked.Asked.{Asked}
 use Rattle.pt_supervisor.specs.declared.asked.Stage.{Stage}
 use Rattle.pt_supervisor.specs.declared.asked.Stage.TheVariants.{Gone, Watched, Waiting, Until, Killed}

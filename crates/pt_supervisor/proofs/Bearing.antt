@@ -6,10 +6,10 @@ use Rattle.pt_signal.specs.declared.pid.Pid.{Pid}
 use Rattle.pt_signal.specs.declared.item.Item.{Item}
 use Rattle.pt_signal.specs.declared.reason.Reason.{Reason}
 use Rattle.pt_shard.specs.declared.fault.Fault.{Fault}
-use Rattle.pt_crew.specs.declared.behaviour.Next.{Next}
-use Rattle.pt_crew.specs.declared.births.Role.{Role}
+use Rattle.pt_behaviour.specs.declared.behaviour.Next.{Next}
+use Rattle.pt_behaviour.specs.declared.births.Role.{Role}
 use Rattle.pt_shard.specs.ShardState.{ShardState}
-use Rattle.pt_crew.specs.Births.{Bore, bore}
+use Rattle.pt_behaviour.specs.Births.{Bore, bore}
 use Rattle.pt_supervisor.specs.declared.children.Child.{Child}
 use Rattle.pt_supervisor.specs.declared.children.Shutdown.{Shutdown}
 use Rattle.pt_supervisor.specs.declared.restart.Strategy.{Strategy}

@@ -15,13 +15,13 @@ use Rattle.pt_shard.specs.ShardState.{ShardState, state_in}
 use Rattle.pt_shard.specs.Known.{knows}
 use Rattle.pt_shard.specs.Calls.{Calls}
 use Rattle.pt_desk.specs.DeskState.{DeskState}
-use Rattle.pt_crew.specs.declared.behaviour.Next.{Next}
-use Rattle.pt_crew.specs.declared.behaviour.Next.TheVariants.{WaitUntil}
-use Rattle.pt_crew.specs.declared.births.Role.{Role}
-use Rattle.pt_crew.specs.declared.call_fault.CallFault.{CallFault}
-use Rattle.pt_crew.specs.declared.call_fault.CallFault.TheVariants.{Unknown}
-use Rattle.pt_crew.specs.Births.{Bore}
-use Rattle.pt_crew.specs.Upholding.{children_by}
+use Rattle.pt_behaviour.specs.declared.behaviour.Next.{Next}
+use Rattle.pt_behaviour.specs.declared.behaviour.Next.TheVariants.{WaitUntil}
+use Rattle.pt_behaviour.specs.declared.births.Role.{Role}
+use Rattle.pt_behaviour.specs.declared.call_fault.CallFault.{CallFault}
+use Rattle.pt_behaviour.specs.declared.call_fault.CallFault.TheVariants.{Unknown}
+use Rattle.pt_behaviour.specs.Births.{Bore}
+use Rattle.pt_behaviour.specs.Upholding.{children_by}
 use Rattle.pt_supervisor.specs.declared.asked.Stage.{Stage}
 use Rattle.pt_supervisor.specs.declared.asked.Stage.TheVariants.{Watched, Waiting, Until, Killed}
 use Rattle.pt_supervisor.specs.declared.asked.Stage.TheVariants as far
@@ -36,7 +36,7 @@ use Rattle.pt_supervisor.specs.Limits.{moment}
 use Rattle.pt_supervisor.specs.Supervising.{CountsBirths, counted_with, EndsChild, TellsToEnd, WatchesChild, after_watching, StartsOf, Nursery, BearsAs, TriesAt, StartsAt, StartsOne, StartsFirst, StartsUpTo, SupervisorScene, nursery, SupervisorSettles, AdvancesAs, SupervisorAttends, SupervisorHandles, with_one, after_attending}
 use Rattle.pt_supervisor.proofs.Families.{ToldAs, WatchedAs, heard_count, told_as, watched_as}
 use Rattle.pt_supervisor.proofs.Changing.{again_same}
-use Rattle.pt_supervisor.proofs.Tending.{ends_rest, not_born}
+use Rattle.pt_supervisor.proofs.Advancing.{ends_rest, not_born}
 
 more_then : (xs ys : List Pid) (n : ℕ) → counted_with (xs ++ ys) n ≡ counted_with xs (counted_with ys n)
 more_then [] ys n = refl

@@ -1,9 +1,9 @@
 -- What a supervisor does next as it stands.
-use Rattle.std.proofs.Common.{◌≡◌, inl, inr, ℕ, zero, suc, Bool, true, false, cond, List, length, slice_get, Option, Some, None, refl, sym, ap, ◌∙◌}
+use Rattle.std.proofs.Common.{◌≡◌, inl, inr, ℕ, zero, suc, Bool, true, false, cond, List, length, slice_get, Option, Some, None, refl, ap, ◌∙◌}
 use Rattle.std.specs.Prelude.{nat_le, ◌||◌, not}
 use Rattle.std.specs.Option.{option_map}
 use Rattle.pt_signal.specs.declared.pid.Pid.{Pid}
-use Rattle.pt_crew.specs.declared.behaviour.Next.TheVariants.{Proceed}
+use Rattle.pt_behaviour.specs.declared.behaviour.Next.TheVariants.{Proceed}
 use Rattle.pt_supervisor.specs.declared.asked.Stage.{Stage}
 use Rattle.pt_supervisor.specs.declared.asked.Stage.TheVariants.{Gone, Watched, Waiting, Until, Killed}
 use Rattle.pt_supervisor.specs.declared.children.Child.{Child}

@@ -9,11 +9,11 @@ use Rattle.pt_signal.specs.Values.{same_pid}
 use Rattle.pt_signal.proofs.Same.{same_pid_is}
 use Rattle.pt_shard.specs.declared.fault.Fault.TheVariants.{Full, Memory, Worn, Gone as Over, Myself, NoProc}
 use Rattle.pt_desk.specs.DeskState.{DeskState}
-use Rattle.pt_crew.specs.declared.behaviour.Next.{Next}
-use Rattle.pt_crew.specs.declared.behaviour.Next.TheVariants.{WaitUntil, Proceed}
-use Rattle.pt_crew.specs.declared.call_fault.CallFault.{CallFault}
-use Rattle.pt_crew.specs.declared.call_fault.CallFault.TheVariants.{Unknown}
-use Rattle.pt_crew.proofs.Waking.{by_cases}
+use Rattle.pt_behaviour.specs.declared.behaviour.Next.{Next}
+use Rattle.pt_behaviour.specs.declared.behaviour.Next.TheVariants.{WaitUntil, Proceed}
+use Rattle.pt_behaviour.specs.declared.call_fault.CallFault.{CallFault}
+use Rattle.pt_behaviour.specs.declared.call_fault.CallFault.TheVariants.{Unknown}
+use Rattle.pt_behaviour.proofs.Cases.{by_cases}
 use Rattle.pt_supervisor.specs.declared.asked.Asked.{Asked}
 use Rattle.pt_supervisor.specs.declared.asked.Stage.{Stage}
 use Rattle.pt_supervisor.specs.declared.asked.Stage.TheVariants.{Gone, Watched, Waiting, Until, Killed}

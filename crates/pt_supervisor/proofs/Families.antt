@@ -31,12 +31,12 @@ use Rattle.pt_shard.specs.ShardState.{ShardState, phase_of, state_in, shard_afte
 use Rattle.pt_shard.specs.Calls.{Calls, Monitors, Refuses}
 use Rattle.pt_desk.specs.DeskState.{DeskState}
 use Rattle.pt_desk.specs.Reaching.{Reaches, has_monitor_to_make}
-use Rattle.pt_crew.specs.declared.call_fault.CallFault.{CallFault}
-use Rattle.pt_crew.specs.declared.call_fault.CallFault.TheVariants.{Unknown}
-use Rattle.pt_crew.specs.Telling.{IfKnown, call_answered}
-use Rattle.pt_crew.specs.Upholding.{IsLater, ActsFor, child_by, children_by}
-use Rattle.pt_crew.proofs.Waking.{by_cases}
-use Rattle.pt_crew.proofs.Upholding.{later_is, later_same, later_then, later_after, born_then, phase_same, phase_is, alone_is, alone_then, alone_event, acts_is, acts_then, same_pid_sym, living_born}
+use Rattle.pt_behaviour.specs.declared.call_fault.CallFault.{CallFault}
+use Rattle.pt_behaviour.specs.declared.call_fault.CallFault.TheVariants.{Unknown}
+use Rattle.pt_behaviour.specs.Telling.{IfKnown, call_answered}
+use Rattle.pt_behaviour.specs.Upholding.{IsLater, ActsFor, child_by, children_by}
+use Rattle.pt_behaviour.proofs.Cases.{by_cases}
+use Rattle.pt_behaviour.proofs.Upholding.{later_is, later_same, later_then, later_after, born_then, phase_same, phase_is, alone_is, alone_then, alone_event, acts_is, acts_then, same_pid_sym, living_born}
 use Rattle.pt_supervisor.specs.declared.children.Child.{Child}
 use Rattle.pt_supervisor.specs.Children.{NoneLives}
 use Rattle.pt_supervisor.specs.Trying.{started_child}

@@ -9,7 +9,7 @@ pub mod Telling
 pub mod Families
 pub mod Changing
 pub mod Asking
+pub mod Advancing
 pub mod Tending
-pub mod Resting
 pub mod Bearing
 pub mod Counted

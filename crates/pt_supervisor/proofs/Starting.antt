@@ -20,7 +20,7 @@ use Rattle.pt_supervisor.specs.Trying.{earlier, failed_at, failed_child, failed_
 use Rattle.pt_supervisor.specs.Hearing.{Standing, first_heeded}
 use Rattle.pt_desk.specs.DeskState.{DeskState}
 use Rattle.pt_shard.specs.ShardState.{phase_of}
-use Rattle.pt_crew.specs.declared.behaviour.Next.{Next}
+use Rattle.pt_behaviour.specs.declared.behaviour.Next.{Next}
 use Rattle.pt_supervisor.specs.Supervising.{SetsAt, StartsAll, StartsOf, Nursery, StartsFirst, StartsOne, SupervisorScene, SupervisorSettles, Supervises, nursery}
 use Rattle.pt_supervisor.specs.Ending.{next_behind, next_tried}
 use Rattle.pt_supervisor.proofs.Wanting.{first_rest, kept_wanted, set_same, set_other}

@@ -18,7 +18,7 @@ use Rattle.pt_events.specs.declared.event.Event.{Event}
 use Rattle.pt_events.specs.declared.event.Event.TheVariants.{Born, Said, Came, Took, Flag, Left, Refused}
 use Rattle.pt_events.specs.History.{Past, Start, Phase, unborn, living, ended, at_start, is_unborn, state_of, life, change, touches, newborn, linked, while_living, gets, live_or_end}
 use Rattle.pt_events.specs.History.{after as turned}
-use Rattle.pt_crew.proofs.Waking.{by_cases}
+use Rattle.pt_behaviour.proofs.Cases.{by_cases}
 use Rattle.pt_supervisor.specs.Keeping.{is_end_of, tells_end, has_told, WereTold}
 use Rattle.pt_supervisor.proofs.Tying.{or_left, or_right}
 

@@ -16,7 +16,7 @@ use Rattle.pt_signal.specs.Values.{fits, same_pid, same_ref, without_first}
 use Rattle.pt_signal.specs.Process.{ProcessState, Verdict, drops, queues, ends, verdict, held, enter, cut, handle, obey, link_exit, down, holds_any}
 use Rattle.pt_signal.proofs.Same.{same_pid_is}
 use Rattle.pt_laws.proofs.linking.Entries.{held-enter, held-enter-other, held-cut-other, held-removed-other}
-use Rattle.pt_crew.proofs.Waking.{by_cases}
+use Rattle.pt_behaviour.proofs.Cases.{by_cases}
 use Rattle.pt_supervisor.specs.Keeping.{IsTied, is_end_of}
 
 pub or_left : (a b : Bool) → a ≡ true → (a || b) ≡ true

@@ -16,7 +16,7 @@ use Rattle.pt_supervisor.specs.Limits.{allows}
 use Rattle.pt_supervisor.specs.declared.trial.Trial.TheVariants.{Again}
 use Rattle.pt_supervisor.specs.Trying.{has_failed_first}
 use Rattle.pt_supervisor.specs.Hearing.{Standing, first_heeded, gone_heard, gone_on, gone, heard, heard_at, heard_gone, heeded_at, heeded_in, lives_again, lost, wanted_again, restarted_child, started_again, stopped, to_try, tried_again, tried_child, tried_where}
-use Rattle.pt_crew.proofs.Waking.{by_cases}
+use Rattle.pt_behaviour.proofs.Cases.{by_cases}
 
 pub set_same : (xs : List Child) (i : ℕ) (v : Child) → i < length xs → slice_get (slice_set xs i v) i ≡ Some v
 set_same xs i v l = slice_get-get_or (set xs i v) i v (omega (arith, length-set xs i v, l)) ∙ ap Some (get_or-set_same xs i v v l)

@@ -4,8 +4,8 @@ use Rattle.pt_signal.specs.declared.pid.Pid.{Pid}
 use Rattle.pt_signal.specs.declared.item.Pick.{Pick}
 use Rattle.pt_events.specs.History.{Past}
 use Rattle.pt_shard.specs.ShardState.{ShardState}
-use Rattle.pt_crew.specs.declared.behaviour.Next.{Next}
-use Rattle.pt_crew.specs.declared.behaviour.Next.TheVariants.{Wait, WaitUntil, Proceed}
+use Rattle.pt_behaviour.specs.declared.behaviour.Next.{Next}
+use Rattle.pt_behaviour.specs.declared.behaviour.Next.TheVariants.{Wait, WaitUntil, Proceed}
 use Rattle.pt_supervisor.specs.declared.asked.Stage.{Stage}
 use Rattle.pt_supervisor.specs.declared.asked.Stage.TheVariants.{Waiting, Until, Killed}
 use Rattle.pt_supervisor.specs.declared.children.Shutdown.{Shutdown}

@@ -21,14 +21,11 @@ use Rattle.pt_events.specs.Journal.{events}
 use Rattle.pt_shard.specs.ShardState.{ShardState, phase_of, state_in, lives}
 use Rattle.pt_laws.specs.Watch.{is_down_item, is_open}
 use Rattle.pt_workers.specs.Waking.{need_not_wait}
-use Rattle.pt_crew.specs.declared.behaviour.Next.{Next}
-use Rattle.pt_crew.specs.declared.behaviour.Next.TheVariants.{Proceed, WaitUntil}
-use Rattle.pt_crew.specs.declared.births.Role.{Role}
-use Rattle.pt_crew.specs.declared.crew.Crew.{Crew}
-use Rattle.pt_crew.specs.Visiting.{Answers}
-use Rattle.pt_crew.specs.Upholding.{Relation, ActsFor, ItemIsTaken, child_by, children_by}
-use Rattle.pt_crew.specs.Waking.{has_work}
-use Rattle.pt_crew.specs.Crews.{roles}
+use Rattle.pt_behaviour.specs.declared.behaviour.Next.{Next}
+use Rattle.pt_behaviour.specs.declared.behaviour.Next.TheVariants.{Proceed, WaitUntil}
+use Rattle.pt_behaviour.specs.declared.births.Role.{Role}
+use Rattle.pt_behaviour.specs.Behaving.{Answers}
+use Rattle.pt_behaviour.specs.Upholding.{Relation, ActsFor, ItemIsTaken, child_by, children_by}
 use Rattle.pt_supervisor.specs.declared.asked.Asked.{Asked}
 use Rattle.pt_supervisor.specs.declared.children.Child.{Child}
 use Rattle.pt_supervisor.specs.Children.{NoneLives}
@@ -242,7 +239,3 @@ SuperviseAs {B} answers part =
     (time : ℕ) (b : B) (d : ShardState) (me : Pid) (item : Option Item) (next : Next) (now : B) (e : ShardState)
     (births : List (Role B)) → answers time b d me item next now e births
     → AnswerAs part time b d me item next now e births
-
--- nobody of the crew has anything to do
-abbrev pub IsIdle : {B : Type 0} → Crew B → ShardState → Type 0
-IsIdle {B} c d = (p : Pid) (role : B × Next) → roles c p ≡ Some role → has_work role.1 (phase_of d p) ≡ false

@@ -15,14 +15,14 @@ use Rattle.pt_shard.specs.ShardState.{ShardState, phase_of, state_in}
 use Rattle.pt_shard.specs.Known.{knows}
 use Rattle.pt_shard.specs.Calls.{Calls}
 use Rattle.pt_desk.specs.DeskState.{DeskState}
-use Rattle.pt_crew.specs.declared.behaviour.Next.{Next}
-use Rattle.pt_crew.specs.declared.behaviour.Next.TheVariants.{Wait, WaitUntil, Proceed, Running, Stop}
-use Rattle.pt_crew.specs.declared.births.Role.{Role}
-use Rattle.pt_crew.specs.declared.births.Births.{Births}
-use Rattle.pt_crew.specs.Births.{Bore, born}
-use Rattle.pt_crew.specs.declared.call_fault.CallFault.{CallFault}
-use Rattle.pt_crew.specs.Telling.{IfKnown, Watches}
-use Rattle.pt_crew.specs.Upholding.{children_by}
+use Rattle.pt_behaviour.specs.declared.behaviour.Next.{Next}
+use Rattle.pt_behaviour.specs.declared.behaviour.Next.TheVariants.{Wait, WaitUntil, Proceed, Running, Stop}
+use Rattle.pt_behaviour.specs.declared.births.Role.{Role}
+use Rattle.pt_behaviour.specs.declared.births.Births.{Births}
+use Rattle.pt_behaviour.specs.Births.{Bore, born}
+use Rattle.pt_behaviour.specs.declared.call_fault.CallFault.{CallFault}
+use Rattle.pt_behaviour.specs.Telling.{IfKnown, Watches}
+use Rattle.pt_behaviour.specs.Upholding.{children_by}
 use Rattle.pt_supervisor.specs.declared.asked.Stage.{Stage}
 use Rattle.pt_supervisor.specs.declared.asked.Stage.TheVariants.{Gone, Watched, Waiting, Until, Killed}
 use Rattle.pt_supervisor.specs.declared.children.Child.{Child}

@@ -5,7 +5,7 @@ ghost use Rattle.pt_supervisor.specs.Changed.{due_at};
 ghost use Rattle.pt_supervisor.specs.Ending.{gone_in, is_noproc, is_ref, monitor_of, stage_of, unless_by, next_at_stage};
 
 use crate::children::Shutdown;
-use pt_crew::{CallFault, Next};
+use pt_behaviour::{CallFault, Next};
 use pt_workers::{Fault, Pick, Pid, Ref};
 
 /// What a supervisor has done to end a child.

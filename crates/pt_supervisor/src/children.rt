@@ -22,7 +22,7 @@ pub enum Shutdown {
     Infinity,
     /// By an exit signal `shutdown`, and if the child has not exited after this time, by an exit signal `kill`: the
     /// timeout of Erlang's child specifications. The time is that of the crew's steps
-    /// ([`Births::now`](pt_crew::Births::now)).
+    /// ([`Births::now`](pt_behaviour::Births::now)).
     After(u64),
     /// By an exit signal `kill`, which cannot be trapped: `brutal_kill`.
     BrutalKill,

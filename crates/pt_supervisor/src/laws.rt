@@ -12,7 +12,7 @@ pub fn permanent_children_live()
 
 /// A behaviour may change its supervisor by calls that keep what it upholds of its children (`HoldsWhere`, as
 /// [`Supervisor::terminate_child`](crate::Supervisor::terminate_child) and its like have it), before it passes an item to
-/// it (`before`). So it may afterwards, if it returns [`Next::Proceed`](pt_crew::Next::Proceed) then (`after`). It is
+/// it (`before`). So it may afterwards, if it returns [`Next::Proceed`](pt_behaviour::Next::Proceed) then (`after`). It is
 /// [`Supervised`](crate::Supervised) still: the supervisor tends to its children as one that nobody changed.
 pub fn changed_supervisors_tend()
     ensures before { ChangesBefore }

@@ -9,7 +9,7 @@ use std::alloc::{AllocError, Global};
 /// At most so many restarts within a span, of stamps or of time.
 ///
 /// A desk's clock counts stamps: each event on the desk has the next stamp, or a later one. The time is that of the
-/// crew's steps ([`Births::now`](pt_crew::Births::now)), in the unit of the program.
+/// crew's steps ([`Births::now`](pt_behaviour::Births::now)), in the unit of the program.
 #[derive(Drop)]
 pub struct Limit {
     /// The moments of the last restarts, the newest at the end.

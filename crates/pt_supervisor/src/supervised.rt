@@ -4,7 +4,7 @@ ghost use Rattle.std.specs.Prelude.{Option};
 ghost use Rattle.pt_supervisor.specs.Hearing.{Standing};
 ghost use Rattle.pt_supervisor.specs.Keeping.{SuperviseAs};
 
-use pt_crew::Behaviour;
+use pt_behaviour::Behaviour;
 
 /// A behaviour with values that are supervisors, as a program's enum that has a variant with a
 /// [`Supervisor`](crate::Supervisor) in it.

@@ -6,7 +6,7 @@ ghost use Rattle.pt_supervisor.specs.Ending.{next_tried};
 ghost use Rattle.std.specs.Option.{ForSome};
 ghost use Rattle.pt_signal.specs.declared.pid.Pid.{Pid};
 ghost use Rattle.pt_shard.specs.declared.fault.Fault.{Fault};
-ghost use Rattle.pt_crew.specs.declared.behaviour.Next.{Next};
+ghost use Rattle.pt_behaviour.specs.declared.behaviour.Next.{Next};
 
 use crate::asked::{Asked, Stage, due_at, gone_in, is_noproc, stage_of, unless_by};
 use crate::child_fault::{ChildFault, present};
@@ -16,7 +16,7 @@ use crate::limit::Limit;
 use crate::restart::Strategy;
 use crate::seen::{ChildCounts, ChildSeen, ChildState, counted, seen};
 use crate::trial::{Trial, all_started, first_failed, place_over};
-use pt_crew::{Births, CallFault, Next, exit_signal, monitor, spawn_child, trap};
+use pt_behaviour::{Births, CallFault, Next, exit_signal, monitor, spawn_child, trap};
 use pt_workers::{Desk, Fault, Item, Pick, Pid, Reason, Ref};
 use std::alloc::{AllocError, Global};
 use std::mem;
@@ -61,8 +61,8 @@ pub struct Supervisor<S> {
 impl<S> Supervisor<S> {
     ghost use Rattle.std.specs.Prelude.{◌<◌, IfOk, IfSome, Some, true, cond, length, map, slice_get};
     ghost use Rattle.pt_desk.specs.DeskState.{GoesOn};
-    ghost use Rattle.pt_crew.specs.Births.{born, kept_roles, time_told};
-    ghost use Rattle.pt_crew.specs.Visiting.{takes};
+    ghost use Rattle.pt_behaviour.specs.Births.{born, kept_roles, time_told};
+    ghost use Rattle.pt_behaviour.specs.Behaving.{takes};
     ghost use Rattle.pt_supervisor.specs.Calling.{AddsChild, DeletesChild, RestartsChild, TerminatesChild, with_wanted, without_child};
     ghost use Rattle.pt_supervisor.specs.Children.{AreStarted, NoneUnwanted, PermanentAreWanted};
     ghost use Rattle.pt_supervisor.specs.declared.asked.Stage.TheVariants.{Gone};
@@ -183,7 +183,7 @@ impl<S> Supervisor<S> {
     }
 
     /// Why it gave up, if it has: which child was not started, or not again, how often it had started children again, and in
-    /// what span. It then ends its children and exits with `shutdown`. [`Crew::left`](pt_crew::Crew::left) has its value then.
+    /// what span. It then ends its children and exits with `shutdown`. `Crew::left` of `pt_crew` has its value then.
     pub fn gave_up(&self) -> Option<GaveUp>
         ensures { result ≡ (standing self.now).gave_up }
     {

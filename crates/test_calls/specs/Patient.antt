@@ -3,11 +3,11 @@ use Rattle.std.specs.Prelude.{◌≡◌, [], List}
 use Rattle.std.proofs.Common.{sym, ap, subst}
 use Rattle.pt_shard.specs.ShardState.{ShardState, phase_of}
 use Rattle.pt_signal.specs.declared.item.Pick.TheVariants.{Any}
-use Rattle.pt_crew.specs.declared.behaviour.Next.{Next}
-use Rattle.pt_crew.specs.declared.behaviour.Next.TheVariants.{Wait, WaitUntil, Proceed, Running, Stop}
-use Rattle.pt_crew.specs.declared.births.Role.{Role}
-use Rattle.pt_crew.specs.Visiting.{Answers}
-use Rattle.pt_crew.specs.Upholding.{Relation, IsUpheld, AllFirst, children_by}
+use Rattle.pt_behaviour.specs.declared.behaviour.Next.{Next}
+use Rattle.pt_behaviour.specs.declared.behaviour.Next.TheVariants.{Wait, WaitUntil, Proceed, Running, Stop}
+use Rattle.pt_behaviour.specs.declared.births.Role.{Role}
+use Rattle.pt_behaviour.specs.Behaving.{Answers}
+use Rattle.pt_behaviour.specs.Upholding.{Relation, IsUpheld, AllFirst, children_by}
 
 -- it does nothing to its desk, bears nobody, and waits for any item
 abbrev pub Listens : {B : Type 0} → Answers B

@@ -5,7 +5,8 @@ ghost use Rattle.pt_workers.specs.Desks.{AreDesks, IsStill};
 
 use crate::compared::same;
 use crate::upheld::{Listener, never_stops};
-use pt_crew::{Crew, Next, link, send, unlink};
+use pt_behaviour::{Next, link, send, unlink};
+use pt_crew::Crew;
 use pt_node::{Body, Config, Desk, FreeGate, Item, Node, Pick, Takes, Work, open, take_each};
 use std::alloc::Global;
 use std::process::Abort;

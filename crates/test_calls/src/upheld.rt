@@ -5,7 +5,8 @@ ghost use Rattle.pt_workers.specs.declared.work.Standing.TheVariants.{Going};
 ghost use Rattle.pt_crew.specs.Running.{RestUpholds, RunUpholds};
 ghost use Rattle.test_calls.specs.Patient.{Listens, NeverStops};
 
-use pt_crew::{Behaviour, Births, Next, Upheld, crew_upholds, runs_uphold};
+use pt_behaviour::{Behaviour, Births, Next, Upheld};
+use pt_crew::{crew_upholds, runs_uphold};
 use pt_node::{Desk, FreeGate, Gate, Item, Pick, Pid};
 
 /// Counts the items that it receives.

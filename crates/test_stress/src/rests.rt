@@ -3,7 +3,7 @@
 ghost use Rattle.pt_desk.specs.DeskState.{GoesOn};
 
 use crate::board::DESKS;
-use pt_crew::send;
+use pt_behaviour::send;
 use pt_node::{Body, Config, Desk, Item, Node, Pick, Pid, Turned, Work};
 use pt_resting::{Bells, Door, Porter, Post, RestGate, RestingWork, Rests, way_in};
 use std::alloc::Global;

@@ -3,7 +3,7 @@ use Rattle.pt_crew.proofs.Upholding.{step_upholds, work_upholds, receipt_upholds
 use Rattle.pt_supervisor.specs.Keeping.{Keeps}
 use Rattle.pt_supervisor.proofs.Tending.{begins, upheld}
 use Rattle.pt_pauses.proofs.Still.{children_live}
-use Rattle.pt_supervisor.proofs.Resting.{nobody_upholds, awake_idle}
+use Rattle.pt_crew.proofs.Resting.{nobody_upholds, awake_idle}
 use Rattle.pt_pauses.proofs.supervised.quiet_children_live.Goals as goal
 
 pub returns-clause-nobody : goal.returns-clause-nobody

@@ -1,7 +1,7 @@
 -- `run`: its clauses `handles` and `tends`.
 use Rattle.std.proofs.Common.{List, refl, subst}
-use Rattle.pt_crew.specs.declared.births.Role.{Role}
-use Rattle.pt_crew.specs.Births.{bore, born, time_told}
+use Rattle.pt_behaviour.specs.declared.births.Role.{Role}
+use Rattle.pt_behaviour.specs.Births.{bore, born, time_told}
 use Rattle.pt_supervisor.specs.Hearing.{Standing, program_of, standing}
 use Rattle.pt_supervisor.specs.Supervising.{SupervisorHandles}
 use Rattle.pt_supervisor.specs.Keeping.{Tends}

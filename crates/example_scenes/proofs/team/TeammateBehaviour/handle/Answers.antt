@@ -1,8 +1,8 @@
 -- `TeammateBehaviour::handle`: its clause `answers`.
 use Rattle.std.proofs.Common.{◌≡◌, ℕ, Option, Some, Ok, refl, sym, subst}
 use Rattle.std.specs.Option.{option_map}
-use Rattle.pt_crew.specs.declared.behaviour.Next.{Next}
-use Rattle.pt_crew.specs.Births.{born}
+use Rattle.pt_behaviour.specs.declared.behaviour.Next.{Next}
+use Rattle.pt_behaviour.specs.Births.{born}
 use Rattle.pt_supervisor.specs.declared.supervisor.Supervisor.{Supervisor}
 use Rattle.pt_supervisor.specs.Hearing.{standing}
 use Rattle.pt_supervisor.specs.Supervising.{StartsOf}

@@ -3,7 +3,8 @@ use Rattle.std.proofs.Common.{refl, sym, ◌∙◌}
 use Rattle.pt_shard.specs.ShardState.{lives, phase_of}
 use Rattle.pt_crew.proofs.Admitting.{denied, nobody_waits}
 use Rattle.pt_crew.proofs.Room.{ok_not_err}
-use Rattle.pt_crew.proofs.Waking.{knows_is, living_born}
+use Rattle.pt_behaviour.proofs.Upholding.{living_born}
+use Rattle.pt_crew.proofs.Waking.{knows_is}
 use Rattle.pt_crew.proofs.Timing.{timers_is}
 use Rattle.pt_crew.proofs.crew.Crew.admit_one.Goals as goal
 

@@ -1,16 +1,16 @@
 -- `Crew::enter`: its clauses `knows`, `room` and `timers`.
-use Rattle.std.proofs.Common.{◌≡◌, true, Some, None, ap, sym, refl, ◌∙◌, arith}
+use Rattle.std.proofs.Common.{◌≡◌, false, true, Some, None, ap, sym, refl, ◌∙◌, arith}
 use Rattle.std.specs.Map.{lookup}
 use Rattle.pt_signal.specs.declared.pid.Pid.{Pid}
 use Rattle.pt_signal.specs.Values.{same_pid}
 use Rattle.pt_crew.specs.declared.crew.Member.{Member}
 use Rattle.pt_crew.specs.Crews.{members, unmarked}
-use Rattle.pt_crew.specs.Waking.{Knows}
-use Rattle.pt_crew.proofs.Newborn.{newborn_is}
-use Rattle.pt_crew.proofs.Waking.{changed, woken_queue, knows_same, knows_later, same_some}
+use Rattle.pt_crew.specs.Waking.{Knows, timer_of}
+use Rattle.pt_behaviour.proofs.Newborn.{newborn_is}
+use Rattle.pt_behaviour.proofs.Cases.{same_some}
+use Rattle.pt_crew.proofs.Waking.{changed, woken_queue, knows_same, knows_later}
 use Rattle.indexmap.specs.IndexMap.{insert_entry}
 use Rattle.pt_crew.proofs.Room.{unmarked_insert, unmarked_all}
-use Rattle.pt_crew.specs.Waking.{timer_of}
 use Rattle.pt_crew.proofs.Timing.{none_if, stopped_timers, stops_none, timed_same}
 use Rattle.pt_crew.proofs.crew.Crew.enter.Goals as goal
 
@@ -39,7 +39,7 @@ returns-in-Ok-clause-knows g c =
 pub returns-in-Ok-clause-room : goal.returns-in-Ok-clause-room
 returns-in-Ok-clause-room g c =
     let p = c.in_ok-pid.pid in
-    let v : Member g.row.B.Denot = record { behaviour = c.args.behaviour; next = c.args.first; queued = true; timer = None } in
+    let v : Member g.row.B.Denot = record { behaviour = c.args.behaviour; next = c.args.first; queued = true; clear = false; timer = None } in
     let e : unmarked c.insert.new.self.entries ≡ unmarked (insert_entry same_pid c.reserve.new.self.entries p v) = ap unmarked c.in-Ok.ensures.entries in
     let i = unmarked_insert same_pid c.reserve.new.self.entries p v refl in
     let a = unmarked_all c.reserve.new.self.entries in

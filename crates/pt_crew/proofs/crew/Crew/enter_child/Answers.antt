@@ -5,7 +5,7 @@ use Rattle.pt_signal.specs.Values.{same_pid}
 use Rattle.pt_shard.specs.Calls.{birth_link}
 use Rattle.pt_crew.specs.Stepping.{QueueIsLonger}
 use Rattle.pt_crew.specs.Crews.{members, queue}
-use Rattle.pt_crew.proofs.Newborn.{newborn_is}
+use Rattle.pt_behaviour.proofs.Newborn.{newborn_is}
 use Rattle.pt_crew.proofs.Timing.{none_if, timers_is}
 use Rattle.pt_crew.proofs.Visiting.{rest_then, same_roles}
 use Rattle.pt_crew.proofs.Waking.{knows_is, knows_later}

@@ -5,8 +5,7 @@ use Rattle.pt_crew.proofs.Reading.{look_next, on_ok, woke_timers}
 use Rattle.pt_crew.proofs.Waking.{knows_is}
 use Rattle.pt_crew.specs.Crews.{queue, roles}
 use Rattle.pt_crew.proofs.Visiting.{same_then, woke_roles, same_roles, longer_then, woke_longer, same_longer, woke_rest, rest_then, rest_read}
-use Rattle.pt_crew.proofs.Room.{ok_not_err}
-use Rattle.pt_crew.proofs.Room.{on_err_of}
+use Rattle.pt_crew.proofs.Room.{ok_not_err, on_err_of}
 use Rattle.pt_crew.proofs.Timing.{timers_is}
 use Rattle.pt_crew.proofs.crew.Crew.look.Goals as goal
 

@@ -39,7 +39,7 @@ returns-clause-attends g c =
     let set = (written_at m p i k v c.in-Some.ensures.index at unique w).0 in
     let s = unmarked_set m.entries i k v w at in
     λ d a. record {
-      knows = knows_replaced (members old) _ p v w held set refl refl old.queue.items old.read d a.knows;
+      knows = knows_replaced (members old) _ p v w held set refl (λ f h. h) old.queue.items old.read d a.knows;
       room = let r = a.room in omega (arith, s, r);
       timers = timed_replaced (members old) _ p v w held set refl refl old.timers refl a.timers;
     }

@@ -4,7 +4,8 @@ use Rattle.pt_signal.specs.declared.pid.Pid.{Pid}
 use Rattle.pt_desk.proofs.Turning.{extends}
 use Rattle.pt_crew.specs.Crews.{members}
 use Rattle.pt_crew.specs.Waking.{Knows}
-use Rattle.pt_crew.proofs.Waking.{changed, taken_out, turned, absent_at, no_place, some_none}
+use Rattle.pt_behaviour.proofs.Cases.{some_none}
+use Rattle.pt_crew.proofs.Waking.{changed, taken_out, turned, absent_at, no_place}
 use Rattle.pt_crew.proofs.Visiting.{passes_first, refused_first, is_there}
 use Rattle.pt_crew.proofs.Serving.{Came, serves_it, knows_it, timers_for_it, room_for_it}
 use Rattle.pt_crew.proofs.crew.Crew.run_first.Goals as goal
@@ -62,7 +63,7 @@ pub returns-clause-knows : goal.returns-clause-knows
 returns-clause-knows g c =
     let came : Came c.in-Some.p c.tend-came.result c.sleep-tended.result c.args.self.now _ c.put.new.self c.pair_mut-member.result.1.now c.tend-came.new.member c.sleep-tended.new.member _ =
     record { place = c.in-Some-place_of.place; key = c.pair_mut-member.result.0.now; index = c.in-Some-place_of.ensures.index; value = c.pair_mut-member.ensures.value; unique = c.pair_mut-member.ensures.unique; wrote = refl; same = refl; timer = refl; marked = c.goes_behind-member.ensures; slept = c.sleep-tended.ensures; its = c.tend-came.ensures.timer; done = c.tend-came.ensures.done; gone = c.tend-came.ensures.role; left = c.reserve.ensures.items; refused = refl; read = refl; time = refl; puts = c.put.ensures } in
-    knows_it _ _ _ _ _ _ _ _ _ _ came c.pop_front.new.self.items c.args.desk.now.shard c.tend-came.new.desk.shard c.tend-came.ensures.goes_on.shard c.in-Some.ensures.items refl c.tend-came.ensures.tends
+    knows_it _ _ _ _ _ _ _ _ _ _ came c.pop_front.new.self.items c.args.desk.now.shard c.tend-came.new.desk.shard c.tend-came.ensures.goes_on.shard c.in-Some.ensures.items refl c.tend-came.ensures.tends (λ bad. absurd (cc))
 
 pub returns-clause-room : goal.returns-clause-room
 returns-clause-room g c =

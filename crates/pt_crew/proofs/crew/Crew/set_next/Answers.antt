@@ -2,11 +2,11 @@
 use Rattle.std.proofs.Common.{ap, sym, refl, ◌∙◌, arith}
 use Rattle.std.specs.Option.{option_map}
 use Rattle.pt_crew.specs.declared.crew.Member.{Member}
-use Rattle.pt_crew.specs.declared.behaviour.Next.{Next}
+use Rattle.pt_behaviour.specs.declared.behaviour.Next.{Next}
 use Rattle.pt_crew.specs.Crews.{members, role}
 use Rattle.pt_crew.proofs.Places.{held_at, written_at}
 use Rattle.pt_crew.proofs.Room.{unmarked_set}
-use Rattle.pt_crew.proofs.Waking.{same_some}
+use Rattle.pt_behaviour.proofs.Cases.{same_some}
 use Rattle.pt_crew.proofs.Answering.{role_set, knows_set, timed_set}
 use Rattle.pt_crew.proofs.crew.Crew.set_next.Goals as goal
 

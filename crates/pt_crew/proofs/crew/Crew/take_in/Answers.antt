@@ -7,7 +7,8 @@ use Rattle.pt_crew.specs.Crews.{members, unmarked}
 use Rattle.pt_timers.specs.declared.Timer.{Timer}
 use Rattle.pt_crew.specs.Waking.{timer_of}
 use Rattle.pt_crew.specs.Parts.{Stops, is_marked}
-use Rattle.pt_crew.proofs.Waking.{changed, replaced, woken_queue, same_some}
+use Rattle.pt_behaviour.proofs.Cases.{same_some}
+use Rattle.pt_crew.proofs.Waking.{changed, replaced, woken_queue}
 use Rattle.pt_crew.proofs.Timing.{stopped_timers}
 use Rattle.pt_crew.proofs.Room.{unmarked_insert, unmarked_all}
 use Rattle.pt_crew.proofs.crew.Crew.take_in.Goals as goal
@@ -16,7 +17,7 @@ pub returns-then-not-stands-clause-knows : goal.returns-then-not-stands-clause-k
 returns-then-not-stands-clause-knows g c =
     let p = c.args.newborn.pid in
     let old = c.args.self.now in
-    let w : Member g.row.B.Denot = record { behaviour = c.args.newborn.behaviour; next = c.args.newborn.next; queued = true; timer = None } in
+    let w : Member g.row.B.Denot = record { behaviour = c.args.newborn.behaviour; next = c.args.newborn.next; queued = true; clear = false; timer = None } in
     let at = c.in-Ok.ensures.updates.0 in
     let off : is_marked (members old p) ≡ false = sym c.stands-stands.ensures ∙ c.if-not-stands.true in
     λ d born k. changed (members old) _ p (Some w) old.queue.items c.push_back_reserved.new.self.items old.read d d (extends d) at
@@ -29,7 +30,7 @@ pub returns-else-not-stands-clause-knows : goal.returns-else-not-stands-clause-k
 returns-else-not-stands-clause-knows g c =
     let p = c.args.newborn.pid in
     let old = c.args.self.now in
-    let w : Member g.row.B.Denot = record { behaviour = c.args.newborn.behaviour; next = c.args.newborn.next; queued = true; timer = None } in
+    let w : Member g.row.B.Denot = record { behaviour = c.args.newborn.behaviour; next = c.args.newborn.next; queued = true; clear = false; timer = None } in
     let at = c.in-Ok.ensures.updates.0 in
     let on : is_marked (members old p) ≡ true = sym c.stands-stands.ensures ∙ c.if-not-stands.false in
     λ d born k. changed (members old) _ p (Some w) old.queue.items old.queue.items old.read d d (extends d) at
@@ -42,7 +43,7 @@ pub returns-then-not-stands-clause-room : goal.returns-then-not-stands-clause-ro
 returns-then-not-stands-clause-room g c =
     let p = c.args.newborn.pid in
     let old = c.args.self.now in
-    let w : Member g.row.B.Denot = record { behaviour = c.args.newborn.behaviour; next = c.args.newborn.next; queued = true; timer = None } in
+    let w : Member g.row.B.Denot = record { behaviour = c.args.newborn.behaviour; next = c.args.newborn.next; queued = true; clear = false; timer = None } in
     let e = ap unmarked c.in-Ok.ensures.entries in
     let i = unmarked_insert same_pid old.members.entries p w refl in
     let a = unmarked_all old.members.entries in
@@ -55,7 +56,7 @@ pub returns-else-not-stands-clause-room : goal.returns-else-not-stands-clause-ro
 returns-else-not-stands-clause-room g c =
     let p = c.args.newborn.pid in
     let old = c.args.self.now in
-    let w : Member g.row.B.Denot = record { behaviour = c.args.newborn.behaviour; next = c.args.newborn.next; queued = true; timer = None } in
+    let w : Member g.row.B.Denot = record { behaviour = c.args.newborn.behaviour; next = c.args.newborn.next; queued = true; clear = false; timer = None } in
     let e = ap unmarked c.in-Ok.ensures.entries in
     let i = unmarked_insert same_pid old.members.entries p w refl in
     λ room. omega (arith, e, i, room)
@@ -64,7 +65,7 @@ pub returns-then-not-stands-clause-timers : goal.returns-then-not-stands-clause-
 returns-then-not-stands-clause-timers g c =
     let p = c.args.newborn.pid in
     let old = c.args.self.now in
-    let w : Member g.row.B.Denot = record { behaviour = c.args.newborn.behaviour; next = c.args.newborn.next; queued = true; timer = None } in
+    let w : Member g.row.B.Denot = record { behaviour = c.args.newborn.behaviour; next = c.args.newborn.next; queued = true; clear = false; timer = None } in
     let stops = subst (λ (o : Option Timer). Stops o old.timers c.stop_timer.new.timers) (c.last_timer.ensures ∙ ap timer_of c.in-Ok.ensures.old) c.stop_timer.ensures in
     stopped_timers (members old) _ p w old.timers c.stop_timer.new.timers c.in-Ok.ensures.updates.0 stops refl refl
 
@@ -72,6 +73,6 @@ pub returns-else-not-stands-clause-timers : goal.returns-else-not-stands-clause-
 returns-else-not-stands-clause-timers g c =
     let p = c.args.newborn.pid in
     let old = c.args.self.now in
-    let w : Member g.row.B.Denot = record { behaviour = c.args.newborn.behaviour; next = c.args.newborn.next; queued = true; timer = None } in
+    let w : Member g.row.B.Denot = record { behaviour = c.args.newborn.behaviour; next = c.args.newborn.next; queued = true; clear = false; timer = None } in
     let stops = subst (λ (o : Option Timer). Stops o old.timers c.stop_timer.new.timers) (c.last_timer.ensures ∙ ap timer_of c.in-Ok.ensures.old) c.stop_timer.ensures in
     stopped_timers (members old) _ p w old.timers c.stop_timer.new.timers c.in-Ok.ensures.updates.0 stops refl refl

@@ -1,7 +1,8 @@
 -- `Crew::wake`: its clauses `wakes`, `room`, `refused` and `keys`.
 use Rattle.std.proofs.Common.{◌≡◌, List, [], ◌∷◌, ◌++◌, Bool, true, cond, None, ap, sym, refl, ◌∙◌, append-nil, arith}
 use Rattle.pt_signal.specs.declared.pid.Pid.{Pid}
-use Rattle.pt_crew.proofs.Waking.{woken, same_back, same_queue, same_some, some_none, no_place, woken_queue}
+use Rattle.pt_behaviour.proofs.Cases.{same_some, some_none}
+use Rattle.pt_crew.proofs.Waking.{woken, same_back, same_queue, no_place, woken_queue}
 use Rattle.pt_crew.proofs.Reading.{absent_wakes}
 use Rattle.pt_crew.proofs.Timing.{queued_bare, stopped_fewer, stopped_timers, stops_held, timed_same}
 use Rattle.pt_crew.proofs.Room.{unmarked_set, bare, on_err}

@@ -2,7 +2,7 @@
 use Rattle.std.specs.Prelude.{◌≡◌, List, length}
 use Rattle.pt_desk.specs.DeskState.{GoesOn}
 use Rattle.pt_pending.specs.Alarming.{Rung, RingsAll}
-use Rattle.pt_crew.specs.Visiting.{takes}
+use Rattle.pt_behaviour.specs.Behaving.{takes}
 use Rattle.pt_pending.proofs.alarms.Alarms.ring.Given as goal
 
 abbrev pub invariant-loop : goal.invariant-loop

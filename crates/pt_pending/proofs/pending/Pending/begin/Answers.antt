@@ -2,7 +2,7 @@
 use Rattle.std.proofs.Common.{Some, true, inr, sym, ap, subst, ◌∙◌, ℤ, false}
 use Rattle.pt_desk.proofs.Turning.{goes_on_then}
 use Rattle.pt_pending.specs.declared.pending.Pending.{Pending}
-use Rattle.pt_crew.specs.Telling.{SendsTo}
+use Rattle.pt_behaviour.specs.Telling.{SendsTo}
 use Rattle.pt_pending.proofs.Fitting.{monitor_fits, carried}
 use Rattle.pt_pending.proofs.pending.Pending.begin.Goals as goal
 

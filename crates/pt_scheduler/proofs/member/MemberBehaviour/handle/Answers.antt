@@ -1,10 +1,10 @@
 -- `MemberBehaviour::handle`: its clause `answers`.
 use Rattle.std.proofs.Common.{List, Option, Some, refl, sym, subst}
 use Rattle.std.specs.Option.{option_map}
-use Rattle.pt_crew.specs.declared.behaviour.Next.TheVariants.{Running}
-use Rattle.pt_crew.specs.declared.births.Role.{Role}
-use Rattle.pt_crew.specs.Births.{bore, born, time_told}
-use Rattle.pt_crew.proofs.Upholding.{acts_is}
+use Rattle.pt_behaviour.specs.declared.behaviour.Next.TheVariants.{Running}
+use Rattle.pt_behaviour.specs.declared.births.Role.{Role}
+use Rattle.pt_behaviour.specs.Births.{bore, born, time_told}
+use Rattle.pt_behaviour.proofs.Upholding.{acts_is}
 use Rattle.pt_supervisor.specs.declared.supervisor.Supervisor.{Supervisor}
 use Rattle.pt_supervisor.specs.Hearing.{standing}
 use Rattle.pt_supervisor.specs.Keeping.{ActsAs, AllBegin}
@@ -44,5 +44,5 @@ returns-in-None-clause-answers c =
         subst (λ (o : Option (Supervisor Plan)). ActsAs (option_map standing o) me item d Running (option_map standing o) d) (sym c.in-None.is) (refl, acts_is me d d refl),
         subst (λ (bs : List (Role Member)). AllBegin boss_part bs) (sym (bore_same waited)) tt,
       ),
-      subst (λ (o : Option (Supervisor Plan)). AnswersBy o (time_told c.args.births.now) c.args.self.now d me item Running (record c.args.self.now { notes = record (c.args.self.now.notes) { handed = Some item } }) d (bore waited waited)) (sym c.in-None.is) (refl, refl, refl, bore_same waited),
+      subst (λ (o : Option (Supervisor Plan)). AnswersBy o (time_told c.args.births.now) c.args.self.now d me item Running c.args.self.now d (bore waited waited)) (sym c.in-None.is) (refl, refl, refl, bore_same waited),
     )

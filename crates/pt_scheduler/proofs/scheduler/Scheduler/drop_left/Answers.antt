@@ -1,7 +1,7 @@
 -- `Scheduler::drop_left`: its contract, and its loop over `place`.
 use Rattle.std.proofs.Common.{◌≡◌, ◌++◌, ◌+◌, ◌<◌, ◌∷◌, [], List, length, Option, Some, None, refl, ap, ◌∙◌, length-append, arith}
 use Rattle.std.specs.Prelude.{option_to_list}
-use Rattle.pt_crew.specs.declared.births.Role.{Role}
+use Rattle.pt_behaviour.specs.declared.births.Role.{Role}
 use Rattle.pt_scheduler.specs.declared.member.Member.{Member}
 use Rattle.pt_scheduler.proofs.scheduler.Scheduler.drop_left.Goals as goal
 

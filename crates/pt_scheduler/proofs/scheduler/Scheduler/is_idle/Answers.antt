@@ -1,5 +1,5 @@
 -- `Scheduler::is_idle`: its clauses `quiet` and `told`.
-use Rattle.pt_supervisor.proofs.Resting.{awake_idle}
+use Rattle.pt_crew.proofs.Resting.{awake_idle}
 use Rattle.pt_scheduler.proofs.Idle.{none_noted}
 use Rattle.pt_scheduler.proofs.scheduler.Scheduler.is_idle.Goals as goal
 

@@ -1,7 +1,7 @@
 -- `Scheduler::new`: its clauses `attends` and `upholds`.
 use Rattle.std.proofs.Common.{None, refl}
 use Rattle.pt_supervisor.specs.Keeping.{Keeps}
-use Rattle.pt_supervisor.proofs.Resting.{nobody_upholds}
+use Rattle.pt_crew.proofs.Resting.{nobody_upholds}
 use Rattle.pt_scheduler.specs.Members.{boss_part}
 use Rattle.pt_scheduler.proofs.Noting.{attends_new}
 use Rattle.pt_scheduler.proofs.scheduler.Scheduler.new.Goals as goal

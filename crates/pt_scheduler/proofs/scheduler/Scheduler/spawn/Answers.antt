@@ -16,7 +16,7 @@ returns-clause-attends c = λ a.
     let k = a.crew in
     let p = c.in_ok-pid.pid in
     let does = c.in_ok-pid.ensures.does in
-    one_entered c.args.self.now (record c.args.self.now { crew = c.enter.new.self; desk = Some c.number-own.result }) d e p c.new.result c.args.first (ap (λ (b : Member). b.notes.handed) c.new.ensures) (ap (λ (b : Member). b.notes.ended) c.new.ensures) a n.goes_on.shard (record { knows = n.knows k.knows; room = n.room k.room; timers = n.timers k.knows k.timers }) does.3 refl does.1
+    one_entered c.args.self.now (record c.args.self.now { crew = c.enter.new.self; desk = Some c.number-own.result }) d e p c.new.result c.args.first (ap (λ (b : Member). b.notes.ended) c.new.ensures) a n.goes_on.shard (record { knows = n.knows k.knows; room = n.room k.room; timers = n.timers k.knows k.timers }) does.3 refl does.1
     (no_exit_born None None p d e does.0 c.journal-lawful.ensures.local)
 
 pub returns-in_err-pid-clause-attends : goal.returns-in_err-pid-clause-attends

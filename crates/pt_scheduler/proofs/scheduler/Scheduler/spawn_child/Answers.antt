@@ -1,7 +1,7 @@
 -- `Scheduler::spawn_child`: its clauses `attends` and `upholds`.
 use Rattle.std.proofs.Common.{Some, Ok, Err, ap, refl, subst, sym}
 use Rattle.pt_shard.specs.Calls.{birth_link}
-use Rattle.pt_crew.proofs.Newborn.{newborn_is}
+use Rattle.pt_behaviour.proofs.Newborn.{newborn_is}
 use Rattle.pt_supervisor.specs.Keeping.{SupervisorBegins}
 use Rattle.pt_scheduler.specs.declared.member.Member.{Member}
 use Rattle.pt_scheduler.specs.Members.{boss_part}
@@ -18,7 +18,7 @@ returns-clause-attends c = λ a.
     let k = a.crew in
     let p = c.in_ok-pid.pid in
     let does = c.in_ok-pid.ensures.does in
-    one_entered c.args.self.now (record c.args.self.now { crew = c.enter_child.new.self; desk = Some c.number-own.result }) d e p c.new.result c.args.first (ap (λ (b : Member). b.notes.handed) c.new.ensures) (ap (λ (b : Member). b.notes.ended) c.new.ensures) a n.goes_on.shard (record { knows = n.knows k.knows; room = n.room k.room; timers = n.timers k.timers }) does.4 refl does.1
+    one_entered c.args.self.now (record c.args.self.now { crew = c.enter_child.new.self; desk = Some c.number-own.result }) d e p c.new.result c.args.first (ap (λ (b : Member). b.notes.ended) c.new.ensures) a n.goes_on.shard (record { knows = n.knows k.knows; room = n.room k.room; timers = n.timers k.timers }) does.4 refl does.1
     (no_exit_born (Some c.args.parent) (birth_link c.args.linked d) p d e does.0.1 c.journal-lawful.ensures.local)
 
 pub returns-in_err-pid-clause-attends : goal.returns-in_err-pid-clause-attends

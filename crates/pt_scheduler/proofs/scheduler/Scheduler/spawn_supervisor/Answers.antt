@@ -1,6 +1,6 @@
 -- `Scheduler::spawn_supervisor`: its clauses `does`, `attends` and `upholds`.
 use Rattle.std.proofs.Common.{None, Some, Ok, Err, ap, refl, subst, sym}
-use Rattle.pt_crew.specs.declared.behaviour.Next.TheVariants.{Proceed}
+use Rattle.pt_behaviour.specs.declared.behaviour.Next.TheVariants.{Proceed}
 use Rattle.pt_supervisor.specs.Keeping.{SupervisorBegins}
 use Rattle.pt_crew.specs.Crews.{Enters}
 use Rattle.pt_scheduler.specs.declared.member.Member.{Member}
@@ -26,7 +26,7 @@ returns-clause-attends c = λ a.
     let k = a.crew in
     let p = c.in_ok-pid.pid in
     let does = c.in_ok-pid.ensures.does in
-    one_entered c.args.self.now (record c.args.self.now { crew = c.enter.new.self; desk = Some c.number-own.result }) d e p c.new.result Proceed (ap (λ (b : Member). b.notes.handed) c.new.ensures) (ap (λ (b : Member). b.notes.ended) c.new.ensures) a n.goes_on.shard (record { knows = n.knows k.knows; room = n.room k.room; timers = n.timers k.knows k.timers }) does.3 refl does.1
+    one_entered c.args.self.now (record c.args.self.now { crew = c.enter.new.self; desk = Some c.number-own.result }) d e p c.new.result Proceed (ap (λ (b : Member). b.notes.ended) c.new.ensures) a n.goes_on.shard (record { knows = n.knows k.knows; room = n.room k.room; timers = n.timers k.knows k.timers }) does.3 refl does.1
     (no_exit_born None None p d e does.0 c.journal-lawful.ensures.local)
 
 pub returns-clause-upholds : goal.returns-clause-upholds

@@ -1,8 +1,8 @@
 -- `Supervisor::start_missing`: what holds in its loop over `place`.
 use Rattle.std.proofs.Common.{◌≡◌, length}
 use Rattle.pt_desk.specs.DeskState.{GoesOn}
-use Rattle.pt_crew.specs.Births.{kept_roles}
-use Rattle.pt_crew.specs.Visiting.{takes}
+use Rattle.pt_behaviour.specs.Births.{kept_roles}
+use Rattle.pt_behaviour.specs.Behaving.{takes}
 use Rattle.pt_supervisor.specs.Children.{NoneUnwanted, PermanentAreWanted}
 use Rattle.pt_supervisor.specs.Hearing.{standing}
 use Rattle.pt_supervisor.specs.Supervising.{StartsFirst, nursery, supervisor_scene}

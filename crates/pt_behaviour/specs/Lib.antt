@@ -1,0 +1,4 @@
+pub mod Behaving
+pub mod Births
+pub mod Telling
+pub mod Upholding

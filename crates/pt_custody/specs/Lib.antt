@@ -1,3 +1,0 @@
-pub mod Custody
-pub mod Nodes
-pub mod Examples
