@@ -1,15 +1,16 @@
 //! The children of a supervisor: how they are made, when they are started again, and how they are ended.
 
 use super::address::Address;
-use super::behaviour::{Behaviour, Next};
+use super::asked::tell_dropped;
+use super::behaviour::Behaviour;
 use super::calls::Reply;
-use super::context::Context;
-use super::hub::Hub;
+use super::hub::micros;
 use super::name::Name;
 use super::payloads::drop_quietly;
-use super::supervisor::{ToSupervisor, is_supervisor};
-use super::worker::text_of;
-use crate::{Fault, Pick, Pid, Reason, Ref};
+use super::supervisor::is_supervisor;
+use super::worker::{Parent, Worker, text_of};
+use crate::supervisors::{self, ChildSpec};
+use crate::{Fault, Pid, Reason};
 use std::any::type_name;
 use std::fmt;
 use std::panic::{AssertUnwindSafe, catch_unwind};
@@ -55,13 +56,13 @@ pub enum Shutdown {
     BrutalKill,
 }
 
-impl Shutdown {
-    /// The reason of the first exit signal, and when a child is killed that has not exited.
-    fn first(self, hub: &Hub) -> (Reason, Option<u64>) {
-        match self {
-            Shutdown::Infinity => (Reason::Shutdown, None),
-            Shutdown::After(time) => (Reason::Shutdown, Some(hub.after(time))),
-            Shutdown::BrutalKill => (Reason::Kill, None),
+impl From<Shutdown> for supervisors::Shutdown {
+    fn from(shutdown: Shutdown) -> supervisors::Shutdown {
+        match shutdown {
+            Shutdown::Infinity => supervisors::Shutdown::Infinity,
+            // (the time of a crew is that of its step)
+            Shutdown::After(time) => supervisors::Shutdown::After(micros(time).saturating_add(1)),
+            Shutdown::BrutalKill => supervisors::Shutdown::BrutalKill,
         }
     }
 }
@@ -135,8 +136,15 @@ impl<M: Send + 'static> fmt::Debug for Started<M> {
     }
 }
 
-/// Makes the behaviour of a child and spawns it. It may panic.
-type Make<M> = Box<dyn FnMut(&mut Context<'_, ToSupervisor>) -> Result<Address<M>, Fault> + Send>;
+/// As what a child is started: the process, its supervisor of the crew, and its place there.
+pub(crate) struct Post {
+    pub(crate) supervisor: Pid,
+    pub(crate) place: u64,
+    pub(crate) pid: Pid,
+}
+
+/// Makes the behaviour of a child, for the process that was spawned. It may panic.
+type Make<M> = Box<dyn FnMut(&mut Worker, &Post) -> Address<M> + Send>;
 
 /// A child of a supervisor: a child specification of Erlang. Its process takes messages of the type `M`.
 ///
@@ -179,7 +187,11 @@ impl<M: Send + 'static> Child<M> {
 
     fn new<B: Behaviour<Message = M>>(restart: Restart, mut make: impl FnMut() -> B + Send + 'static) -> Child<M> {
         Child {
-            make: Box::new(move |cx| cx.spawn_supervised(make())),
+            make: Box::new(move |worker, post| {
+                let behaviour = make();
+                let bound = behaviour.most_waiting();
+                worker.admit(post.pid, Parent::Supervisor(post.supervisor), behaviour, bound)
+            }),
             name: None,
             restart,
             shutdown: if is_supervisor::<B>() { Shutdown::Infinity } else { Shutdown::After(PATIENCE) },
@@ -201,23 +213,30 @@ impl<M: Send + 'static> Child<M> {
         self
     }
 
-    /// The same for a supervisor, whatever the messages are. Who waits for its first start is told of it.
+    /// The same for a supervisor, whatever the messages are. Who waits for its first start is told of it. It is one of
+    /// those that a supervisor begins with, if nobody does.
     pub(crate) fn listed(self, reply: Option<StartReply<M>>) -> Listed {
         let Child { make, name, restart, shutdown, behaviour } = self;
-        let starts = Box::new(Starts { make, name, address: None, reply, place: 0 });
-        Listed { starts, restart, shutdown, behaviour, started: 0, pid: None, monitor: None, told: Told::Nothing }
+        let is_first = reply.is_none();
+        let starts = Box::new(Starts { make, name, address: None, reply });
+        Listed { starts, restart, shutdown, behaviour, started: 0, pid: None, is_first }
     }
 }
 
 pub(crate) type StartReply<M> = Reply<Result<Started<M>, ChildFault>>;
 
+/// Tells the one who has asked for a child why it is not started.
+pub(crate) type Refuses = Box<dyn FnOnce(&mut Worker, Pid, ChildFault)>;
+
 /// How a child is started, whatever its messages are.
 trait Start: Send {
-    fn start(&mut self, cx: &mut Context<'_, ToSupervisor>) -> Result<Pid, ChildFault>;
+    /// Its behaviour is made. Who has asked for it is told so by the process in front of its supervisor.
+    fn start(&mut self, worker: &mut Worker, front: Pid, post: &Post) -> Result<(), ChildFault>;
     /// The process has exited.
     fn gone(&mut self);
+    /// It is not started.
+    fn refused(&mut self) -> Option<Refuses>;
     fn name(&self) -> Option<&str>;
-    fn set_place(&mut self, place: u64);
 }
 
 struct Starts<M: Send + 'static> {
@@ -226,30 +245,28 @@ struct Starts<M: Send + 'static> {
     address: Option<Address<M>>,
     /// Who waits for the first start.
     reply: Option<StartReply<M>>,
-    place: u64,
 }
 
 impl<M: Send + 'static> Start for Starts<M> {
-    fn start(&mut self, cx: &mut Context<'_, ToSupervisor>) -> Result<Pid, ChildFault> {
-        let made = catch_unwind(AssertUnwindSafe(|| (self.make)(cx)));
-        let started = match made {
-            Ok(spawned) => spawned.map_err(ChildFault::Table),
+    fn start(&mut self, worker: &mut Worker, front: Pid, post: &Post) -> Result<(), ChildFault> {
+        let made = catch_unwind(AssertUnwindSafe(|| (self.make)(worker, post)));
+        let address = match made {
+            Ok(address) => address,
             Err(what) => {
                 let text = text_of(&*what).into();
                 drop_quietly(what);
-                Err(ChildFault::Panicked(text))
+                tell_dropped();
+                return Err(ChildFault::Panicked(text));
             }
         };
-        if let (Ok(address), Some(name)) = (&started, &self.name) {
+        if let Some(name) = &self.name {
             name.give(address.clone());
         }
-        self.address = started.as_ref().ok().cloned();
-        let pid = started.as_ref().map(Address::pid).map_err(Clone::clone);
+        self.address = Some(address.clone());
         if let Some(reply) = self.reply.take() {
-            let place = self.place;
-            cx.reply(reply, started.map(|address| Started { place, address }));
+            worker.reply(front, reply, Ok(Started { place: post.place, address }));
         }
-        pid
+        Ok(())
     }
 
     fn gone(&mut self) {
@@ -258,23 +275,14 @@ impl<M: Send + 'static> Start for Starts<M> {
         }
     }
 
+    fn refused(&mut self) -> Option<Refuses> {
+        let reply = self.reply.take()?;
+        Some(Box::new(move |worker, front, fault| worker.reply(front, reply, Err(fault))))
+    }
+
     fn name(&self) -> Option<&str> {
         self.name.as_ref().map(Name::text)
     }
-
-    fn set_place(&mut self, place: u64) {
-        self.place = place;
-    }
-}
-
-/// What a child was told, of which its supervisor wants that it exits.
-#[derive(Clone, Copy, PartialEq, Eq)]
-enum Told {
-    Nothing,
-    /// It is killed if it has not exited by this time.
-    ExitBy(u64),
-    /// It may take the time that it takes.
-    Exit,
 }
 
 /// A child among those of its supervisor.
@@ -284,10 +292,10 @@ pub(crate) struct Listed {
     shutdown: Shutdown,
     behaviour: &'static str,
     started: u64,
-    /// Its process, until the supervisor hears of its exit, and the monitor of it.
+    /// Its process, from when its behaviour is made until it has exited.
     pid: Option<Pid>,
-    monitor: Option<Ref>,
-    told: Told,
+    /// Whether its supervisor is to begin with it, and its behaviour was not made yet.
+    pub(crate) is_first: bool,
 }
 
 impl Listed {
@@ -299,56 +307,32 @@ impl Listed {
         self.pid
     }
 
-    pub(crate) fn set_place(&mut self, place: u64) {
-        self.starts.set_place(place);
-    }
-
     pub(crate) fn info(&self, place: u64) -> ChildInfo {
         let Listed { restart, behaviour, started, pid, .. } = *self;
         ChildInfo { place, name: self.starts.name().map(str::to_owned), pid, behaviour, restart, started }
     }
 
-    /// Starts it if it is not alive.
-    pub(crate) fn start(&mut self, cx: &mut Context<'_, ToSupervisor>) -> Result<Pid, ChildFault> {
-        if let Some(pid) = self.pid {
-            return Ok(pid);
-        }
-        let pid = self.starts.start(cx)?;
-        (self.pid, self.told) = (Some(pid), Told::Nothing);
-        self.started += 1;
-        Ok(pid)
+    /// What the library knows of it.
+    pub(crate) fn spec(&self, tag: u64) -> ChildSpec {
+        ChildSpec { tag, restart: self.restart, shutdown: self.shutdown.into() }
     }
 
-    /// The monitor by which its exit is heard. [`Fault::NoProc`] if it has exited unseen, which it does only if the desk
-    /// had no memory for the monitor before.
-    pub(crate) fn watch(&mut self, cx: &mut Context<'_, ToSupervisor>) -> Result<Ref, Fault> {
-        match (self.monitor, self.pid) {
-            (Some(monitor), _) => Ok(monitor),
-            (None, Some(pid)) => Ok(*self.monitor.insert(cx.monitor(pid)?)),
-            (None, None) => Err(Fault::NoProc),
-        }
+    /// It was started: its behaviour is made.
+    pub(crate) fn start(&mut self, worker: &mut Worker, front: Pid, post: &Post) -> Result<(), ChildFault> {
+        self.starts.start(worker, front, post)?;
+        self.pid = Some(post.pid);
+        self.started += 1;
+        Ok(())
     }
 
     /// It has exited.
     pub(crate) fn gone(&mut self) {
-        (self.pid, self.monitor, self.told) = (None, None, Told::Nothing);
+        self.pid = None;
         self.starts.gone();
     }
 
-    /// Tells it to exit, or kills it if it had its time, and returns for what its supervisor waits.
-    pub(crate) fn end(&mut self, cx: &mut Context<'_, ToSupervisor>, pid: Pid, monitor: Ref) -> Next {
-        let hub = cx.worker.hub.clone();
-        let (reason, until) = match self.told {
-            Told::Nothing => self.shutdown.first(&hub),
-            Told::ExitBy(at) if at <= hub.now() => (Reason::Kill, None),
-            Told::ExitBy(at) => return Next::OnlyFor(Pick::DownOf(monitor), hub.until(at)),
-            Told::Exit => return Next::Only(Pick::DownOf(monitor)),
-        };
-        // (the run halts, and then it is tried again)
-        if cx.exit(pid, reason).is_err() {
-            return Next::Proceed;
-        }
-        self.told = until.map_or(Told::Exit, Told::ExitBy);
-        self.end(cx, pid, monitor)
+    /// It is not started at request.
+    pub(crate) fn refused(&mut self) -> Option<Refuses> {
+        self.starts.refused()
     }
 }

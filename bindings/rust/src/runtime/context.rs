@@ -3,14 +3,16 @@
 use super::address::Address;
 use super::behaviour::Behaviour;
 use super::calls::{Call, Calls, Open, Reply, fresh_number, number_of};
+use super::child::Listed;
 use super::hub::Origin;
 use super::inbox::Task;
 use super::payloads::News;
 use super::room::Ticket;
 use super::target::Target;
-use super::timing::{Key, Timer};
+use super::timing::{Alarm, Key, Timer};
 use super::worker::{Parent, Worker};
-use super::{ANSWER, MESSAGE, OVER};
+use super::{ANSWER, MESSAGE};
+use crate::supervisors::SupervisorSpec;
 use crate::{Fault, Pid, Reason, Ref};
 use std::fmt;
 use std::marker::PhantomData;
@@ -75,7 +77,8 @@ impl<M: Send + 'static> Context<'_, M> {
         let alarm = move |worker: &mut Worker| {
             worker.send(worker.porter, &to, message);
         };
-        Timer { run: self.worker.hub.run, desk: self.worker.number, key: self.worker.alarms.set(at, Box::new(alarm)) }
+        let key = self.worker.set_alarm(at, Alarm::Do(Box::new(alarm))).unwrap_or(Key::NONE);
+        Timer { run: self.worker.hub.run, desk: self.worker.number, key }
     }
 
     /// Takes back what was to be sent later. It returns `false` if that was sent or taken back before, or is another
@@ -195,26 +198,22 @@ impl<M: Send + 'static> Context<'_, M> {
         ask: impl FnOnce(Reply<R>) -> N,
     ) -> Result<Call<R>, Fault> {
         let monitor = self.monitor(to)?;
-        let (at, me, number) = (self.worker.hub.after(limit), self.me.pid(), number_of(monitor));
-        let alarm = self.worker.alarms.set(at, Box::new(move |worker| worker.tell_process(me, OVER, number)));
+        let (at, number) = (self.worker.hub.after(limit), number_of(monitor));
+        let alarm = self.worker.set_alarm(at, Alarm::Over(self.me.pid(), number));
+        let alarm = alarm.inspect_err(|_| demonitor(self.worker, self.me, monitor))?;
         let (call, reply) = self.open(number, to.pid().shard, Some(monitor), Some(alarm));
         self.send(to, ask(reply));
         Ok(call)
     }
 
     /// Answers a request. The answer comes after all that this process has sent the client.
-    pub fn reply<R: Send + 'static>(&mut self, mut reply: Reply<R>, value: R) {
-        let Some((slot, hub, call)) = reply.put(value) else { return };
-        if Arc::ptr_eq(&hub, &self.me.hub) {
-            self.worker.say(self.me.pid(), slot.pid(), ANSWER, call);
-        } else {
-            hub.post(slot.pid(), ANSWER, call, Origin::Run);
-        }
+    pub fn reply<R: Send + 'static>(&mut self, reply: Reply<R>, value: R) {
+        self.worker.reply(self.me.pid(), reply, value);
     }
 
-    /// Spawns a child of a supervisor, linked with it.
-    pub(crate) fn spawn_supervised<B: Behaviour>(&mut self, behaviour: B) -> Result<Address<B::Message>, Fault> {
-        self.worker.spawn(Parent::Supervisor(self.me.pid()), behaviour)
+    /// Spawns the supervisor behind this process.
+    pub(crate) fn supervise(&mut self, spec: SupervisorSpec, children: &mut Vec<Listed>) -> Result<Pid, Fault> {
+        self.worker.supervise(self.me.pid(), spec, children)
     }
 
     /// Whether a signal of this process is one of the parent, which is the process that spawned this one, or of those
@@ -244,6 +243,16 @@ pub(crate) fn demonitor<M: Send + 'static>(worker: &mut Worker, me: &Address<M>,
 }
 
 impl Worker {
+    /// Answers a request in the name of a process of this desk.
+    pub(crate) fn reply<R: Send + 'static>(&mut self, from: Pid, mut reply: Reply<R>, value: R) {
+        let Some((slot, hub, call)) = reply.put(value) else { return };
+        if Arc::ptr_eq(&hub, &self.hub) {
+            self.say(from, slot.pid(), ANSWER, call);
+        } else {
+            hub.post(slot.pid(), ANSWER, call, Origin::Run);
+        }
+    }
+
     /// Sends a message in the name of a process of this desk.
     pub(crate) fn send<N: Send + 'static>(&mut self, from: Pid, to: &Address<N>, message: N) -> bool {
         // (a process of another run is told as from outside)

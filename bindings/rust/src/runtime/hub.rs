@@ -31,6 +31,11 @@ pub(crate) enum Origin {
     Caller,
 }
 
+/// A time in microseconds.
+pub(crate) fn micros(time: Duration) -> u64 {
+    u64::try_from(time.as_micros()).unwrap_or(u64::MAX)
+}
+
 /// What all threads of a runtime share.
 pub(crate) struct Hub {
     /// The number of the run among all of the program.
@@ -84,13 +89,12 @@ impl Hub {
 
     /// The time since the run began, in microseconds.
     pub(crate) fn now(&self) -> u64 {
-        u64::try_from(self.begun.elapsed().as_micros()).unwrap_or(u64::MAX)
+        micros(self.begun.elapsed())
     }
 
     /// The time when so much has gone by, at the earliest.
     pub(crate) fn after(&self, time: Duration) -> u64 {
-        let more = u64::try_from(time.as_micros()).unwrap_or(u64::MAX);
-        self.now().saturating_add(more).saturating_add(1)
+        self.now().saturating_add(micros(time)).saturating_add(1)
     }
 
     /// How long it is until then.

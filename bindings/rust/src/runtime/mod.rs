@@ -62,11 +62,13 @@
 //!
 //! # What is proved, and what is not
 //!
-//! Proved is what is below: the table, and the crew that says which process is told what ([`Crew`](crate::Crew)). So
-//! messages arrive in order and once, no wake-up of a crew is lost, and each exit is told once.
+//! Proved is what is below: the table, and the crew that says which process is told what ([`Crew`](crate::Crew)), with its
+//! [`supervisors`](crate::supervisors), and the [`Timers`](crate::Timers) of each desk. So messages arrive in order and
+//! once, no wake-up of a crew is lost, each exit is told once, children are ended and started again as their supervisor's
+//! strategy and limit say, and a timer is due once, not early, and not after it was cancelled.
 //!
-//! Not proved, since nothing checks Rust, but tested: the threads and their rest, the values beside the table, timers,
-//! calls, futures, supervisors, and how the threads meet. `unsafe` is not used here.
+//! Not proved, since nothing checks Rust, but tested: the threads and their rest, the values beside the table, calls,
+//! futures, how a child is made, the clock, and how the threads meet. `unsafe` is not used here.
 
 mod address;
 mod archive;
@@ -78,7 +80,6 @@ mod context;
 mod ending;
 mod hub;
 mod inbox;
-mod limit;
 mod mailbox;
 mod meeting;
 mod name;
@@ -91,6 +92,7 @@ mod run;
 mod sending;
 mod spawning;
 mod start;
+mod supervision;
 mod supervisor;
 mod target;
 mod timing;

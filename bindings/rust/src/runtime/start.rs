@@ -15,6 +15,9 @@ use std::sync::Arc;
 use std::sync::mpsc::{Sender, channel};
 use std::thread::JoinHandle;
 
+/// The most slots that a desk can have.
+const MOST_SLOTS: u32 = 65_536;
+
 /// The settings of a run.
 #[derive(Default)]
 pub struct Builder {
@@ -109,7 +112,10 @@ impl Builder {
     /// A setting is out of its range, or there is no memory or no thread.
     pub fn start(self) -> Result<Runtime, StartFault> {
         let processors = || std::thread::available_parallelism().map_or(1, |count| count.get().min(64));
-        let desks = open(self.desks.unwrap_or_else(processors), self.config)?;
+        let slots = self.config.slots;
+        // (a supervisor has a second process, which is not counted)
+        let config = Config { slots: slots.max(slots.saturating_mul(2).min(MOST_SLOTS)), ..self.config };
+        let desks = open(self.desks.unwrap_or_else(processors), config)?;
         let most = match self.inbox {
             Some(0) => return Err(StartFault::BadInbox),
             most => most.unwrap_or(usize::MAX),
@@ -117,7 +123,7 @@ impl Builder {
         let meeting = Meeting::new(desks.len(), self.sink);
         let hub = Hub::new(desks.len(), self.every.unwrap_or(100_000), most, meeting, self.reporter);
         let hub = Closing(Some(Arc::new(hub)));
-        let workers: Result<_, Fault> = desks.into_iter().map(|desk| Worker::new(hub.of(), desk)).collect();
+        let workers: Result<_, Fault> = desks.into_iter().map(|desk| Worker::new(hub.of(), desk, slots)).collect();
         launch(hub, workers?).map_err(|(fault, ..)| StartFault::Thread(fault))
     }
 }

@@ -1,14 +1,13 @@
 //! Supervisors: processes that start others, and start them again when they exit.
 
-use super::behaviour::{Behaviour, Down, Event, Next};
+use super::behaviour::{Behaviour, Event, Next};
 use super::calls::Reply;
-use super::child::{Child, ChildFault, ChildInfo, Listed, Restart, Started};
+use super::child::{Child, ChildFault, ChildInfo, Listed, Started};
 use super::context::Context;
-use super::limit::Limit;
-use super::payloads::drop_quietly;
-use crate::{Fault, Pid, Reason, Ref};
+use super::hub::micros;
+use crate::supervisors::{Strategy, SupervisorSpec};
+use crate::{Fault, Pid, Reason};
 use std::any::TypeId;
-use std::collections::{BTreeMap, BTreeSet, HashMap};
 use std::fmt;
 use std::time::Duration;
 
@@ -17,13 +16,10 @@ pub(crate) fn is_supervisor<B: Behaviour>() -> bool {
     TypeId::of::<B>() == TypeId::of::<Supervisor>()
 }
 
-/// Which others are ended and started again if a child has exited that is to be started again.
-#[derive(Clone, Copy, Debug, PartialEq, Eq)]
-enum Strategy {
-    OneForOne,
-    OneForAll,
-    RestForOne,
-}
+/// The most restarts that a limit counts.
+const MOST: usize = 1 << 20;
+/// How many restarts are allowed at one time if there is no limit.
+const MANY: usize = 64;
 
 /// A process that starts its children in order, and starts them again when they exit: Erlang's supervisor.
 ///
@@ -63,66 +59,62 @@ enum Strategy {
 /// # Ok::<(), Box<dyn std::error::Error>>(())
 /// ```
 ///
-/// It traps exits, and its children are linked with it, on its own desk. If it is killed, they exit, too. A supervisor may
+/// Its children are on its own desk. If it is killed, they exit, too, but for those that trap exits. A supervisor may
 /// be a child of another.
+///
+/// Behind it is a process of the library, one of [`supervisors`](crate::supervisors), whose functions are proved. That
+/// one starts and ends the children, and is linked with them: so an exit signal that ends a child comes from that
+/// process. An exit signal that a child sends the supervisor does not reach it, nor does a call that takes a link with
+/// the supervisor away.
 ///
 /// # When a child exits
 ///
-/// It is started again as its [`Restart`] says. Then by [`one_for_one`](Supervisor::one_for_one) no other is ended, by
-/// [`one_for_all`](Supervisor::one_for_all) all others, by [`rest_for_one`](Supervisor::rest_for_one) those that were
-/// added after it. They are ended one after the other, from the last to the first, each as its
-/// [`Shutdown`](super::Shutdown) says, and all are started again in order, but for temporary ones. Among them are
-/// transient children that had exited well before, and those that were terminated.
+/// It is started again as its [`Restart`](super::Restart) says. Then by [`one_for_one`](Supervisor::one_for_one) no
+/// other is ended, by [`one_for_all`](Supervisor::one_for_all) all others, by
+/// [`rest_for_one`](Supervisor::rest_for_one) those that were added after it. They are ended one after the other, from
+/// the last to the first, each as its [`Shutdown`](super::Shutdown) says, and all are started again in order, but for
+/// temporary ones. Among them are transient children that had exited well before, and those that were terminated.
 ///
 /// If more restarts are made than the [`limit`](Supervisor::limit) says, it ends all its children and exits with
 /// `shutdown`.
 ///
 /// # When a child is not made
 ///
-/// A start fails if the closure that makes the child panics, or no slot of the desk is free:
+/// The process of a child is spawned first, and then the closure makes its behaviour. A start fails if the closure
+/// panics, or no slot of the desk is free:
 /// - **As the supervisor begins**: it ends those that it has started, and exits with `shutdown`.
-/// - **As a child is started again**: it is tried again at once, after what has come to the supervisor meanwhile. Each try
-///   counts for the limit, as if the child had exited.
-/// - **At the request of [`ToSupervisor::start_child`]** or `restart_child`: the one who asked is told, and it is not tried
-///   again.
+/// - **As a child is started again**: the process that was spawned exits, and the child is tried again, as after any
+///   exit.
+///   Each try counts for the limit, and the strategy holds for it.
+/// - **At the request of [`ToSupervisor::start_child`]** or `restart_child`: the one who asked is told, and it is not
+///   tried again.
 ///
-/// If a child panics once it is spawned, also in [`started`](Behaviour::started), it has exited. If the desk has no memory
-/// or no stamp, the run halts, and as it goes on the supervisor does, too.
+/// If a child panics in [`started`](Behaviour::started), it was made, and has exited. If the desk has no memory or no
+/// stamp, the run halts, and as it goes on the supervisor does, too.
 ///
 /// # When it ends
 ///
-/// An exit signal of its parent, or of those outside ([`Handle::exit`](super::Handle::exit)), ends its children from the
-/// last to the first, and then the supervisor exits with the same reason. The parent is the process that spawned it. As
-/// the runtime is told to stop, it tells supervisors, and no child of one: its supervisor ends it in its turn. Exit signals
-/// of others change nothing, but for `kill`.
+/// An exit signal of its parent, or of those outside ([`Handle::exit`](super::Handle::exit)), ends its children from
+/// the last to the first, and then the supervisor exits with the same reason. The parent is the process that spawned
+/// it. As the runtime is told to stop, it tells supervisors, and no child of one: its supervisor ends it in its turn.
+/// Exit signals of others change nothing, but for `kill`.
 ///
-/// This is tested, and not proved.
+/// # What is proved, and what is not
+///
+/// The library decides who is ended and started again, in which order, how often, and by when a child is killed. That
+/// is proved. How a child is made, and how what is asked is passed on and answered, is tested.
 pub struct Supervisor {
-    strategy: Strategy,
-    limit: Limit,
-    /// The children, in the order in which they were added.
-    children: BTreeMap<u64, Listed>,
-    added: u64,
-    monitors: HashMap<Ref, u64>,
-    /// Those that are to exit, the last one first. All else waits for that.
-    leaving: BTreeSet<u64>,
-    /// Those that are to be started then, the first one first.
-    missing: BTreeSet<u64>,
-    traps: bool,
-    /// Whether all children were started once.
-    begun: bool,
-    /// The child whose start has failed, which is tried again.
-    failed: Option<u64>,
-    /// Who waits for the exit of a child.
-    asked: Option<Reply<Result<(), ChildFault>>>,
-    /// The reason with which it exits, once all children have.
-    stopping: Option<Reason>,
+    spec: SupervisorSpec,
+    /// The children that it begins with, in the order in which they were added.
+    children: Vec<Listed>,
+    /// The process of the crew that starts and ends the children.
+    behind: Option<Pid>,
 }
 
 impl fmt::Debug for Supervisor {
     fn fmt(&self, f: &mut fmt::Formatter<'_>) -> fmt::Result {
-        let Supervisor { strategy, children, .. } = self;
-        write!(f, "Supervisor {{ strategy: {strategy:?}, children: {}, .. }}", children.len())
+        let Supervisor { spec, children, .. } = self;
+        write!(f, "Supervisor {{ strategy: {:?}, children: {}, .. }}", spec.strategy, children.len())
     }
 }
 
@@ -146,35 +138,24 @@ impl Supervisor {
     }
 
     fn new(strategy: Strategy) -> Supervisor {
-        Supervisor {
-            strategy,
-            limit: Limit::new(3, Duration::from_secs(5)),
-            children: BTreeMap::new(),
-            added: 0,
-            monitors: HashMap::new(),
-            leaving: BTreeSet::new(),
-            missing: BTreeSet::new(),
-            traps: false,
-            begun: false,
-            failed: None,
-            asked: None,
-            stopping: None,
-        }
+        let spec = SupervisorSpec { strategy, ..SupervisorSpec::default() };
+        Supervisor { spec, children: Vec::new(), behind: None }.limit(3, Duration::from_secs(5))
     }
 
-    /// How many restarts it makes at most in a time: Erlang's `intensity` and `period`. Without this 3 in five seconds. A
-    /// restart counts until more than this time has gone by since.
+    /// How many restarts it makes at most in a time: Erlang's `intensity` and `period`. Without this 3 in five seconds.
+    /// A restart counts until more than this time has gone by since. More than 1,048,576 is no limit.
     #[must_use]
     pub fn limit(mut self, most: usize, within: Duration) -> Supervisor {
-        self.limit = Limit::new(most, within);
+        // (a supervisor has memory for so many; and no step has a second restart)
+        let (most, span) = if most > MOST { (MANY, 0) } else { (most, micros(within)) };
+        self.spec = SupervisorSpec { most, span, timed: true, ..self.spec };
         self
     }
 
     /// Adds a child, after those that were added before.
     #[must_use]
     pub fn child<M: Send + 'static>(mut self, child: Child<M>) -> Supervisor {
-        let place = self.add(child.listed(None));
-        self.missing.insert(place);
+        self.children.push(child.listed(None));
         self
     }
 
@@ -196,190 +177,21 @@ impl Supervisor {
         self.child(Child::temporary(make))
     }
 
-    fn add(&mut self, mut child: Listed) -> u64 {
-        let place = self.added;
-        child.set_place(place);
-        self.children.insert(place, child);
-        self.added += 1;
-        place
-    }
-
-    fn forget(&mut self, place: u64) {
-        self.missing.remove(&place);
-        self.children.remove(&place).into_iter().for_each(drop_quietly);
-    }
-
-    /// A child has exited, and is to be started again or not.
-    fn lose(&mut self, cx: &Context<'_, ToSupervisor>, down: &Down) {
-        let Some(place) = self.monitors.remove(&down.monitor) else { return };
-        let told = self.leaving.remove(&place);
-        let Some(child) = self.children.get_mut(&place) else { return };
-        child.gone();
-        let restart = child.restart;
-        if restart == Restart::Temporary {
-            self.forget(place);
-        } else if !told && restart.starts_again(down.reason) {
-            self.restart(cx, place);
-        }
-    }
-
-    /// A child is to be started again, with those that the strategy names, unless that is too much.
-    fn restart(&mut self, cx: &Context<'_, ToSupervisor>, place: u64) {
-        if !self.limit.allows(Duration::from_micros(cx.worker.hub.now())) {
-            self.stop(Reason::Shutdown);
-            return;
-        }
-        let among = match self.strategy {
-            Strategy::OneForOne => place..place + 1,
-            Strategy::OneForAll => 0..self.added,
-            Strategy::RestForOne => place..self.added,
+    /// Begins: it traps exits, and the process behind it starts the children. Nothing is begun twice.
+    fn begin(&mut self, cx: &mut Context<'_, ToSupervisor>) -> Next {
+        let begun = match self.behind {
+            Some(_) => return Next::Wait,
+            None => cx.trap_exits(true).and_then(|()| cx.supervise(self.spec, &mut self.children)),
         };
-        for (&place, child) in self.children.range(among) {
-            if child.is_alive() {
-                self.leaving.insert(place);
+        match begun {
+            Ok(pid) => {
+                self.behind = Some(pid);
+                Next::Wait
             }
-            // (a temporary one is forgotten as it exits)
-            self.missing.insert(place);
+            // (the run halts, and then it is tried again)
+            Err(Fault::Memory | Fault::Worn) => Next::Proceed,
+            Err(_) => Next::Stop(Reason::Shutdown),
         }
-    }
-
-    /// All children are to exit, and then it does.
-    fn stop(&mut self, reason: Reason) {
-        self.stopping.get_or_insert(reason);
-        self.missing.clear();
-        let alive = self.children.iter().filter(|(_, child)| child.is_alive());
-        self.leaving.extend(alive.map(|(&place, _)| place));
-    }
-
-    fn serve(&mut self, cx: &mut Context<'_, ToSupervisor>, request: Request) {
-        match request {
-            Request::Which(reply) => {
-                let all = self.children.iter().map(|(&place, child)| child.info(place)).collect();
-                cx.reply(reply, all);
-            }
-            Request::Start(child) => {
-                let place = self.add(child);
-                if self.start_asked(cx, place).is_err() {
-                    self.forget(place);
-                }
-            }
-            Request::Terminate(place, reply) => {
-                self.missing.remove(&place);
-                match self.is_idle(place) {
-                    Err(ChildFault::Running) => {
-                        self.leaving.insert(place);
-                        self.asked = Some(reply);
-                    }
-                    answer => cx.reply(reply, answer),
-                }
-            }
-            Request::Restart(place, reply) => {
-                let answer = self.is_idle(place).and_then(|()| self.start_asked(cx, place));
-                cx.reply(reply, answer);
-            }
-            Request::Delete(place, reply) => {
-                let answer = self.is_idle(place).map(|()| self.forget(place));
-                cx.reply(reply, answer);
-            }
-        }
-    }
-
-    /// Says of a child that it is there and not alive, or why not.
-    fn is_idle(&self, place: u64) -> Result<(), ChildFault> {
-        match self.children.get(&place).map(Listed::is_alive) {
-            Some(false) => Ok(()),
-            Some(true) => Err(ChildFault::Running),
-            None => Err(ChildFault::NotFound),
-        }
-    }
-
-    /// Does what is to be done next: first those exit that are to, and then it exits itself, or starts the others.
-    fn advance(&mut self, cx: &mut Context<'_, ToSupervisor>) -> Next {
-        if !self.traps && cx.trap_exits(true).is_err() {
-            return Next::Proceed;
-        }
-        self.traps = true;
-        while let Some(&place) = self.leaving.last() {
-            if let Some(next) = self.end(cx, place) {
-                return next;
-            }
-        }
-        if let Some(reply) = self.asked.take() {
-            cx.reply(reply, Ok(()));
-        }
-        match (self.stopping, self.failed) {
-            (Some(reason), _) => Next::Stop(reason),
-            // (it is told at once that this time is over, unless something else has come)
-            (None, Some(_)) => Next::WaitFor(Duration::ZERO),
-            (None, None) => self.start_missing(cx),
-        }
-    }
-
-    /// Tells a child to exit, and returns for what to wait: `None` if it has exited unseen.
-    fn end(&mut self, cx: &mut Context<'_, ToSupervisor>, place: u64) -> Option<Next> {
-        let child = self.children.get_mut(&place).expect("a child that is to exit");
-        match (child.watch(cx), child.pid()) {
-            (Ok(monitor), Some(pid)) => {
-                self.monitors.insert(monitor, place);
-                Some(child.end(cx, pid, monitor))
-            }
-            (Err(Fault::NoProc), _) | (_, None) => {
-                child.gone();
-                self.leaving.remove(&place);
-                if child.restart == Restart::Temporary {
-                    self.forget(place);
-                }
-                None
-            }
-            (Err(_), Some(_)) => Some(Next::Proceed),
-        }
-    }
-
-    fn start_missing(&mut self, cx: &mut Context<'_, ToSupervisor>) -> Next {
-        while let Some(&place) = self.missing.first() {
-            match self.start(cx, place) {
-                Ok(_) => _ = self.missing.remove(&place),
-                // (the run halts, and then it is tried again)
-                Err(ChildFault::Table(Fault::Memory | Fault::Worn)) => return Next::Proceed,
-                Err(_) => {
-                    if self.begun {
-                        self.failed = Some(place);
-                    } else {
-                        self.stop(Reason::Shutdown);
-                    }
-                    return self.advance(cx);
-                }
-            }
-        }
-        self.begun = true;
-        Next::Wait
-    }
-
-    /// Starts a child at request. If there was no memory to watch it, it is watched as the run goes on.
-    fn start_asked(&mut self, cx: &mut Context<'_, ToSupervisor>, place: u64) -> Result<Pid, ChildFault> {
-        let started = self.start(cx, place);
-        if started.is_ok() {
-            self.missing.remove(&place);
-        }
-        match self.children.get(&place).and_then(Listed::pid) {
-            Some(pid) if started.is_err() => {
-                self.missing.insert(place);
-                Ok(pid)
-            }
-            _ => started,
-        }
-    }
-
-    /// Starts a child if it is not alive, and watches it.
-    fn start(&mut self, cx: &mut Context<'_, ToSupervisor>, place: u64) -> Result<Pid, ChildFault> {
-        let child = self.children.get_mut(&place).ok_or(ChildFault::NotFound)?;
-        let pid = child.start(cx)?;
-        let watched = child.watch(cx);
-        if watched == Err(Fault::NoProc) {
-            child.gone();
-        }
-        self.monitors.insert(watched.map_err(ChildFault::Table)?, place);
-        Ok(pid)
     }
 }
 
@@ -387,31 +199,21 @@ impl Behaviour for Supervisor {
     type Message = ToSupervisor;
 
     fn started(&mut self, cx: &mut Context<'_, ToSupervisor>) -> Next {
-        self.advance(cx)
+        self.begin(cx)
     }
 
     fn handle(&mut self, cx: &mut Context<'_, ToSupervisor>, event: Event<ToSupervisor>) -> Next {
-        match event {
-            Event::Message(ToSupervisor(request)) => self.serve(cx, request),
-            Event::Down(down) => self.lose(cx, &down),
-            Event::Exit(exit) if cx.is_of_parent(exit.pid) => self.stop(exit.reason),
-            Event::Timeout if self.leaving.is_empty() => {
-                // (unless somebody has asked for something else meanwhile)
-                if let Some(place) = self.failed.take().filter(|place| self.missing.contains(place)) {
-                    self.restart(cx, place);
-                }
-            }
+        match (event, self.behind) {
+            (Event::Message(ToSupervisor(request)), Some(pid)) => cx.worker.ask_supervisor(pid, request),
+            (Event::Exit(exit), Some(pid)) if cx.is_of_parent(exit.pid) => cx.worker.end_supervisor(pid, exit.reason),
+            (Event::Exit(exit), None) if cx.is_of_parent(exit.pid) => return Next::Stop(exit.reason),
             _ => {}
         }
-        self.advance(cx)
-    }
-
-    fn ended(mut self, _: Reason) {
-        self.children.values_mut().for_each(Listed::gone);
+        self.begin(cx)
     }
 }
 
-enum Request {
+pub(crate) enum Request {
     Which(Reply<Vec<ChildInfo>>),
     Start(Listed),
     Terminate(u64, Reply<Result<(), ChildFault>>),
@@ -464,9 +266,9 @@ impl ToSupervisor {
         move |reply| ToSupervisor(Request::Start(child.listed(Some(reply))))
     }
 
-    /// Ends the child with this place, as its [`Shutdown`](super::Shutdown) says. The answer comes when it has exited. A
-    /// temporary child is forgotten then. Any other is kept, and started again by `restart_child`, or with others as the
-    /// strategy says.
+    /// Ends the child with this place, as its [`Shutdown`](super::Shutdown) says. The answer comes when it has exited.
+    /// A temporary child is forgotten then. Any other is kept, and started again by `restart_child`, or with others as
+    /// the strategy says.
     pub fn terminate_child(place: u64) -> impl FnOnce(Reply<Result<(), ChildFault>>) -> ToSupervisor {
         move |reply| ToSupervisor(Request::Terminate(place, reply))
     }

@@ -1,7 +1,10 @@
-//! What is to be done on a desk at a time.
+//! What is to be done on a desk at a time. The library's timers say what is due, and are proved; what is to be done lies
+//! beside them.
 
+use super::OVER;
+use super::payloads::quietly;
 use super::worker::Worker;
-use std::collections::BTreeMap;
+use crate::{Fault, Fired, Pid, Timers, tools};
 
 /// A message that is to be sent later: what [`Context::cancel`](super::Context::cancel) takes.
 #[derive(Clone, Copy, Debug, PartialEq, Eq, Hash)]
@@ -11,40 +14,99 @@ pub struct Timer {
     pub(crate) key: Key,
 }
 
-/// The time of an alarm, and its number among all of its desk.
-pub(crate) type Key = (u64, u64);
+/// An alarm: the timer of the library, and the place of what is to be done.
+#[derive(Clone, Copy, Debug, PartialEq, Eq, Hash)]
+pub(crate) struct Key {
+    timer: tools::Timer,
+    place: usize,
+}
 
-pub(crate) type Alarm = Box<dyn FnOnce(&mut Worker) + Send>;
+impl Key {
+    /// That of an alarm that was not set. (no timer has this number)
+    pub(crate) const NONE: Key = Key { timer: tools::Timer { at: 0, number: u64::MAX }, place: 0 };
+}
 
-/// The alarms of a desk, the earliest first, and of one time the first one that was set.
-#[derive(Default)]
+/// What is to be done.
+pub(crate) enum Alarm {
+    /// To tell a process that the time of its call is over.
+    Over(Pid, i64),
+    Do(Box<dyn FnOnce(&mut Worker) + Send>),
+}
+
+/// The alarms of a desk.
 pub(crate) struct Alarms {
-    last: u64,
-    waiting: BTreeMap<Key, Alarm>,
+    timers: Timers,
+    /// What is to be done, in the places that the timers have as their numbers.
+    waiting: Vec<Option<Alarm>>,
+    free: Vec<usize>,
+    /// None is due before this time. (it is asked in each step, and a timer of a call is mostly cancelled)
+    none_before: u64,
 }
 
 impl Alarms {
-    pub(crate) fn set(&mut self, at: u64, alarm: Alarm) -> Key {
-        self.last += 1;
-        self.waiting.insert((at, self.last), alarm);
-        (at, self.last)
+    pub(crate) fn new() -> Result<Alarms, Fault> {
+        Ok(Alarms { timers: Timers::new()?, waiting: Vec::new(), free: Vec::new(), none_before: u64::MAX })
+    }
+
+    fn set(&mut self, at: u64, alarm: Alarm) -> Result<Key, Fault> {
+        let place = self.free.last().copied().unwrap_or(self.waiting.len());
+        let timer = self.timers.start(at, place as u64)?;
+        self.none_before = self.none_before.min(at);
+        match self.free.pop() {
+            Some(_) => self.waiting[place] = Some(alarm),
+            None => self.waiting.push(Some(alarm)),
+        }
+        Ok(Key { timer, place })
+    }
+
+    fn take(&mut self, place: usize) -> Option<Alarm> {
+        self.free.push(place);
+        self.waiting[place].take()
     }
 
     /// Takes an alarm out, if it has not gone off.
     pub(crate) fn cancel(&mut self, key: Key) -> Option<Alarm> {
-        self.waiting.remove(&key)
+        if self.timers.cancel(key.timer) { self.take(key.place) } else { None }
     }
 
     /// The time of the earliest.
     pub(crate) fn next(&self) -> Option<u64> {
-        self.waiting.first_key_value().map(|(&(at, _), _)| at)
+        self.timers.next()
     }
 
-    /// Takes out the earliest, if its time has come.
-    pub(crate) fn pop_due(&mut self, now: u64) -> Option<Alarm> {
-        if self.next()? > now {
+    /// Takes out the earliest, if its time has come: the one that was set first among those.
+    fn pop_due(&mut self, now: u64) -> Option<Alarm> {
+        if now < self.none_before {
             return None;
         }
-        self.waiting.pop_first().map(|(_, alarm)| alarm)
+        match self.timers.pop_due(now) {
+            Some(Fired { body, .. }) => self.take(usize::try_from(body).expect("a place")),
+            None => {
+                self.none_before = self.timers.next().unwrap_or(u64::MAX);
+                None
+            }
+        }
+    }
+}
+
+impl Worker {
+    /// Sets an alarm. If there is no memory for it, the run halts.
+    pub(crate) fn set_alarm(&mut self, at: u64, alarm: Alarm) -> Result<Key, Fault> {
+        let set = self.alarms.set(at, alarm);
+        self.noted(set)
+    }
+
+    /// Does what was to be done by now.
+    pub(crate) fn go_off(&mut self) -> bool {
+        let now = self.hub.now();
+        let mut some = false;
+        while let Some(alarm) = self.alarms.pop_due(now) {
+            some = true;
+            match alarm {
+                Alarm::Over(pid, number) => self.tell_process(pid, OVER, number),
+                Alarm::Do(work) => _ = quietly(|| work(self)),
+            }
+        }
+        some
     }
 }

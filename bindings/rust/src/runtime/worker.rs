@@ -3,16 +3,18 @@
 use super::PANIC;
 use super::address::Address;
 use super::asked::tell_dropped;
-use super::behaviour::Behaviour;
+use super::behaviour::{Behaviour, Bound};
 use super::hub::{END, GO_ON, Hub, KILL, Origin};
 use super::inbox::{Place, Task};
 use super::payloads::{News, drop_quietly, quietly};
 use super::process::{Actor, Process};
 use super::report::Report;
+use super::supervision::Supervision;
 use super::timing::Alarms;
 use crate::crew::{Crew, Job, Next, What};
-use crate::{Body, Desk, Fault, Item, Pid, Reason};
+use crate::{Body, Desk, Fault, Item, Loss, Pid, Reason, Turned};
 use std::any::Any;
+use std::collections::HashMap;
 use std::panic::{AssertUnwindSafe, catch_unwind};
 use std::sync::Arc;
 use std::sync::atomic::Ordering::SeqCst;
@@ -21,11 +23,20 @@ use std::sync::atomic::Ordering::SeqCst;
 const BUDGET: u32 = 256;
 const MOST: usize = 256;
 
+/// The tag of a supervisor that the library runs.
+pub(crate) const SUPERVISOR: u64 = 1 << 62;
+/// What the tag of a child of a supervisor has beside its place there.
+pub(crate) const CHILD: u64 = 1 << 63;
+
 /// Who spawned a process.
 #[derive(Clone, Copy)]
 pub(crate) enum Parent {
     Outside,
-    Process { pid: Pid, linked: bool },
+    Process {
+        pid: Pid,
+        linked: bool,
+    },
+    /// A supervisor of the crew.
     Supervisor(Pid),
 }
 
@@ -38,13 +49,13 @@ impl Parent {
     }
 }
 
-/// A process of the desk. Its tag is its place among the seats.
+/// A process of the desk. Its tag is its place among the seats, unless a supervisor has spawned it.
 struct Seat {
     pid: Pid,
     parent: Parent,
     /// The order that it was told.
     told: u8,
-    /// Why it has exited, if its handler panicked. (the journal that says so may be gone as it is told)
+    /// Whether its handler has panicked.
     crashed: bool,
     /// `None` while its handler runs.
     actor: Option<Box<dyn Actor>>,
@@ -58,21 +69,33 @@ pub(crate) struct Worker {
     pub(crate) porter: Pid,
     pub(crate) alarms: Alarms,
     // `None` only in a meeting and when the run is over
-    desk: Option<Desk>,
-    crew: Crew,
+    pub(super) desk: Option<Desk>,
+    pub(super) crew: Crew,
+    /// How many slots the desk has for those that are known outside.
+    slots: usize,
     seats: Vec<Option<Seat>>,
     free: Vec<usize>,
+    /// The seats of those that supervisors have spawned, by their slots: the last one of each slot.
+    by_slot: Vec<usize>,
+    /// The supervisors that live.
+    pub(super) supervisions: HashMap<Pid, Supervision>,
+    /// Those of which something was asked that is not done.
+    pub(super) asked: Vec<Pid>,
+    /// Those that have exited.
+    pub(super) left: Vec<Supervision>,
     /// The order that all processes were told.
     told: u8,
     fault: Option<Fault>,
     /// Whether the last step came to all who had something to do.
     whole: bool,
+    /// Whether the desk is that of a node that has just gone on.
+    resumed: bool,
     jobs: Vec<Job>,
-    answers: Vec<(Pid, Next)>,
+    pub(super) answers: Vec<(Pid, Next)>,
 }
 
 impl Worker {
-    pub(crate) fn new(hub: &Arc<Hub>, mut desk: Desk) -> Result<Worker, Fault> {
+    pub(crate) fn new(hub: &Arc<Hub>, mut desk: Desk, slots: u32) -> Result<Worker, Fault> {
         let (number, crew, porter) = (desk.number(), Crew::new(&desk)?, desk.spawn()?);
         desk.keep_losses(true);
         let _ = hub.places[usize::from(number)].porter.set(porter);
@@ -80,14 +103,20 @@ impl Worker {
             hub: hub.clone(),
             number,
             porter,
-            alarms: Alarms::default(),
+            alarms: Alarms::new()?,
             desk: Some(desk),
             crew,
+            slots: slots as usize,
             seats: Vec::new(),
             free: Vec::new(),
+            by_slot: Vec::new(),
+            supervisions: HashMap::new(),
+            asked: Vec::new(),
+            left: Vec::new(),
             told: GO_ON,
             fault: None,
             whole: true,
+            resumed: false,
             jobs: Vec::new(),
             answers: Vec::new(),
         })
@@ -125,7 +154,13 @@ impl Worker {
         let tasks = self.perform();
         let alarms = self.go_off();
         self.tell_order();
-        self.step(MOST) || tasks || alarms
+        let some = self.step(MOST) || tasks || alarms;
+        if self.supervisions.is_empty() && self.left.is_empty() {
+            return some;
+        }
+        self.serve();
+        // (a supervisor may have something to do of which nobody is told)
+        some || self.crew.queued() > 0
     }
 
     /// Does what those outside want. What the desk had no memory or no stamp for stays in the inbox.
@@ -147,27 +182,9 @@ impl Worker {
         some
     }
 
-    /// Does what was to be done by now.
-    fn go_off(&mut self) -> bool {
-        let now = self.hub.now();
-        let mut some = false;
-        while let Some(alarm) = self.alarms.pop_due(now) {
-            quietly(|| alarm(self));
-            some = true;
-        }
-        some
-    }
-
-    /// A step of the crew: a turn, and then the handlers of those who have something to do. What was lost is taken in
-    /// between, so that each exit is told with its reason.
+    /// A step of the crew: a turn, and then the handlers of those who have something to do.
     fn step(&mut self, most: usize) -> bool {
-        self.crew.set_time(self.hub.now());
-        let desk = self.desk.as_mut().expect("a desk, outside of a meeting");
-        let mut turned = desk.turn(BUDGET);
-        while self.crew.next_loss(desk).expect("the crew of this desk").is_some() {}
-        let stepped = self.crew.step(desk, 0, most, &mut self.jobs).expect("the crew of this desk");
-        turned.posted += stepped.posted;
-        turned.stopped = turned.stopped.or(stepped.stopped);
+        let turned = self.turn(most);
         if turned.posted > 0 {
             self.hub.ring_others(self.number);
         }
@@ -186,21 +203,65 @@ impl Worker {
         some
     }
 
-    /// Runs the handler of a process.
-    fn tell(&mut self, Job { pid, tag, what }: Job) {
-        let place = usize::try_from(tag).expect("the place of a seat");
-        let mut actor = self.seats[place].as_mut().and_then(|seat| seat.actor.take()).expect("a process of this desk");
-        if let What::Exit(why, next) = what {
-            let seat = self.seats[place].take().expect("a process of this desk");
-            self.free.push(place);
-            if actor.supervises() && !matches!(next, Next::Stop(_)) {
-                // (its children may live, and now nobody else tells them the order)
-                self.told = GO_ON;
+    /// Turns the desk, and has the crew say who has something to do. What was lost is taken in between, so that each
+    /// exit is told with its reason.
+    fn turn(&mut self, most: usize) -> Turned {
+        self.crew.set_time(self.hub.now());
+        let desk = self.desk.as_mut().expect("a desk, outside of a meeting");
+        let mut turned = desk.turn(BUDGET);
+        let (resumed, mut left) = (std::mem::take(&mut self.resumed), Vec::new());
+        while let Some(Loss { pid, .. }) = self.crew.next_loss(desk).expect("the crew of this desk") {
+            if resumed {
+                left.push(pid);
             }
-            self.leave(pid, actor, if seat.crashed { PANIC } else { why });
-            return;
         }
-        self.place().runs(Some(pid));
+        let stepped = self.crew.step(desk, 0, most, &mut self.jobs).expect("the crew of this desk");
+        if resumed {
+            // (a crew that begins again comes to its processes in another order: those that have exited are told first)
+            let order: HashMap<Pid, usize> = left.into_iter().zip(0..).collect();
+            let first = |job: &Job| matches!(job.what, What::Exit(..)).then(|| order.get(&job.pid).copied());
+            self.jobs.sort_by_key(|job| first(job).flatten().unwrap_or(usize::MAX));
+        }
+        turned.posted += stepped.posted;
+        turned.stopped = turned.stopped.or(stepped.stopped);
+        turned
+    }
+
+    /// Tells a process of the crew what it is to be told. A child that was not made is told nothing.
+    fn tell(&mut self, job: Job) {
+        let Some(place) = (if job.tag < SUPERVISOR { usize::try_from(job.tag).ok() } else { self.supervised(&job) })
+        else {
+            return;
+        };
+        match job.what {
+            What::Exit(why, _) => self.unseat(job, place, why),
+            what => self.handle(job.pid, place, what),
+        }
+    }
+
+    /// The seat of a child of a supervisor. `None` if the child was not made, or the process is the supervisor, which
+    /// is told that it has exited.
+    #[inline(never)]
+    fn supervised(&mut self, job: &Job) -> Option<usize> {
+        let Job { pid, tag, what } = *job;
+        match what {
+            What::Exit(why, _) if tag == SUPERVISOR => {
+                self.supervisor_left(pid, why);
+                return None;
+            }
+            What::Start(Some(origin)) if !self.begin_child(pid, origin.supervisor, tag & !CHILD) => return None,
+            _ => {}
+        }
+        let is_seat = |seat: &Option<Seat>| seat.as_ref().is_some_and(|seat| seat.pid == pid);
+        let last = self.by_slot.get(pid.slot as usize).copied();
+        last.filter(|&place| self.seats.get(place).is_some_and(is_seat)).or_else(|| self.seats.iter().position(is_seat))
+    }
+
+    /// Runs the handler of a process.
+    #[inline]
+    fn handle(&mut self, pid: Pid, place: usize, what: What) {
+        let mut actor = self.seats[place].as_mut().and_then(|seat| seat.actor.take()).expect("a process of this desk");
+        self.runs(Some(pid));
         match catch_unwind(AssertUnwindSafe(|| actor.told(self, what))) {
             Ok(next) => self.answers.push((pid, next)),
             Err(what) => {
@@ -212,10 +273,36 @@ impl Worker {
                 tell_dropped();
             }
         }
-        self.place().runs(None);
+        self.runs(None);
         if let Some(seat) = &mut self.seats[place] {
             seat.actor = Some(actor);
         }
+    }
+
+    /// Notes whose handler runs.
+    pub(super) fn runs(&self, pid: Option<Pid>) {
+        self.place().runs(pid);
+    }
+
+    /// A process has exited: all that it had goes.
+    fn unseat(&mut self, Job { pid, tag, .. }: Job, place: usize, why: Reason) {
+        let Seat { parent, crashed, actor, .. } = self.seats[place].take().expect("a process of this desk");
+        let actor = actor.expect("a process whose handler does not run");
+        self.free.push(place);
+        if actor.supervises() {
+            self.front_left(pid);
+        }
+        if let Parent::Supervisor(supervisor) = parent {
+            self.child_left(supervisor, tag & !CHILD, pid);
+        }
+        self.place().dismiss(pid);
+        self.hub.alive.fetch_sub(1, SeqCst);
+        actor.ended(self, if crashed { PANIC } else { why });
+    }
+
+    /// Whether this is a process of the desk whose exit was not told.
+    pub(super) fn is_seated(&self, pid: Pid) -> bool {
+        self.seats.iter().flatten().any(|seat| seat.pid == pid)
     }
 
     fn answer(&mut self) {
@@ -225,14 +312,8 @@ impl Worker {
         self.answers.clear();
     }
 
-    /// A process has exited: all that it had goes.
-    fn leave(&mut self, pid: Pid, actor: Box<dyn Actor>, why: Reason) {
-        self.place().dismiss(pid);
-        self.hub.alive.fetch_sub(1, SeqCst);
-        actor.ended(self, why);
-    }
-
-    /// A process crashes: it exits at once, and those who hear of it find the text. If that is refused, there is no memory.
+    /// A process crashes: it exits at once, and those who hear of it find the text. If that is refused, there is no
+    /// memory.
     fn crash(&mut self, pid: Pid, place: usize, text: Arc<str>) -> Result<(), Fault> {
         self.hub.panics.fetch_add(1, SeqCst);
         if let Some(seat) = &mut self.seats[place] {
@@ -291,7 +372,12 @@ impl Worker {
 
     /// Whether a supervisor lives that ends this process.
     fn is_supervised(&self, seat: &Seat) -> bool {
-        matches!(seat.parent, Parent::Supervisor(pid) if self.place().slot(pid).is_some())
+        matches!(seat.parent, Parent::Supervisor(pid) if self.supervisions.contains_key(&pid))
+    }
+
+    /// All that were not told the order are told it.
+    pub(super) fn retell(&mut self) {
+        self.told = GO_ON;
     }
 
     /// Sends a message in the name of a process of this desk. It returns `false` if the desk refuses that.
@@ -322,31 +408,60 @@ impl Worker {
 
     /// Spawns a process, perhaps as a child of one of this desk.
     pub(crate) fn spawn<B: Behaviour>(&mut self, parent: Parent, behaviour: B) -> Result<Address<B::Message>, Fault> {
-        let (bound, place) = (behaviour.most_waiting(), self.free.last().copied().unwrap_or(self.seats.len()));
+        if self.is_full() {
+            return Err(Fault::Full);
+        }
+        let bound = behaviour.most_waiting();
+        let place = self.free.last().copied().unwrap_or(self.seats.len()) as u64;
         let desk = self.desk.as_mut().expect("a desk, outside of a meeting");
         let spawned = match parent {
-            Parent::Outside => self.crew.spawn(desk, place as u64, Next::Proceed),
-            Parent::Process { pid, linked } => self.crew.spawn_child(desk, pid, linked, place as u64, Next::Proceed),
-            Parent::Supervisor(pid) => self.crew.spawn_child(desk, pid, true, place as u64, Next::Proceed),
+            Parent::Outside => self.crew.spawn(desk, place, Next::Proceed),
+            Parent::Process { pid, linked } => self.crew.spawn_child(desk, pid, linked, place, Next::Proceed),
+            Parent::Supervisor(_) => unreachable!("a supervisor spawns its children itself"),
         };
         let pid = self.noted(spawned)?;
+        Ok(self.admit(pid, parent, behaviour, bound))
+    }
+
+    /// Whether no slot is free for one more process. (one that has exited has none, also if its exit was not told)
+    pub(super) fn is_full(&self) -> bool {
+        let taken = || self.seats.iter().flatten();
+        let alive = |seat: &&Seat| self.desk.as_ref().is_some_and(|desk| desk.alive(seat.pid));
+        // (the porter has one)
+        self.seats.len() - self.free.len() + 1 >= self.slots && taken().filter(alive).count() + 1 >= self.slots
+    }
+
+    /// Gives a process that was spawned its behaviour.
+    pub(crate) fn admit<B: Behaviour>(
+        &mut self,
+        pid: Pid,
+        parent: Parent,
+        behaviour: B,
+        bound: Bound,
+    ) -> Address<B::Message> {
         let address = Address::new(pid, std::any::type_name::<B>(), bound, &self.hub);
         self.place().admit(address.mailbox.clone());
         self.hub.alive.fetch_add(1, SeqCst);
         self.hub.spawned.fetch_add(1, SeqCst);
         let process = Process::new(behaviour, address.clone(), parent.pid());
-        self.seat(place, pid, parent, Box::new(process));
-        Ok(address)
+        let place = self.seat(Seat { pid, parent, told: GO_ON, crashed: false, actor: Some(Box::new(process)) });
+        if let Parent::Supervisor(_) = parent {
+            let slot = pid.slot as usize;
+            self.by_slot.resize(self.by_slot.len().max(slot + 1), usize::MAX);
+            self.by_slot[slot] = place;
+        }
+        address
     }
 
-    fn seat(&mut self, place: usize, pid: Pid, parent: Parent, actor: Box<dyn Actor>) {
-        let seat = Seat { pid, parent, told: GO_ON, crashed: false, actor: Some(actor) };
-        match self.free.pop() {
-            Some(_) => self.seats[place] = Some(seat),
+    fn seat(&mut self, seat: Seat) -> usize {
+        // (so it is told the order, too)
+        self.retell();
+        let place = self.free.pop().unwrap_or(self.seats.len());
+        match self.seats.get_mut(place) {
+            Some(free) => *free = Some(seat),
             None => self.seats.push(Some(seat)),
         }
-        // (so it is told the order, too)
-        self.told = GO_ON;
+        place
     }
 
     /// Whether all threads are to meet, of which this one tells the others if it wants to.
@@ -387,8 +502,9 @@ impl Worker {
     fn begin_again(&mut self, desk: Desk) {
         let again = self.crew.begin_again(&desk);
         let _ = self.noted(again);
-        // in settling all news came: a text beside news that does not wait is beside none, unless a thread that was faster
-        // has put it since
+        self.resumed = true;
+        // in settling all news came: a text beside news that does not wait is beside none, unless a thread that was
+        // faster has put it since
         let epoch = self.hub.epochs();
         for slot in self.place().slots() {
             let waiting: Vec<News> = desk.waiting(slot.pid()).into_iter().flatten().filter_map(news_of).collect();
@@ -400,7 +516,9 @@ impl Worker {
     /// Rests until somebody rings or a time comes.
     fn rest(&mut self) {
         // letters wait, so a lane is full: it is looked at once more, and then who makes room rings
-        if self.desk().pending() > 0 && !self.place().is_short() {
+        if self.desk().pending() == 0 {
+            self.place().has_room();
+        } else if !self.place().is_short() {
             return;
         }
         let times = [self.crew.next_time(), self.alarms.next()];
