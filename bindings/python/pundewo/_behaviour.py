@@ -6,6 +6,7 @@ from abc import ABC, abstractmethod
 from functools import partial
 from typing import TYPE_CHECKING, Any, Callable, NamedTuple, Optional, Union
 
+from ._abi import CCall
 from .values import ANY, NORMAL, U32, Pick, Pid, Reason, Ref, _Checked, of_type, one_of, shown, unchecked
 
 if TYPE_CHECKING:
@@ -17,6 +18,9 @@ CRASH = Reason("other", U32)
 
 # What those outside want: the run goes on, its processes are to exit, they are killed, it is over.
 GO_ON, STOP, KILLS, OVER = range(4)
+
+# What halts the run if a handler raises it, which is a crash too. The run may go on then.
+HALTS = KeyboardInterrupt, SystemExit
 
 # What is to be done at a time.
 Alarm = int
@@ -196,13 +200,15 @@ class RunOver(CallFault):
 class Call:
     """A call that a process has made, by which it knows the `Answer`."""
 
-    __slots__ = ("client", "server", "monitor", "alarm", "is_open", "done")
+    __slots__ = ("client", "server", "asked", "alarm", "is_open", "done")
 
     def __init__(self, done: Optional[Callable[[Answer], None]] = None):
         self.client: Optional[Seat] = None
         self.server: Optional[Pid] = None
-        self.monitor: Optional[Ref] = None
+        # the call of the library, once it is made
+        self.asked: Optional[CCall] = None
         self.alarm: Optional[Alarm] = None
+        # whether anybody wants its answer
         self.is_open = True
         # what is told of the answer to a call from outside
         self.done = done

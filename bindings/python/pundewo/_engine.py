@@ -8,24 +8,23 @@ from collections import deque
 from functools import partial
 from threading import get_ident
 from time import monotonic
-from typing import Any, Callable, Deque, Optional
+from typing import Any, Callable, Deque, Optional, Union
 
-from . import Code, Config, Crew, Fault, Gathered, Item, Settled, gather, open_node
+from . import Code, Config, Desk, Fault, Gathered, History, NotGoneOn, Settled, go_on, open_node
 from ._archive import Sink
 from ._behaviour import (
-    CRASH, GO_ON, KILLS, MESSAGE, OVER, PROCEED, STOP, TIMEOUT, Answer, Behaviour, Call, CallFault, Down, Event, Exit, Message,
-    Next, RunOver, ServerDown, behaviour_of,
+    CRASH, GO_ON, HALTS, KILLS, MESSAGE, OVER, PROCEED, REQUEST, STOP, TIMEOUT, Answer, Behaviour, Call, CallFault,
+    CallTimeout, Down, Event, Exit, Message, Next, Request, RunOver, ServerDown, behaviour_of,
 )
-from ._abi import CAnswer, CJob
-from ._library import item_of, reader, reason_of
-from ._process import WAITS, Address, Porter, Seat, bytes_of
-from ._sending import HOLDS, Sending, Task, kind_of
-from .values import ITEMS, JOBS, KILL, NORMAL, SHUTDOWN, U8, Pick, Pid, Reason, Ref, unchecked
+from ._abi import CAnswer, CItem, CJob, CPid
+from ._family import StandIn, Supervising
+from ._library import pid_of, reader, reason_of, ref_of
+from ._process import WAITS, Address, Family, Porter, Seat, bytes_of
+from ._sending import HOLDS, Task, answer_key, kind_of, request_key
+from ._supervisor import Supervisor
+from .values import ITEMS, JOBS, KILL, SHUTDOWN, U8, U64, Body, Pick, Pid, Reason, Ref, unchecked
 
 log = logging.getLogger("pundewo")
-
-# What halts the run if a handler raises it, which is a crash too. The run may go on then.
-HALTS = KeyboardInterrupt, SystemExit
 
 # How many letters a turn handles at most, and how many jobs a step has.
 BUDGET, MOST = 1024, 256
@@ -35,33 +34,29 @@ Job = tuple[int, ...]
 JOB = reader(CJob, "code", "tag", "item.code", "item.pid.shard", "item.pid.slot", "item.pid.version", "item.body.kind",
              "item.body.num")
 START, ITEM, TIMES_OUT, EXITED = map(JOBS.index, ("start", "item", "timeout", "exit"))
-USER = ITEMS.index("user")
+USER, EXIT, DOWN = map(ITEMS.index, ("user", "exit", "down"))
 PROCEEDS = bytes_of("proceed")
 
 
-class Engine(Sending):
+class Engine(Supervising):
     """All processes of a run. Only `post`, `ask` and reading are for other threads."""
 
     def __init__(self, desks: int, config: Config, every: int, sink: Optional[Sink], patience: float):
         super().__init__(open_node(desks, config))
-        self.crews = [Crew(desk) for desk in self.desks]
         for desk in self.desks:
             desk.keep_losses()
         self.every, self.sink, self.patience = every, sink, patience
         # the thread that runs the processes, once there is one; whether it stopped at an exception
         self.thread: Optional[int] = None
         self.halted = False
-        self.seats: dict[int, Seat] = {}
         # what each desk's processes are told in this round: as the library wrote it, and what was read of that
         self._rows = [(CJob * MOST)() for _ in self.desks]
         self._jobs: list[Deque[tuple[int, Job]]] = [deque() for _ in self.desks]
-        self._answers: list[list[bytes]] = [[] for _ in self.desks]
-        self._untold = self._taken = self.goes_on = False
-        # the numbers of the desks whose crews have not begun again
-        self._stale: list[int] = []
-        self._gathered: Optional[Gathered] = None
-        self._settled: Optional[Settled] = None
-        self.spawned = self.crashes = self.epochs = self.archived = 0
+        self._untold = self.goes_on = False
+        # the node, if going on stopped within; the history of the last epoch, if nobody has it yet
+        self._node: Union[None, list[Desk], Gathered, Settled] = None
+        self._history: Optional[History] = None
+        self.crashes = self.epochs = self.archived = 0
         self.killed: list[Pid] = []
         for number in range(desks):
             self.porters.append(self.spawn(Porter(), number))
@@ -114,6 +109,10 @@ class Engine(Sending):
             self._resolve(Answer(call, None, RunOver()))
         else:
             self._outside.add(call)
+            if self.is_served(to.pid):
+                call.client, call.server = self.pids[self.porters[to.pid.shard].pid], to.pid
+                self.serve(Request(self, call, self.porters[to.pid.shard].pid, value), call)
+                return
             try:
                 self.call(self.pids[self.porters[to.pid.shard].pid], to, value, None, call)
             except Fault as fault:
@@ -175,9 +174,9 @@ class Engine(Sending):
         """Does what is to be done now, and returns whether anything was."""
         self._inside = True
         try:
-            if not self.desks:
+            if self._node is not None:
                 self._go_on()
-            self._begin_again()
+            self._hand_out()
             busy = self._perform() | self._go_off()
             self._tell_order()
             dropped = len(self._dropped)
@@ -203,7 +202,7 @@ class Engine(Sending):
 
     def rest_time(self) -> Optional[float]:
         """For how many seconds nothing is to be done, unless something comes in. (if nothing was in the last round)"""
-        times = [crew.next_time() for crew in self.crews] + ([self._times[0][0]] if self._times else [])
+        times = [crew.next_time() for crew in self.crews] + [self.due]
         known = [at for at in times if at is not None]
         return max(0.0, (min(known) - self.now()) / 1e6) if known else None
 
@@ -214,9 +213,8 @@ class Engine(Sending):
     def finish(self) -> None:
         """Ends the run: hands out its last history, and drops all that is left."""
         if self.order != OVER:
-            if self.desks or self._gathered is not None or self._settled is not None:
-                self._close_epoch()
-                self.epochs += 1
+            self._hand_out()
+            self._go_on()
             self.abandon()
 
     def abandon(self) -> None:
@@ -229,15 +227,15 @@ class Engine(Sending):
             self._resolve(Answer(call, None, RunOver()))
         self.payloads.clear()
         self._alarms.clear()
+        self._timers.close()
         self._perform()
         for crew in self.crews:
             crew.close()
         for desk in self.desks:
             desk.close()
-        if self._gathered is not None:
-            self._gathered.close()
-        if self._settled is not None:
-            self._settled.close()
+        for held in (self._node, self._history):
+            if held is not None and not isinstance(held, list):
+                held.close()
 
     def _perform(self) -> bool:
         """Does what those outside wanted by now."""
@@ -263,9 +261,8 @@ class Engine(Sending):
             if self.order == STOP and self._is_supervised(seat):
                 continue
             if not self.is_porter(seat.pid):
-                self.desks[seat.pid.shard].exit_signal(
-                    self.porters[seat.pid.shard].pid, seat.pid, KILL if self.order == KILLS else SHUTDOWN)
-                if self.order == KILLS:
+                self.exit_signal(self.porters[seat.pid.shard].pid, seat.pid, KILL if self.order == KILLS else SHUTDOWN)
+                if self.order == KILLS and not isinstance(seat.behaviour, StandIn):
                     self.killed.append(seat.pid)
             seat.told = self.order
         self._untold = False
@@ -288,6 +285,8 @@ class Engine(Sending):
             count, posted = crew._step(desk, 0, rows)
             jobs.extend(enumerate(JOB.iter_unpack(memoryview(rows).cast("B")[:count * JOB.size])))
             some = count > 0 or turned.posted + turned.handled + posted.posted > 0
+            # (what supervisors do is in no job. The step has read all events at its end)
+            some = some or self.families > 0 and crew.queued() + desk.pending() > 0
             if turned.stopped is not None:
                 raise Fault(turned.stopped, "turn")
             if crew.refused():
@@ -301,7 +300,7 @@ class Engine(Sending):
             # (whose process is not running any more is left out)
             taken = crew._answer((CAnswer * len(answers)).from_buffer_copy(b"".join(answers)))
             del answers[:taken + 1]
-        return some
+        return self._serve(number) or some if self.asked else some
 
     def _take_losses(self, number: int) -> None:
         """Drops what the desk has lost. No letter can ask for it any more."""
@@ -309,7 +308,13 @@ class Engine(Sending):
         for loss in iter(lambda: crew.next_loss(desk), None):
             for item in loss.items:
                 if item.body is not None:
-                    self.payloads.pop(item.body.num, None)
+                    self.payloads.pop(self._key_of(loss.pid, item.pid, item.body), None)
+
+    def _key_of(self, to: Pid, sender: Pid, body: Body) -> int:
+        """Under which the value of a message is kept."""
+        if body.who is None:
+            return body.num
+        return request_key(sender.shard, body.num) if body.kind == REQUEST else answer_key(to.shard, body.num)
 
     # The processes
 
@@ -321,10 +326,7 @@ class Engine(Sending):
             pid = self.crews[desk].spawn_child(self.desks[desk], parent, linked, tag)
         else:
             pid = self.crews[desk].spawn(self.desks[desk], tag)
-        address = Address(pid, type(behaviour).__name__, self)
-        self.seats[tag] = self.pids[pid] = Seat(self, address, tag, behaviour, parent)
-        self.spawned += 1
-        self._untold = True
+        address = self.take_in(pid, tag, behaviour, parent, parent if linked else None).cx.me
         if linked and parent is not None and parent.shard != desk:
             try:
                 self.desks[parent.shard].link(parent, pid)
@@ -333,12 +335,22 @@ class Engine(Sending):
                 raise
         return address
 
+    def take_in(self, pid: Pid, tag: int, behaviour: Behaviour, parent: Optional[Pid], obeys: Optional[Pid] = None) -> Seat:
+        seat = Seat(self, Address(pid, type(behaviour).__name__, self), tag, behaviour, parent)
+        self.seats[tag] = self.pids[pid] = seat
+        if behaviour._ends_children and isinstance(behaviour, Supervisor):
+            porter = self.porters[pid.shard]
+            seat.family, seat.cx.me._crossing = Family(obeys or porter.pid), porter._crossing
+            self.families += 1
+        self.spawned += 1
+        self._untold = True
+        return seat
+
     def _tell(self, number: int, place: int, job: Job) -> None:
         """Runs the handler of a process."""
         code, tag, item, shard, slot, version, kind, num = job
-        seat = self.seats[tag]
-        if code == EXITED:
-            self._leave(seat, reason_of(self._rows[number][place].reason))
+        seat = self.seats[tag] if code == ITEM else self._seat_of(code, tag, self._rows[number][place])
+        if seat is None:
             return
         self.running = seat
         try:
@@ -349,7 +361,9 @@ class Engine(Sending):
             else:
                 does = self._run(seat, code, self._rows[number][place])
             seat.does = does
-            self._answers[number].append(seat.crossing + does)
+            # (for a supervisor it is answered)
+            if does:
+                self._answers[number].append(seat.crossing + does)
         except BaseException as error:
             self._crash(seat, error)
             if isinstance(error, HALTS):
@@ -361,15 +375,28 @@ class Engine(Sending):
                 self.note_holder(seat, now)
             self.since = now
 
+    def _seat_of(self, code: int, tag: int, job: CJob) -> Optional[Seat]:
+        """Who is told anything but an item. One that has exited is not."""
+        if code == EXITED:
+            self._tell_exit(tag, job)
+            return None
+        seat = self.seats.get(tag)
+        if code == START and (seat is None or tag in self.kids):
+            return self.begin_child(tag, pid_of(job.pid))
+        return seat
+
     def _run(self, seat: Seat, code: int, job: CJob) -> bytes:
         """The same for what is told more rarely than a message."""
         event: Optional[Event] = PROCEED
         if code == START:
+            if seat.family is not None and isinstance(seat.behaviour, Supervisor):
+                self.supervise(seat, seat.behaviour, seat.family)
+                return b""
             return self._does(seat.behaviour.started(seat.cx))
         if code == TIMES_OUT:
             event = TIMEOUT
         elif code == ITEM:
-            event = self._event_of(seat, item_of(job.item))
+            event = self._event_of(seat, job.item)
         return seat.does if event is None else self._does(seat.behaviour.handle(seat.cx, event))
 
     def _does(self, next_: Optional[Next]) -> bytes:
@@ -389,31 +416,50 @@ class Engine(Sending):
             return bytes_of("wait", pick=pick)
         return bytes_of("wait-until", pick=pick, until=self._at(next_.limit))
 
-    def _event_of(self, seat: Seat, item: Item) -> Optional[Event]:
+    def _event_of(self, seat: Seat, item: CItem) -> Optional[Event]:
         """What an item is to the handler, or None if it is nothing to it, such as an answer that comes too late."""
-        event: Optional[Event]
-        if item.body is not None:
-            if item.body.num not in self.payloads:  # it was taken back
-                return None
-            event = self.payloads.pop(item.body.num)
-        elif item.name == "down" and item.reference is not None:
-            reason, text = item.reason or NORMAL, seat.texts.pop(item.reference, None)
-            call = seat.calls.get(item.reference)
-            if call is None:
-                return Down(item.reference, item.pid, reason, text)
-            event = Answer(call, None, ServerDown(reason, text))
-        elif item.name == "exit":
-            return Exit(item.pid, item.reason or NORMAL, seat.texts.pop(item.pid, None))
-        else:
+        if item.code == USER:
+            event = self._value_of(seat, item)
+            return self._result(event) if isinstance(event, Answer) else event
+        pid, reason = pid_of(item.pid), reason_of(item.reason)
+        if item.code == EXIT:
+            return Exit(pid, reason, seat.texts.pop(pid, None))
+        if item.code != DOWN:
             return None
-        if not isinstance(event, Answer):
-            return event
-        if not event.call.is_open:
+        reference = ref_of(item.reference)
+        text, call = seat.texts.pop(reference, None), seat.calls.get(reference.number)
+        if call is not None and self.hear(seat, call, item) is not None:
+            return self._result(Answer(call, None, ServerDown(reason, text)))
+        if reference in self.left_open:
+            self.left_open.remove(reference)
             return None
-        self.close(event.call)
-        if event.call.done is None:
-            return event
-        self._resolve(event)
+        return Down(reference, pid, reason, text)
+
+    def _value_of(self, seat: Seat, item: CItem) -> Optional[Event]:
+        """The value of a message, or None if it was taken back, or nobody waits for it any more."""
+        body = item.body
+        if not body.has_who:
+            event: Optional[Event] = self.payloads.pop(body.num, None)
+            if not isinstance(event, Answer):
+                return event
+            # (an answer that the server has not sent itself, or that its time is over)
+            is_late = isinstance(event.fault, CallTimeout)
+            return event if self.expire(event.call, self.now() if is_late else U64) else None
+        if body.kind == REQUEST:
+            asked: Optional[Event] = self.payloads.pop(request_key(item.pid.shard, body.num), None)
+            return asked
+        answer: Optional[Event] = self.payloads.pop(answer_key(seat.pid.shard, body.num), None)
+        call = seat.calls.get(body.num)
+        return None if call is None or self.hear(seat, call, item) is None else answer
+
+    def _result(self, answer: Answer) -> Optional[Event]:
+        """A call has ended by this: what its client is told, if it is a process, and waits for it."""
+        call = answer.call
+        if call.done is None:
+            call.is_open = False
+            return answer
+        if call.is_open:
+            self._resolve(answer)
         return None
 
     def _crash(self, seat: Seat, error: BaseException) -> None:
@@ -422,20 +468,43 @@ class Engine(Sending):
         self.crashes += 1
         desk = self.desks[seat.pid.shard]
         for monitor, owner in desk.watchers(seat.pid) or ():
-            if owner in self.pids:
-                self.pids[owner].texts[monitor] = text
+            self._leave_text(owner, monitor, text)
         for peer, _ in desk.links(seat.pid) or ():
-            if peer in self.pids:
-                self.pids[peer].texts[seat.pid] = text
+            self._leave_text(peer, seat.pid, text)
         try:
             desk.exit(seat.pid, CRASH)
         except Fault:  # no memory: the crew tries again
             self._answers[seat.pid.shard].append(seat.crossing + bytes_of("stop", reason=CRASH))
         log.error("%s of %s crashed: %s", seat.pid, seat.cx.me.name, text, exc_info=error)
 
+    def _leave_text(self, of: Pid, key: Union[Ref, Pid], text: str) -> None:
+        """Keeps the text of a crash for a process that gets news of it. (a supervisor of a crew reads none)"""
+        seat = self.pids.get(of)
+        if seat is not None and seat.family is None:
+            seat.texts[key] = text
+
+    def _tell_exit(self, tag: int, job: CJob) -> None:
+        """A process has exited. One that a supervisor started may not have begun."""
+        seat, kid, why = self.seats.get(tag), self.kids.get(tag), reason_of(job.reason)
+        if kid is not None:
+            # (the child may have another process by now)
+            seat = self.pids.get(pid_of(job.pid))
+        if seat is not None:
+            self._leave(seat, why)
+        elif kid is not None:
+            self.end_unborn(kid, why)
+
     def _leave(self, seat: Seat, why: Reason) -> None:
         """A process has exited: all that it had goes."""
-        del self.seats[seat.tag], self.pids[seat.pid]
+        del self.pids[seat.pid]
+        if self.seats.get(seat.tag) is seat:
+            del self.seats[seat.tag]
+        kid = self.kids.get(seat.tag)
+        if kid is not None and kid.seat is seat:
+            kid.end()
+        if seat.family is not None:
+            seat.cx.me._crossing = CPid(*seat.pid)
+            self.end_family(seat, seat.family, why)
         for name in seat.names:
             if self.names.get(name) == seat.cx.me:
                 del self.names[name]
@@ -452,46 +521,33 @@ class Engine(Sending):
             if isinstance(error, HALTS):
                 raise
         finally:
-            self.running, now = None, monotonic()
-            if now - self.since > HOLDS:
-                self.note_holder(seat, now)
-            self.since = now
+            self._returned(seat)
             # (a context refers to its seat, so what the behaviour has would else stay until Python looks for cycles)
             del seat.behaviour
 
     # Its epochs
 
-    def _close_epoch(self) -> Settled:
-        """Gathers and settles the node, and hands out its history once. What fails may be done again."""
-        if self._gathered is None and self._settled is None:
-            self._gathered, self.desks = gather(self.desks), []
-        if self._settled is None and self._gathered is not None:
-            self._settled, self._gathered = self._gathered.settle_unlisted(), None
-        assert self._settled is not None
-        if self.sink is not None and not self._taken:
-            with self._settled.history() as history:
-                count = len(history)
-                self.sink(history)
-            self.archived += count
-        self._taken = True
-        return self._settled
-
-    def _begin_again(self) -> None:
-        """Has each crew go on over the desk of a node that has gone on."""
-        while self._stale:
-            number = self._stale[-1]
-            self.crews[number].begin_again(self.desks[number])
-            self._stale.pop()
-
     def _go_on(self) -> None:
-        """Empties the journals."""
-        desks = self._close_epoch().resume()
-        self.desks, self._settled, self._taken = desks, None, False
+        """Empties the journals, and hands the history out. What fails may be done again."""
+        try:
+            desks, self._history = go_on(self._node or self.desks, self.crews)
+        except NotGoneOn as fault:
+            self._node = fault.node
+            raise
+        self.desks, self._node = desks, None
         self.epochs += 1
-        self._stale = list(range(len(desks)))
-        self._begin_again()
         # in settling all news came: a text beside news that does not wait is beside none
         for seat in [seat for seat in self.seats.values() if seat.texts]:
             items = desks[seat.pid.shard].waiting(seat.pid) or ()
             news = {it.reference if it.name == "down" else it.pid for it in items if it.name in ("down", "exit")}
             seat.texts = {key: text for key, text in seat.texts.items() if key in news}
+        self._hand_out()
+
+    def _hand_out(self) -> None:
+        """Gives the sink the history that it has not taken yet."""
+        if self._history is not None:
+            if self.sink is not None:
+                self.sink(self._history)
+                self.archived += len(self._history)
+            self._history.close()
+            self._history = None

@@ -3,9 +3,10 @@
 from __future__ import annotations
 
 import asyncio
+from collections import deque
 from threading import get_ident
 from time import monotonic
-from typing import TYPE_CHECKING, Any, Optional, Union
+from typing import TYPE_CHECKING, Any, Deque, Generator, Optional, Union
 
 from . import Desk, Fault
 from . import Next as Does
@@ -18,6 +19,7 @@ from .values import ANY, NOPROC, SHUTDOWN, Pid, Reason, Ref, flag, number, of_ty
 
 if TYPE_CHECKING:
     from ._engine import Engine
+    from ._supervisor import StartChild
 
 
 class Address:
@@ -27,7 +29,7 @@ class Address:
 
     def __init__(self, pid: Pid, name: str, engine: Engine):
         self.pid, self.name, self._engine = pid, name, engine
-        # (as the library takes it, made once)
+        # where it is sent to, as the library takes it, made once: itself, or the porter of a supervisor
         self._crossing = CPid(*pid)
 
     def __repr__(self) -> str:
@@ -152,12 +154,13 @@ WAITS = bytes_of("wait", pick=ANY)
 class Seat:
     """A process with its behaviour."""
 
-    __slots__ = ("pid", "tag", "behaviour", "cx", "calls", "texts", "does", "told", "crossing", "names")
+    __slots__ = ("pid", "tag", "behaviour", "cx", "calls", "texts", "does", "told", "crossing", "names", "family")
 
     def __init__(self, engine: Engine, address: Address, tag: int, behaviour: Behaviour, parent: Optional[Pid]):
         self.pid, self.tag, self.behaviour = address.pid, tag, behaviour
         self.cx = Context(engine, self, address, parent)
-        self.calls: dict[Ref, Call] = {}
+        # its open calls, by the numbers of their monitors
+        self.calls: dict[int, Call] = {}
         # the texts of crashes, beside the news of them: by monitor, and by linked process
         self.texts: dict[Union[Ref, Pid], str] = {}
         # what it was to do when it was told something
@@ -166,17 +169,66 @@ class Seat:
         # the names that it was given
         self.names: list[str] = []
         # its pid, as an answer to a crew begins with it
-        self.crossing = bytes(address._crossing).ljust(CAnswer.next.offset, b"\0")
+        self.crossing = bytes(CPid(*address.pid)).ljust(CAnswer.next.offset, b"\0")
+        # the children, if it is a supervisor
+        self.family: Optional[Family] = None
+
+
+class Kid:
+    """A child of a supervisor, as it was asked for: its process, while it has one, and where that is sent to."""
+
+    __slots__ = ("above", "family", "start", "tag", "made", "seat", "pid", "address", "runs")
+
+    def __init__(self, above: Seat, family: Family, start: StartChild, tag: int):
+        self.above, self.family, self.start, self.tag = above, family, start, tag
+        # the behaviour of its next process, if that is made
+        self.made: Optional[Behaviour] = None
+        self.seat: Optional[Seat] = None
+        # of the last process that its crew started, and where it is sent to, whether it runs or not
+        self.pid: Optional[Pid] = None
+        self.address: Optional[Address] = None
+        self.runs = False
+
+    def begin(self, address: Address) -> None:
+        """Its process has begun."""
+        self.family.running += not self.runs
+        self.address, self.runs = address, True
+
+    def end(self) -> None:
+        """Its process has exited."""
+        if self.runs:
+            self.runs = False
+            self.family.running -= 1
+        self.seat = None
+        if self.start.restart == "temporary":
+            self.family.gone.append(self)
+
+
+class Family:
+    """What a supervisor has: the process that it obeys, its children by name, and those that run."""
+
+    __slots__ = ("obeys", "kids", "running", "gone", "requests", "work")
+
+    def __init__(self, obeys: Pid):
+        self.obeys = obeys
+        self.kids: dict[str, Kid] = {}
+        self.running = 0
+        # the temporary children that have exited
+        self.gone: list[Kid] = []
+        # what it was asked, and how far that is done
+        self.requests: Deque[Request] = deque()
+        self.work: Optional[Generator[bool, None, object]] = None
 
 
 class Porter(Behaviour):
-    """The process of a desk in whose name things are sent from outside."""
+    """The process of a desk in whose name things are sent from outside, and which gets what supervisors are sent."""
 
     def started(self, cx: Context) -> None:
         cx.trap()
 
     def handle(self, cx: Context, event: Event) -> None:
-        pass
+        if isinstance(event, Request) and event._call is not None:
+            cx._engine.serve(event, event._call)
 
 
 class Context:
@@ -305,7 +357,9 @@ class Context:
     def exit(self, to: Union[Address, Pid], reason: Reason = SHUTDOWN) -> None:
         """Sends an exit signal: Erlang's `exit/2`. KILL ends any process. Any other reason but NORMAL ends a process that
         does not trap exits. To end this process itself, return `Next.stop`."""
-        self._desk().exit_signal(self.pid, self._mortal("to", to), reason)
+        engine, pid = self._here(), self._mortal("to", to)
+        engine.exit_signal(self.pid, pid, of_type("reason", reason, Reason))
+        engine.touch()
 
     def trap(self, on: bool = True) -> bool:
         """Sets whether this process traps exits, which it gets as `Exit`, and returns whether it did before."""

@@ -3,7 +3,6 @@
 from __future__ import annotations
 
 import concurrent.futures
-import heapq
 import logging
 import threading
 from collections import deque
@@ -15,9 +14,11 @@ from ._behaviour import (
     ANSWER, GO_ON, MESSAGE, NEWS, OVER, REQUEST, Alarm, Answer, Call, CallTimeout, Event, Holder, Request, ServerDown,
     Unanswered,
 )
-from ._abi import CBody
+from ._abi import HEARD_CODES, CBody, CCall, CHeard, CItem, CRequest, CTimer
 from ._process import Address, Seat
-from .values import NOPROC, U8, U32, Pid, Ref, of_type
+from .asking import AskFault, _ask, _expire, _hear, _reply
+from .tools import Timers
+from .values import NOPROC, U8, U32, U64, Pid, Ref, of_type
 
 log = logging.getLogger("pundewo")
 
@@ -28,6 +29,18 @@ Turn = concurrent.futures.Future[bool]
 
 # After how many seconds a handler holds up the run: it is named to those whose time is over, and it is logged.
 HOLDS, SLOW = 0.1, 1.0
+
+HEARD_ANSWER, HEARD_DOWN = map(HEARD_CODES.index, ("answer", "server-down"))
+
+
+def request_key(shard: int, number: int) -> int:
+    """Under which a request is kept, whose call has this number on the desk of its client. (the other values are above 0)"""
+    return -1 - 2 * (64 * number + shard)
+
+
+def answer_key(shard: int, number: int) -> int:
+    """Under which the answer of the same call is kept."""
+    return -2 - 2 * (64 * number + shard)
 
 
 def kind_of(number: int) -> int:
@@ -50,9 +63,13 @@ class Sending:
         # the open calls from outside, and those whose requests were dropped without an answer
         self._outside: set[Call] = set()
         self._dropped: list[Call] = []
+        # the monitors of calls that have ended which could not be cancelled
+        self.left_open: set[Ref] = set()
         self._number = 0
-        self._alarms: dict[Alarm, Task] = {}
-        self._times: list[tuple[int, Alarm]] = []
+        # what is to be done later, with the timer of each, and a time before which none is due
+        self._alarms: dict[Alarm, tuple[CTimer, Task]] = {}
+        self._timers = Timers()
+        self.due: Optional[int] = None
         self._inside = False
         # the process whose handler runs, and since when; the last one that held up the run, and until when
         self.running: Optional[Seat] = None
@@ -211,31 +228,107 @@ class Sending:
             self.desks[seat.pid.shard].demonitor(seat.pid, monitor, True)
         self.touch()
 
+    # Calls: that each ends once, and by what, says the library
+
     def call(self, seat: Seat, to: Address, value: Any, limit: Optional[float], call: Call) -> Call:
-        """Asks a process in the name of another. The call ends once. Without a limit its end is the client's own."""
-        call.client, call.server = seat, to.pid
-        monitor = self.monitor(seat, to.pid)
-        if monitor is None:
+        """Asks a process in the name of another. Without a limit its end is the client's own."""
+        call.client, call.server, desk = seat, to.pid, self.desks[seat.pid.shard]
+        began, until = monotonic(), U64 if limit is None else self._at(limit)
+        try:
+            asked = _ask(desk, seat.cx.me._crossing, to._crossing, REQUEST, until)
+        except AskFault as fault:
+            if fault.left_open is not None:
+                self.left_open.add(fault.left_open)
+            if fault.code != Code.NOPROC:
+                raise
             self.news(seat, lambda _: Answer(call, None, ServerDown(NOPROC)))
             return call
-        call.monitor, seat.calls[monitor] = monitor, call
+        call.asked, seat.calls[asked.monitor.number] = asked, call
+        request = request_key(desk.number, asked.monitor.number)
+        self.payloads[request] = Request(self, call, seat.pid, value)
         if limit is not None:
-            began = monotonic()
-            call.alarm = self.set_alarm(
-                limit, lambda: self.answer(call, None, Answer(call, None, CallTimeout(self.blame(began)))))
-        try:
-            self.carry(REQUEST, seat.cx.me, to, Request(self, call, seat.pid, value))
-        except BaseException:  # nothing was asked, so nothing comes of it
-            self.close(call)
-            raise
+            try:
+                call.alarm = self.set_alarm(
+                    limit, lambda: self.tell(call, Answer(call, None, CallTimeout(self.blame(began)))))
+            except BaseException:  # what was asked goes to nobody
+                del self.payloads[request]
+                self.close(call)
+                raise
+        self.touch()
         return call
 
     def answer(self, call: Call, sender: Optional[Address], answer: Answer) -> bool:
-        """Sends the client an answer, and returns False if it does not wait for it any more."""
+        """Sends the client an answer, in the name of the server if no process sends it. Returns False if the client does not
+        wait for it any more."""
+        if not self._is_awaited(call):
+            return False
+        if call.asked is None or sender is not None and sender.pid != call.server:
+            return self.tell(call, answer, sender)
+        client, number, server = call.asked.client, call.asked.monitor.number, call.asked.server
+        key = answer_key(client.shard, number)
+        self.payloads[key] = answer
+        try:
+            _reply(self.desks[server.shard], server, CRequest(client, REQUEST, number), ANSWER)
+        except BaseException as error:
+            del self.payloads[key]
+            # (if the server has exited, there is the news of that)
+            if isinstance(error, Fault) and error.code in (Code.NOPROC, Code.GONE):
+                return False
+            raise
+        self.touch()
+        return True
+
+    def tell(self, call: Call, answer: Answer, sender: Optional[Address] = None) -> bool:
+        """Tells the client of a call by a message how it ends, in the name of another process than the server."""
         seat = call.client
-        if seat is None or not call.is_open or seat.pid not in self.pids or self.order == OVER:
+        if seat is None or not self._is_awaited(call):
             return False
         return self.carry(ANSWER, sender or self.porters[seat.pid.shard], seat.cx.me, answer)
+
+    def _is_awaited(self, call: Call) -> bool:
+        return call.client is not None and call.is_open and call.client.pid in self.pids and self.order != OVER
+
+    def hear(self, seat: Seat, call: Call, item: CItem) -> Optional[CHeard]:
+        """What an item is to an open call: its answer, or the exit of its server, by which it has ended; else None."""
+        assert call.asked is not None
+        heard = _hear(self.desks[seat.pid.shard], call.asked, item)
+        if heard.code not in (HEARD_ANSWER, HEARD_DOWN):
+            return None
+        self._ended(seat, call, call.asked)
+        return heard
+
+    def expire(self, call: Call, now: int) -> bool:
+        """Ends a call without its answer, if its deadline is not above this. Returns whether anybody waited for that."""
+        seat, asked = call.client, call.asked
+        if seat is not None and asked is not None and asked.waits and seat.pid in self.pids and self.order != OVER:
+            if not _expire(self.desks[seat.pid.shard], asked, now):
+                return False
+            self._ended(seat, call, asked)
+        return call.is_open
+
+    def close(self, call: Call) -> None:
+        """Ends a call: nothing more comes of it."""
+        self.expire(call, U64)
+        self._quiet(call)
+        call.is_open = False
+        if call.done is not None and self.order != OVER:
+            self._outside.discard(call)
+
+    def _ended(self, seat: Seat, call: Call, asked: CCall) -> None:
+        """A call has ended, and its monitor was cancelled, or is left open."""
+        number = asked.monitor.number
+        seat.calls.pop(number, None)
+        if asked.left_open:
+            self.left_open.add(Ref(seat.pid.shard, number))
+        if seat.texts:
+            seat.texts.pop(Ref(seat.pid.shard, number), None)
+        self._quiet(call)
+
+    def _quiet(self, call: Call) -> None:
+        """Takes back what was to come at the deadline of a call."""
+        if call.alarm is not None:
+            self.cancel_alarm(call.alarm)
+            call.alarm = None
 
     def unanswered(self, call: Call) -> None:
         """A request was dropped. Its client is told so after the next step, by which the server may have exited."""
@@ -244,22 +337,7 @@ class Sending:
     def _tell_dropped(self, call: Call) -> None:
         # (if its server has exited, there is the news of that)
         if call.server is not None and self.desks[call.server.shard].alive(call.server):
-            self.answer(call, None, Answer(call, None, Unanswered()))
-
-    def close(self, call: Call) -> None:
-        """Ends a call: nothing more comes of it."""
-        call.is_open = False
-        if call.done is not None and self.order != OVER:
-            self._outside.discard(call)
-        if call.alarm is not None:
-            self._alarms.pop(call.alarm, None)
-            call.alarm = None
-        seat, monitor = call.client, call.monitor
-        if seat is not None and monitor is not None:
-            call.monitor = None
-            seat.calls.pop(monitor, None)
-            if seat.pid in self.pids and self.order != OVER:
-                self.demonitor(seat, monitor)
+            self.tell(call, Answer(call, None, Unanswered()))
 
     # Who holds up the run
 
@@ -269,6 +347,13 @@ class Sending:
         seat, since = self.running, self.since
         seconds = monotonic() - since
         return None if seat is None or seconds < least else Holder(seat.pid, seat.cx.me.name, seconds)
+
+    def _returned(self, seat: Seat) -> None:
+        """A handler has returned, and the next one begins."""
+        self.running, now = None, monotonic()
+        if now - self.since > HOLDS:
+            self.note_holder(seat, now)
+        self.since = now
 
     def note_holder(self, seat: Seat, now: float) -> None:
         """A handler has returned that held up the run."""
@@ -297,31 +382,30 @@ class Sending:
         return self.now() + int(limit * 1e6) + 1
 
     def set_alarm(self, limit: float, task: Task) -> Alarm:
-        alarm = self._number = self._number + 1
-        self._alarms[alarm] = task
-        heapq.heappush(self._times, (self._at(limit), alarm))
-        # (what was taken back stays among the times until these are twice as many)
-        if len(self._times) > 2 * len(self._alarms) + 64:
-            self._times = [it for it in self._times if it[1] in self._alarms]
-            heapq.heapify(self._times)
+        alarm, at = self._number + 1, self._at(limit)
+        self._alarms[alarm] = self._timers._start(at, alarm), task
+        self._number = alarm
+        if self.due is None or at < self.due:
+            self.due = at
         self.touch()
         return alarm
 
     def cancel_alarm(self, alarm: Alarm) -> bool:
-        return self._alarms.pop(alarm, None) is not None
+        timer, _ = self._alarms.pop(alarm, (None, None))
+        return timer is not None and self._timers._cancel(timer)
 
     def _go_off(self) -> bool:
         """Does what was to be done by now."""
         some, now = False, self.now()
-        while self._times and self._times[0][0] <= now:
-            at, alarm = heapq.heappop(self._times)
-            task = self._alarms.pop(alarm, None)
-            if task is not None:
+        while self.due is not None and self.due <= now:
+            fired = self._timers._pop_due(now)
+            if fired is not None:
                 some = True
+                _, task = self._alarms.pop(fired.body)
                 try:
                     task()
-                except Fault:  # no memory, or the clock is at its end: it goes off when the run goes on
-                    self._alarms[alarm] = task
-                    heapq.heappush(self._times, (at, alarm))
+                except Fault:  # no memory, or the clock is at its end: it is done first when the run goes on
+                    self.inbox.appendleft(task)
                     raise
+            self.due = self._timers.next()
         return some

@@ -18,7 +18,7 @@ import ctypes as c
 from typing import Any, NamedTuple, Optional
 
 from . import Desk, Fault, _fault, _Held
-from ._abi import HEARD_CODES, CCall, CHandle, CHeard, CPost, CRequest
+from ._abi import HEARD_CODES, CCall, CHandle, CHeard, CItem, CPid, CPost, CRequest
 from ._library import body_of, c_body, c_item, c_pid, lib, pid_of, reason_of, ref_of
 from .values import I64, U32, U64, Body, Code, Item, Pid, Reason, Ref, number, of_type
 
@@ -108,7 +108,7 @@ class Call:
         """Reads an item that the client got, and returns what it means to this call. If the call ends by it, its monitor is
         cancelled, or `left_open` has it. Fault: EMPTY."""
         words = c_item("item", item)
-        out = of_type("desk", desk, Desk)._give(lib.pt_hear, CHeard(), c.byref(self._call), words)
+        out = _hear(of_type("desk", desk, Desk), self._call, words)
         name = HEARD[out.code]
         return Heard(name, out.answer if name == "answer" else None, reason_of(out.reason) if name == "server-down" else None)
 
@@ -116,7 +116,7 @@ class Call:
         """Reports the time, and returns whether the call ends by its deadline now: it is open, and the deadline is not above
         `now`. Its monitor is cancelled then, as by `hear`. Show the call first what waits in the mailbox. Fault: EMPTY."""
         moment = number("now", now, 0, U64)
-        return of_type("desk", desk, Desk)._give(lib.pt_expire, c.c_bool(), c.byref(self._call), moment).value
+        return _expire(of_type("desk", desk, Desk), self._call, moment)
 
 
 def ask(desk: Desk, me: Pid, server: Pid, asks: int, until: Optional[int] = None) -> Call:
@@ -128,12 +128,24 @@ def ask(desk: Desk, me: Pid, server: Pid, asks: int, until: Optional[int] = None
     words: tuple[Any, ...] = (c_pid("me", me), c_pid("server", server), number("asks", asks, 0, U32))
     if until is not None:
         words += (number("until", until, 0, U64),)
-    call = Call(CCall())
+    return Call(_ask(of_type("desk", desk, Desk), *words))
+
+
+def _ask(desk: Desk, me: CPid, server: CPid, asks: int, *until: int) -> CCall:
+    """The same of what crosses."""
+    call = CCall()
     try:
-        of_type("desk", desk, Desk)._give(lib.pt_ask if until is None else lib.pt_ask_until, call._call, *words)
+        return desk._give(lib.pt_ask_until if until else lib.pt_ask, call, me, server, asks, *until)
     except Fault as fault:
-        raise AskFault(fault.code, fault.call, fault.pids, call.left_open) from None
-    return call
+        raise AskFault(fault.code, fault.call, fault.pids, Call(call).left_open) from None
+
+
+def _hear(desk: Desk, call: CCall, item: CItem) -> CHeard:
+    return desk._give(lib.pt_hear, CHeard(), c.byref(call), item)
+
+
+def _expire(desk: Desk, call: CCall, now: int) -> bool:
+    return desk._give(lib.pt_expire, c.c_bool(), c.byref(call), now).value
 
 
 def request_of(item: Item) -> Optional[Request]:
@@ -164,7 +176,11 @@ def reply(desk: Desk, me: Pid, request: Request, answer: int) -> None:
     sender, asks, place = of_type("request", request, Request)
     crossing = CRequest(c_pid("request.sender", sender), number("request.asks", asks, 0, U32),
                         number("request.number", place, -I64 - 1, I64))
-    of_type("desk", desk, Desk)._must(lib.pt_reply, c_pid("me", me), crossing, number("answer", answer, 0, U32))
+    _reply(of_type("desk", desk, Desk), c_pid("me", me), crossing, number("answer", answer, 0, U32))
+
+
+def _reply(desk: Desk, me: CPid, request: CRequest, answer: int) -> None:
+    desk._must(lib.pt_reply, me, request, answer)
 
 
 def letters_out(desk: Desk) -> int:

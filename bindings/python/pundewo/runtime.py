@@ -26,9 +26,10 @@ A message is any object. It is kept beside the table, under the number that the 
 once. If nobody will ever take it, since its receiver has exited, the run drops it. A handler that raises an exception has
 crashed its process, and no other.
 
-Proved is what is below: the table, the crew that says which process is told what (`pundewo.Crew`), and what a desk tells of
-its losses. Not proved, since nothing checks Python, but tested: this module, with the values beside the table, timers, calls
-and supervisors.
+Proved is what is below: the table; the crew that says which process is told what, and has the supervisors (`pundewo.Crew`);
+timers; that a call ends once; how a node goes on; and what a desk tells of its losses. Not proved, since nothing checks Python,
+but tested: this module, with the values beside the table, names, what comes from outside, what makes a child, and children on
+another desk than their supervisor's.
 """
 
 from __future__ import annotations
@@ -238,7 +239,7 @@ class Runtime:
 
         def signal() -> None:
             if engine.order != OVER:
-                engine.desks[pid.shard].exit_signal(engine.porters[pid.shard].pid, pid, reason)
+                engine.exit_signal(engine.porters[pid.shard].pid, pid, reason)
                 engine.touch()
 
         engine.post(signal)

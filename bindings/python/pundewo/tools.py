@@ -65,25 +65,45 @@ class Timers(_Held):
     def __init__(self) -> None:
         """Timers, of which none is pending. Fault: MEMORY."""
         super().__init__()
+        self._next = c.c_uint64()
+        self._next_at = c.byref(self._next)
         self._must(lib.pt_timers_open)
 
     def start(self, at: int, body: int) -> Timer:
         """Starts a timer that is due at this time, which may have passed already, with this number. Fault: MEMORY; WORN
         after 2**64 - 1 timers."""
-        out = self._give(lib.pt_timers_start, CTimer(), number("at", at, 0, U64), number("body", body, 0, U64))
+        out = self._start(number("at", at, 0, U64), number("body", body, 0, U64))
         return Timer(out.at, out.number)
+
+    def _start(self, at: int, body: int) -> CTimer:
+        out = CTimer()
+        if not self._lock.acquire(False):
+            raise self._busy()
+        try:
+            code = lib.pt_timers_start(self._at, at, body, c.byref(out))
+        finally:
+            self._lock.release()
+        if code:
+            raise _fault(lib.pt_timers_start, (), code)
+        return out
 
     def cancel(self, timer: Timer) -> bool:
         """Cancels a timer, and returns whether it was pending. It never fires then."""
-        code = self._call(lib.pt_timers_cancel, _c_timer("timer", timer))
-        if code not in (Code.OK, Code.NOTHING):
+        return self._cancel(_c_timer("timer", timer))
+
+    def _cancel(self, timer: CTimer) -> bool:
+        code = self._call(lib.pt_timers_cancel, timer)
+        if code and code != Code.NOTHING:
             raise _fault(lib.pt_timers_cancel, (), code)
-        return code == Code.OK
+        return not code
 
     def pop_due(self, now: int) -> Optional[Fired]:
         """Fires one timer that is due by `now`: the one with the earliest time, and the one started first among those.
         None if none is due."""
-        return _fired_of(self._find(lib.pt_timers_pop_due, CFired(), number("now", now, 0, U64)))
+        return _fired_of(self._pop_due(number("now", now, 0, U64)))
+
+    def _pop_due(self, now: int) -> Optional[CFired]:
+        return self._find(lib.pt_timers_pop_due, CFired(), now)
 
     def peek_due(self, now: int) -> Optional[Fired]:
         """The timer that `pop_due` would fire. It stays pending."""
@@ -91,8 +111,12 @@ class Timers(_Held):
 
     def next(self) -> Optional[int]:
         """The earliest time of a pending timer, or None if none is pending."""
-        out = self._find(lib.pt_timers_next, c.c_uint64())
-        return None if out is None else out.value
+        code = self._call(lib.pt_timers_next, self._next_at)
+        if not code:
+            return self._next.value
+        if code == Code.NOTHING:
+            return None
+        raise _fault(lib.pt_timers_next, (), code)
 
     def get(self, timer: Timer) -> Optional[int]:
         """The number that a pending timer was started with, or None if the timer is not pending."""

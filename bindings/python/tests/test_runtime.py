@@ -13,7 +13,7 @@ from typing import Any, Callable
 from unittest import mock
 
 import pundewo as p
-from pundewo import runtime as r
+from pundewo import _engine, runtime as r
 
 from behaviours import Counted, Doing, Echo, Stubborn, audit, in_asyncio, noted, quiet, run_and_stop, until
 
@@ -255,7 +255,7 @@ class Handlers(unittest.TestCase):
             got.append(event.value)
             return r.Next.stop() if event.value == 3 else None
 
-        for place in ("turn", "begin_again", "_send", "_step"):
+        for place in ("turn", "go_on", "_send", "_step"):
             with self.subTest(place):
                 got.clear()
                 run = r.Runtime(going_on_every=4)
@@ -263,7 +263,7 @@ class Handlers(unittest.TestCase):
                 for number in range(4):
                     address.send(number)
                 left = [2]
-                kind = p.Crew if place in ("begin_again", "_step") else p.Desk
+                kind: Any = {"go_on": _engine, "_step": p.Crew}.get(place, p.Desk)
                 real = getattr(kind, place)
 
                 def failing(*words: Any) -> Any:
@@ -317,7 +317,7 @@ class Times(unittest.TestCase):
         def start(cx: r.Context) -> Any:
             for _ in range(5000):
                 self.assertTrue(cx.cancel(cx.send_after(1000, cx.me, 0)))
-            self.assertLess(len(cx._engine._times), 200)
+            self.assertLess(len(cx._engine._timers), 200)
             return r.Next.stop()
 
         run.spawn(Doing(started=start))

@@ -211,7 +211,7 @@ class Case:
         """All that there is."""
         engine = self.run._engine
         desks = [(desk.clock(), desk.event_count(), desk.pending(), desk.vacant()) for desk in engine.desks]
-        return [desks, list(engine.seats), list(engine.pids), list(engine.payloads), list(engine._alarms), list(engine._times),
+        return [desks, list(engine.seats), list(engine.pids), list(engine.payloads), list(engine._alarms), [len(engine._timers)],
                 len(engine.inbox), engine._number, engine.order, self.run.summary(), self.run._next_desk, len(self.mailbox._waiting),
                 dict(engine.names), engine.drains, self.request._call is None, os.path.getsize(self.file.path)]
 

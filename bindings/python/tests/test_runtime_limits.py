@@ -9,11 +9,12 @@ import random
 import threading
 import time
 import unittest
+from types import SimpleNamespace
 from typing import Any, Callable
 from unittest import mock
 
 import pundewo as p
-from pundewo import runtime as r
+from pundewo import asking, runtime as r, tools
 
 from behaviours import Doing, Echo, in_asyncio, log, noted, quiet, run_and_stop, until, wait_until
 
@@ -303,11 +304,13 @@ class OneThread(unittest.TestCase):
 
 class Refused(unittest.TestCase):
     def test_of_a_call_that_is_refused_nothing_is_kept(self) -> None:
-        """The desk has no memory for the request, behind the monitor of the call."""
+        """The desk has no memory for the request, or for the timer of the call."""
         def start(cx: r.Context) -> r.Next:
-            fault = p.Fault(p.Code.MEMORY, "send")
-            with mock.patch.object(cx._engine.desks[0], "_send", side_effect=fault), self.assertRaises(p.Fault):
-                cx.call(server, 1, 0.01)
+            full = SimpleNamespace(pt_ask_until=lambda *_: p.Code.MEMORY, pt_timers_start=lambda *_: p.Code.MEMORY)
+            for module in (asking, tools):
+                with mock.patch.object(module, "lib", full), self.assertRaises(p.Fault):
+                    cx.call(server, 1, 0.01)
+                self.assertEqual((len(cx._engine.payloads), len(cx._seat.calls)), (0, 0))
             return r.Next.wait(0.1)
 
         run, told = r.Runtime(), list[Any]()

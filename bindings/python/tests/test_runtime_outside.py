@@ -98,6 +98,47 @@ class Calls(unittest.TestCase):
         run_and_stop(run, lambda: not client.is_alive())
         self.assertEqual(got, [True, "before", "answer"])
 
+    def test_a_request_is_answered_by_another_process(self) -> None:
+        for desk in (0, 1, 2):
+            got: list[Any] = []
+            run = r.Runtime(3)
+
+            def helps(cx: r.Context, event: Any) -> None:
+                cx.send(client, "before")
+                got.append(cx.reply(event.value, "answer"))
+
+            def asks(cx: r.Context, event: Any) -> Any:
+                got.append(event.value)
+                return r.Next.stop() if isinstance(event, r.Answer) else None
+
+            helper = run.spawn(Doing(helps), desk)
+            server = run.spawn(Doing(lambda cx, event: cx.send(helper, event) and None), 1)
+            client = run.spawn(Doing(asks, lambda cx: cx.call(server, 1) and None), 0)
+            run_and_stop(run, lambda: not client.is_alive())
+            self.assertEqual(got, [True, "before", "answer"])
+            engine = run._engine
+            self.assertEqual((len(engine.payloads), len(engine._alarms)), (0, 0))
+
+    @quiet
+    def test_a_down_that_a_call_left_behind_is_not_told(self) -> None:
+        told: list[Any] = []
+        run = r.Runtime()
+
+        def handle(cx: r.Context, event: Any) -> Any:
+            told.append(event)
+            if isinstance(event, r.Answer):
+                # (as if its monitor had not been cancelled for want of memory)
+                monitor = cx.monitor(echo)
+                cx._engine.left_open.add(monitor)
+                cx.exit(echo, p.KILL)
+                return r.Next.wait(0.05)
+            return r.Next.stop()
+
+        echo = run.spawn(Echo())
+        client = run.spawn(Doing(handle, lambda cx: cx.call(echo, 1) and None))
+        run_and_stop(run, lambda: not client.is_alive())
+        self.assertEqual([type(it) for it in told], [r.Answer, r.Tick])
+
     def test_other_threads_spawn_send_call_and_stop(self) -> None:
         run = r.Runtime(2)
         thread = threading.Thread(target=run.run, args=(True,))

@@ -14,8 +14,9 @@ from typing import Any, Awaitable, Callable, Optional
 
 import pundewo as p
 from pundewo import runtime as r
+from pundewo._family import StandIn
 
-from behaviours import Doing, audit, is_watched, until
+from behaviours import Doing, audit, is_watched, run_and_stop, until
 
 CRASHED = f"{r.CRASH}"
 
@@ -428,6 +429,213 @@ class Asks(Case):
             self.assertIn("-a shutdown", self.notes)
 
 
+    @supervised
+    async def test_what_does_not_start_when_it_is_asked_is_not_tried_again(self) -> None:
+        address = await self.started(self.three(r.Supervisor.one_for_one()))
+        times = [True, False]
+
+        def make() -> Worker:
+            if times.pop(0):
+                return Worker("d", self.notes)
+            raise OSError("it cannot be made")
+
+        self.assertIsNone(await address.call(r.StartChild(lambda: 1 / 0, "d")))  # type: ignore[arg-type, return-value]
+        self.assertEqual((await address.call(r.StartChild(make, "d"))).name, "d")
+        self.assertTrue(await address.call(r.TerminateChild("d")))
+        self.assertFalse(await address.call(r.RestartChild("d")))
+        self.assertEqual((times, (await self.names(address))[-1]), ([], ("d", False)))
+        async with r.Runtime(slots=2) as run:
+            full = run.spawn(r.Supervisor.one_for_one().permanent(self.worker("a"), "a"))
+            self.assertIsNone(await full.call(r.StartChild(self.worker("b"), "b")))
+            self.assertEqual(await self.names(full), [("a", True)])
+            self.assertTrue(await full.call(r.TerminateChild("a")))
+            other = run.spawn(Worker("other", self.notes))
+            self.assertFalse(await full.call(r.RestartChild("a")))
+            self.assertEqual(await self.names(full), [("a", False)])
+            run.exit(other)
+            await until(lambda: not other.is_alive())
+            self.assertTrue(await full.call(r.RestartChild("a")))
+
+    @supervised
+    async def test_a_behaviour_asks_and_hears_of_its_exit(self) -> None:
+        answers: list[Any] = []
+        address = await self.started(self.three(r.Supervisor.one_for_one(), traps=True))
+
+        def start(cx: r.Context) -> None:
+            for asked in (r.WHICH_CHILDREN, "what it does not know", r.TerminateChild("b"), r.WHICH_CHILDREN):
+                cx.call(address, asked, 30)
+            self.assertTrue(cx.send(address, "a message"))
+
+        def handle(cx: r.Context, event: r.Event) -> None:
+            assert isinstance(event, r.Answer)
+            answers.append(event.fault or event.value)
+            if len(answers) == 4:
+                cx.call(address, "after its exit", 30)
+
+        self.runtime.spawn(Doing(handle, start), 1)
+        # (the child does not exit until the supervisor is killed)
+        await until(lambda: len(answers) == 2 and "b shutdown" in self.notes)
+        self.assertEqual([it.name for it in answers[0]], ["a", "b", "c"])
+        asked = asyncio.ensure_future(address.call(r.WHICH_CHILDREN))
+        await asyncio.sleep(0.01)
+        self.runtime.exit(address, p.KILL)
+        await until(lambda: len(answers) == 5)
+        self.assertEqual([type(it) for it in answers[1:]], [r.Unanswered, r.ServerDown, r.ServerDown, r.ServerDown])
+        self.assertEqual([it.reason for it in answers[2:]], [p.KILLED, p.KILLED, p.NOPROC])
+        with self.assertRaises(r.ServerDown):
+            await asked
+        self.assertFalse(address.send("too late"))
+        for pid in list(self.runtime._engine.pids):
+            self.tells(self.runtime._engine.pids[pid].cx.me, p.KILL) if pid.slot else None
+
+    @supervised
+    async def test_exit_signals_of_others_end_it_as_its_parent_says(self) -> None:
+        for linked in (True, False):
+            begun: list[r.Address] = []
+
+            def start(cx: r.Context, linked: bool = linked) -> None:
+                begun.append(cx.spawn(self.three(r.Supervisor.one_for_one()), linked))
+
+            parent = self.runtime.spawn(Doing(lambda cx, event: cx.exit(begun[0], event.value), start))
+            await until(lambda: len(self.notes) == 3)
+            self.notes.clear()
+            self.tells(begun[0], p.SHUTDOWN)
+            self.runtime.exit(begun[0], p.Reason("other", 1))
+            await asyncio.sleep(0.02)
+            self.assertTrue(begun[0].is_alive())
+            await self.ends(begun[0], p.Reason("other", 2), lambda: parent.send(p.Reason("other", 2)))
+            await self.noted("-c shutdown", "-b shutdown", "-a shutdown")
+            self.runtime.exit(parent)
+        alone = await self.started(self.three(r.Supervisor.one_for_one()))
+        await self.ends(alone, p.SHUTDOWN, lambda: self.runtime.exit(alone))
+        await self.noted("-c shutdown", "-b shutdown", "-a shutdown")
+
+    @supervised
+    async def test_a_run_stops_a_supervisor_whose_parent_has_exited_or_stays(self) -> None:
+        for linked, stays in ((False, False), (False, True), (True, True)):
+            async with r.Runtime(patience=30) as run:
+                def start(cx: r.Context, linked: bool = linked, stays: bool = stays) -> Optional[r.Next]:
+                    cx.trap()
+                    supervisor.append(cx.spawn(self.three(r.Supervisor.one_for_one()), linked))
+                    return None if stays else r.Next.stop()
+
+                supervisor: list[r.Address] = []
+                run.spawn(Doing(lambda cx, event: r.Next.wait() if supervisor[0].is_alive() else r.Next.stop(), start))
+                await until(lambda: len(self.notes) == 3)
+                self.notes.clear()
+                run.stop()
+                await until(lambda: not supervisor[0].is_alive())
+                for seat in list(run._engine.pids.values()):
+                    run.exit(seat.cx.me, p.KILL) if seat.pid.slot else None
+            await self.noted("-c shutdown", "-b shutdown", "-a shutdown")
+
+
+class Elsewhere(Case):
+    """Children on another desk than their supervisor's."""
+
+    @supervised
+    async def test_they_are_started_again_and_end_in_turn(self) -> None:
+        supervisor = r.Supervisor.rest_for_one().permanent(self.worker("a"), "a", desk=1)
+        supervisor.transient(self.worker("b"), "b", desk=1)
+        address = await self.started_on(supervisor.permanent(self.worker("c"), "c"), 3)
+        await self.crash(address, "a")
+        # (on another desk a child begins later)
+        await self.noted(f"-a {CRASHED}", "-c shutdown", "-b shutdown", "+c", "+a", "+b")
+        await self.crash(address, "b", p.NORMAL)
+        await self.noted("-b normal")
+        self.assertEqual(await self.names(address), [("a", True), ("b", False), ("c", True)])
+        self.assertTrue(await address.call(r.RestartChild("b")))
+        await self.noted("+b")
+        self.assertTrue(await address.call(r.TerminateChild("a")))
+        await self.noted("-a shutdown")
+        await self.ends(address, p.SHUTDOWN, lambda: self.tells(address, p.SHUTDOWN))
+        await self.noted("-c shutdown", "-b shutdown")
+
+    @supervised
+    async def test_they_have_their_time_and_are_killed(self) -> None:
+        supervisor = r.Supervisor.one_for_one(patience=0.02).permanent(self.worker("a", traps=True), "a", desk=1)
+        supervisor.permanent(self.worker("b", traps=True), "b", desk=1, shutdown=r.BRUTAL_KILL)
+        supervisor.permanent(self.worker("c", traps=True), "c", desk=1, shutdown=r.INFINITY)
+        address = await self.started_on(supervisor, 3)
+        last = await self.child(address, "c")
+
+        def work() -> None:
+            self.tells(address, p.SHUTDOWN)
+            asyncio.get_running_loop().call_later(0.1, last.send, p.NORMAL)
+
+        await self.ends(address, p.SHUTDOWN, work)
+        await self.noted("c shutdown", "-c normal", "-b killed", "a shutdown", "-a killed")
+
+    @supervised
+    async def test_a_killed_supervisor_takes_them_along(self) -> None:
+        supervisor = r.Supervisor.one_for_one().permanent(self.worker("a"), "a", desk=1)
+        address = await self.started_on(supervisor.permanent(self.worker("b"), "b", desk=1), 2)
+        self.tells(address, p.KILL)
+        await until(lambda: len(self.notes) == 2)
+        self.assertEqual(set(self.notes), {"-a killed", "-b killed"})
+        await until(lambda: len(self.runtime._engine.pids) == 2)
+
+    @supervised
+    async def test_a_desk_without_a_place_is_no_start(self) -> None:
+        async with r.Runtime(2, slots=3) as run:
+            self.runtime, others = run, [run.spawn(Worker("other", self.notes), 1) for _ in range(3)]
+            supervisor = r.Supervisor.one_for_one().permanent(self.worker("a"), "a").permanent(self.worker("b"), "b", desk=1)
+            address = run.spawn(supervisor, 0)
+            await until(lambda: not address.is_alive())
+            self.assertEqual([it for it in self.notes if it.startswith("-")], ["-a shutdown"])
+            self.notes.clear()
+            run.exit(others[0])
+            await until(lambda: not others[0].is_alive())
+            self.notes.clear()
+            await self.started_on(supervisor, 2)
+        self.assertEqual(run.summary().spawned, 8)
+
+    async def started_on(self, supervisor: r.Supervisor, count: int) -> r.Address:
+        """The address of the supervisor on the first desk, once so many children have begun."""
+        address = self.runtime.spawn(supervisor, 0)
+        await until(lambda: sum(it.startswith("+") for it in self.notes) == count)
+        self.notes.clear()
+        return address
+
+
+class Halts(Case):
+    def test_a_make_that_is_interrupted_halts_the_run_and_it_goes_on(self) -> None:
+        self.notes, raises = [], [False, True, False, True]
+
+        def make() -> Worker:
+            if raises.pop(0):
+                raise KeyboardInterrupt
+            return Worker("a", self.notes)
+
+        run = r.Runtime()
+        address = run.spawn(r.Supervisor.one_for_one().permanent(make, "a"))
+
+        def start(cx: r.Context, event: r.Event) -> Optional[r.Next]:
+            found = run._engine.pids[address.pid].family
+            assert found is not None
+            child = found.kids["a"].address
+            if isinstance(event, r.Answer):
+                return r.Next.stop()
+            if len(raises) == 3 and child is not None:
+                cx.send(child, "crash")
+            if len(raises) == 1 and child is not None and child.is_alive():
+                cx.call(address, r.StartChild(make, "b"), 30)
+                return r.Next.wait()
+            return r.Next.wait(0.005)
+
+        asks = run.spawn(Doing(start, lambda cx: r.Next.wait(0.005)))
+        logging.getLogger("pundewo").disabled = True
+        try:
+            for _ in range(2):
+                with self.assertRaises(KeyboardInterrupt):
+                    run.run()
+            raises.append(False)
+            run_and_stop(run, lambda: not asks.is_alive())
+        finally:
+            logging.getLogger("pundewo").disabled = False
+        self.assertEqual((raises, self.notes.count("+a")), ([], 3))
+
+
 class Crashes(Case):
     """Thousands of crashes in a tree, by chance: all that is to live lives, and nothing is kept of what has gone."""
 
@@ -489,7 +697,9 @@ class Crashes(Case):
                     if run.waiting() == 0 and len(children) == 24 and all(it.is_alive() for it in children):
                         break
                 self.assertEqual(sorted(set(alive.values())), [1])
-                self.assertEqual(len(run._engine.pids), 24 + 4 + 1 + desks)
+                seats = run._engine.pids.values()
+                self.assertEqual(sum(not isinstance(it.behaviour, StandIn) for it in seats), 24 + 4 + 1 + desks)
+                self.assertEqual(len(run._engine.kids), 24 + 4)
                 self.assertEqual((len(run._engine.payloads), len(run._engine._alarms)), (0, 0))
             return run.summary()
 
