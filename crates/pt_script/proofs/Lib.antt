@@ -21,3 +21,4 @@ pub mod SeesSteps
 pub mod SeesLists
 pub mod SeesScripts
 pub mod CalledFacts
+pub mod FindingFacts

@@ -14,3 +14,5 @@ pub mod Writing
 pub mod Sights
 pub mod WritingScripts
 pub mod Laws
+pub mod Explaining
+pub mod WhyTexts

@@ -5,7 +5,17 @@
 //! text, and operations name processes by these numbers. [`process_names`] returns the names, for programs that show
 //! them. [`laws`] says what holds for every script. The format is that of `docs/SCRIPTS.md`.
 //!
-//! Tests: `checks/tried/pt_scripts/scripts.rt.txt`, `checks/tried/pt_scripts/faults.rt.txt` and
+//! If a text is no script, [`explain`] reads the bytes again and says in one line, without a line feed, what is at the place
+//! of the fault. It names the process and the operation, the member that is wrong, and what is wrong with it.
+//!
+//! ```
+//! let Err(ScriptError::Refused { fault, place }) = Script::from_bytes(alloc, bytes) else { .. };
+//! let line = explain(alloc, bytes, fault, place)?;   // process b, operation send: member to names nothing in scope
+//! ```
+//!
+//! The line repeats only names of at most 32 letters, digits and `_` of a script, so it is one line for any script.
+//!
+//! Tests: `checks/tried/pt_scripts/scripts.rt.txt`, `checks/tried/pt_scripts/faults.rt.txt`, `checks/examples` and
 //! `crates/test_calls/src/layers/scripts.rt`.
 //!
 //! # What is proved
@@ -15,11 +25,14 @@
 //! - **Well formed.** An accepted script names only processes and tags of its own, and keeps the limits. (`laws`)
 //! - **Reading back.** Each well-formed script is read back from what is written of it.
 //! - **Names.** `process_names` returns the names of the processes of a text, by their places in it.
+//! - **Explanations.** The line of `explain` has the text of a place, of a member if one is wrong, and of what is wrong.
+//!   The place is the one that was passed, and the names of its process and operation are theirs in the text. (`IsSaidOf`)
 #![tactic(auto)]
 
 mod called;
 mod crowd;
 mod draft;
+mod explanation;
 mod fault;
 mod heads;
 pub mod laws;
@@ -33,6 +46,7 @@ mod script;
 mod values;
 
 pub use called::process_names;
+pub use explanation::explain;
 pub use fault::{Fault, Place, ScriptError};
 pub use script::{Process, Script};
 pub use values::{Operation, Pattern, Settings, Top};

@@ -1,0 +1,10 @@
+//! Why a text is no script, in words. The texts are those of `docs/SCRIPTS.md`.
+
+mod explaining;
+mod finding;
+mod looking;
+mod scope;
+mod tables;
+mod why;
+
+pub use explaining::explain;

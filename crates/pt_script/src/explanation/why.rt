@@ -1,0 +1,200 @@
+//! What is wrong with a script, and its text.
+
+use crate::limits::{MAX_BYTES, MAX_DEPTH, MAX_FORMAT, MAX_OPERATIONS, MAX_PROCESSES};
+use std::fmt;
+
+/// The name of something in a script, or its number if it has no name.
+#[derive(Clone, Copy)]
+pub(crate) enum Label<'a> {
+    Name(&'a str),
+    Index(usize),
+}
+
+impl fmt::Display for Label<'_> {
+    ghost use Rattle.std.specs.Prelude.{Some};
+    ghost use Rattle.pt_script.specs.WhyTexts.{member_text};
+
+    ghost output = { λ l. Some (member_text l) };
+
+    #[tactic(auto, unfolding(crate::specs::WhyTexts::member_text))]
+    fn fmt<W: fmt::Write>(&self, f: &mut fmt::Formatter<W>) -> fmt::Result {
+        match self {
+            Label::Name(name) => write!(f, "{name}"),
+            Label::Index(index) => write!(f, "{index}"),
+        }
+    }
+}
+
+/// The place in a script at which something is wrong.
+#[derive(Clone, Copy)]
+pub(crate) enum Scene<'a> {
+    /// In the script as a whole.
+    Script,
+    /// At this place of its text; lines begin at 1, and columns are counted in bytes.
+    Text {
+        line: usize,
+        column: usize,
+    },
+    Process(Label<'a>),
+    Operation {
+        process: Label<'a>,
+        operation: Label<'a>,
+    },
+}
+
+impl fmt::Display for Scene<'_> {
+    ghost use Rattle.std.specs.Prelude.{Some};
+    ghost use Rattle.pt_script.specs.WhyTexts.{where_text};
+
+    ghost output = { λ s. Some (where_text s) };
+
+    #[tactic(auto, unfolding(crate::specs::WhyTexts::where_text))]
+    fn fmt<W: fmt::Write>(&self, f: &mut fmt::Formatter<W>) -> fmt::Result {
+        match self {
+            Scene::Script => f.write_str("script"),
+            Scene::Text { line, column } => write!(f, "script, line {line}, column {column}"),
+            Scene::Process(process) => write!(f, "process {process}"),
+            Scene::Operation { process, operation } => {
+                write!(f, "process {process}, operation {operation}")
+            }
+        }
+    }
+}
+
+// What there is where a word is wrong.
+const OPERATIONS: &str =
+    "send, receive, check, link, unlink, monitor, demonitor, trap, exit, signal, spawn, pass and, in format 2, alive";
+
+const PICKS: &str = "kind, from, exit, down and, in format 2, alive";
+
+const REASONS: &str = "normal, kill, killed, noproc, shutdown and other:N";
+
+/// Of what there is more than scripts may have.
+#[derive(Clone, Copy)]
+pub(crate) enum Limit {
+    Bytes,
+    Signed,
+    Reasons,
+    Slots,
+    Processes,
+    Operations,
+    Depth,
+}
+
+/// What is wrong with it.
+#[derive(Clone, Copy)]
+pub(crate) enum Wrong {
+    NoUtf8,
+    NoJson,
+    EndsEarly,
+    NoObject,
+    Unknown,
+    /// It has an unknown member, and its name must not be repeated.
+    HasUnknown,
+    Missing,
+    NoWhole,
+    NoFlag,
+    NoText,
+    NoList,
+    NoName,
+    NoReason,
+    NoPick,
+    NoOperation,
+    /// A later format has it.
+    Later,
+    OutOfRange { least: u64, most: u64 },
+    Over(Limit),
+    OutOfScope,
+    Taken,
+    /// It is refused, and nothing more can be said of it.
+    Refused,
+}
+
+impl fmt::Display for Limit {
+    ghost use Rattle.std.specs.Prelude.{Some};
+    ghost use Rattle.pt_script.specs.WhyTexts.{limit_text};
+
+    ghost output = { λ l. Some (limit_text l) };
+
+    #[tactic(auto, unfolding(crate::specs::WhyTexts::limit_text))]
+    fn fmt<W: fmt::Write>(&self, f: &mut fmt::Formatter<W>) -> fmt::Result {
+        match self {
+            Limit::Bytes => write!(f, "has more than {MAX_BYTES} bytes"),
+            Limit::Signed => f.write_str("is above 9223372036854775807"),
+            Limit::Reasons => f.write_str("has a number above 4294967295"),
+            Limit::Slots => f.write_str("is one process more than its desk has slots"),
+            Limit::Processes => write!(f, "is one process more than {MAX_PROCESSES}"),
+            Limit::Operations => write!(f, "is one operation more than {MAX_OPERATIONS}"),
+            Limit::Depth => write!(f, "is inside {MAX_DEPTH} other spawns"),
+        }
+    }
+}
+
+impl fmt::Display for Wrong {
+    ghost use Rattle.std.specs.Prelude.{Some};
+    ghost use Rattle.pt_script.specs.WhyTexts.{wrong_text};
+
+    ghost output = { λ w. Some (wrong_text w) };
+
+    #[tactic(auto, unfolding(crate::specs::WhyTexts::wrong_text))]
+    fn fmt<W: fmt::Write>(&self, f: &mut fmt::Formatter<W>) -> fmt::Result {
+        match self {
+            Wrong::NoUtf8 => f.write_str("is no UTF-8"),
+            Wrong::NoJson => f.write_str("is no JSON"),
+            Wrong::EndsEarly => f.write_str("ends too early"),
+            Wrong::NoObject => f.write_str("is no object"),
+            Wrong::Unknown => f.write_str("is unknown"),
+            Wrong::HasUnknown => f.write_str("has a member that is unknown"),
+            Wrong::Missing => f.write_str("is missing"),
+            Wrong::NoWhole => f.write_str("is no whole number of 64 bits"),
+            Wrong::NoFlag => f.write_str("is neither true nor false"),
+            Wrong::NoText => f.write_str("is no text"),
+            Wrong::NoList => f.write_str("is no list"),
+            Wrong::NoName => f.write_str("has not the form of a name"),
+            Wrong::NoReason => write!(f, "is no reason: there are {REASONS}"),
+            Wrong::NoPick => write!(
+                f,
+                "is no object with one of the members of a pick: there are {PICKS}"
+            ),
+            Wrong::NoOperation => write!(f, "is no operation: there are {OPERATIONS}"),
+            Wrong::Later => write!(f, "wants format {MAX_FORMAT}"),
+            Wrong::OutOfRange { least, most } => write!(f, "is not from {least} to {most}"),
+            Wrong::Over(limit) => write!(f, "{limit}"),
+            Wrong::OutOfScope => f.write_str("names nothing in scope"),
+            Wrong::Taken => f.write_str("is taken already"),
+            Wrong::Refused => f.write_str("is not as scripts are"),
+        }
+    }
+}
+
+/// Why a text is no script: the place, the member, the word that it is if it has the form of a name, and what is wrong
+/// with it. Without a member, it says what is wrong with the whole value.
+#[derive(Clone, Copy)]
+pub(crate) struct Why<'a> {
+    pub(crate) scene: Scene<'a>,
+    pub(crate) member: Option<&'a str>,
+    pub(crate) word: Option<&'a str>,
+    pub(crate) wrong: Wrong,
+}
+
+impl fmt::Display for Why<'_> {
+    ghost use Rattle.std.specs.Prelude.{Some};
+    ghost use Rattle.pt_script.specs.WhyTexts.{why_text};
+
+    ghost output = { λ w. Some (why_text w) };
+
+    #[tactic(auto, unfolding(crate::specs::WhyTexts::why_text))]
+    fn fmt<W: fmt::Write>(&self, f: &mut fmt::Formatter<W>) -> fmt::Result {
+        let Why {
+            scene,
+            member,
+            word,
+            wrong,
+        } = self;
+        match (member, word) {
+            (Some(member), Some(word)) => write!(f, "{scene}: member {member} ({word}) {wrong}"),
+            (Some(member), None) => write!(f, "{scene}: member {member} {wrong}"),
+            (None, _) => write!(f, "{scene}: it {wrong}"),
+        }
+    }
+}
