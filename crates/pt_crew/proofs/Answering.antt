@@ -83,6 +83,10 @@ module _ {B : Type 0} (old : Crew B) (p : Pid) (i : ℕ) (k : Pid) (v : Member B
   pub is_member : members old p ≡ Some v
   is_member = held_at old.members p i k v index value unique
 
+  -- what is there, and what is there once another member was put in its place
+  pub set_at : (w : Member B) → (members old p ≡ Some v) × ((q : Pid) → members (put_at old i w h) q ≡ cond (same_pid p q) (Some w) (members old q))
+  set_at w = (is_member, (written_at old.members p i k v index value unique w).0)
+
   pub is_role : roles old p ≡ Some (v.behaviour, v.next)
   is_role = ap (option_map role) is_member
 

@@ -4,6 +4,7 @@ use Rattle.std.specs.Prelude.{IfSome}
 use Rattle.std.proofs.lemmas.Bool.{eqb-true, eq-eqb, ne_eqb, both_ways, cases_lt}
 use Rattle.std.proofs.lemmas.List.{get_or_past, get_or-set_same, get_or-set_other, length-set, take-append-drop}
 use Rattle.std.proofs.lemmas.List.Elements.{filter-append}
+use Rattle.pt_signal.specs.declared.config.Config.{Config}
 use Rattle.pt_signal.specs.declared.letter.Letter.{Letter}
 use Rattle.pt_signal.specs.Process.{sent}
 use Rattle.pt_events.specs.declared.event.Event.{Event}
@@ -17,6 +18,22 @@ use Rattle.pt_shard.specs.Fit.{IsFit}
 use Rattle.pt_desk.specs.DeskState.{IsAccounted}
 use Rattle.pt_events.proofs.Agreeing.{Agrees-got, Agrees-posted}
 use Rattle.pt_desk.proofs.Letters.{put_at}
+
+-- the accounts of a desk with the same ends, of which the number and the settings stay
+pub accounted_by : (s s' : ShardState) (o : OutEnds) (i : InEnds) → IsAccounted s o i → s'.number ≡ s.number → s'.config ≡ s.config → ((e : ℕ) → e < s.config.desks → posts s'.start s'.journal e ≡ get_or o.posted e [] ++ box s' e)
+    → ((d : ℕ) → d < s.config.desks → Agrees (get_or i.collected d []) (gots s'.journal d) (held_from d s'.hold)) → IsAccounted s' o i
+accounted_by s s' o i acc number config posted collected =
+    let desks : s'.config.desks ≡ s.config.desks = ap (λ (c : Config). c.desks) config in
+    record {
+      out_number = acc.out_number ∙ sym number;
+      in_number = acc.in_number ∙ sym number;
+      out_desks = acc.out_desks ∙ sym desks;
+      in_desks = acc.in_desks ∙ sym desks;
+      posted_desks = acc.posted_desks ∙ sym desks;
+      collected_desks = acc.collected_desks ∙ sym desks;
+      posted = λ e l. posted e (omega (arith, l, desks));
+      collected = λ d l. collected d (omega (arith, l, desks));
+    }
 
 -- what an event sends waits in the outbox
 module _ (s : ShardState) (o : OutEnds) (i : InEnds) (boxes : length s.outbox ≡ s.config.desks) (acc : IsAccounted s o i) where
@@ -40,16 +57,8 @@ module _ (s : ShardState) (o : OutEnds) (i : InEnds) (boxes : length s.outbox �
         go false q a = rw (q, append-nil (gots s.journal d)) (rw q at a)
 
     pub accounted_handled : IsAccounted (holding None (handled l s)) o i
-    accounted_handled = record {
-      out_number = acc.out_number;
-      in_number = acc.in_number;
-      out_desks = acc.out_desks;
-      in_desks = acc.in_desks;
-      posted_desks = acc.posted_desks;
-      collected_desks = acc.collected_desks;
-      posted = posts_written (max s.clock l.stamp + 1) (came_event l);
-      collected = collected_handled;
-    }
+    accounted_handled =
+        accounted_by s (holding None (handled l s)) o i acc refl refl (posts_written (max s.clock l.stamp + 1) (came_event l)) collected_handled
 
 -- a letter is collected into the hold
 module _ (s : ShardState) (o : OutEnds) (i : InEnds) (acc : IsAccounted s o i) where

@@ -23,7 +23,7 @@ use Rattle.pt_shard.specs.Fit.{IsFit, IsNextBirth}
 use Rattle.pt_shard.specs.Calls.{Calls, Monitors, Bears, BearsChild, link_event, unlink_event, take_event, demonitor_at, held_by, first_match, new_link}
 use Rattle.pt_desk.specs.Sight.{Sight, IsSeen, IsSeated, HasWordsAt, seat_of}
 use Rattle.pt_desk.specs.DeskState.{IsAccounted}
-use Rattle.pt_desk.proofs.Accounts.{posts_written}
+use Rattle.pt_desk.proofs.Accounts.{accounted_by, posts_written}
 use Rattle.pt_desk.proofs.Seating.{IsWhole, next_shard, seated_written, seat_written}
 
 -- it is no receipt, ends nobody, and is no refused call
@@ -52,16 +52,8 @@ IsStep old new = (new ≡ old) ⊎ ((event : Event) × Writes event old new)
 
 pub written_accounted : (s : ShardState) (o : OutEnds) (i : InEnds) (n : ℕ) (event : Event) (vacant : Option Pid) → ((d n : ℕ) → got_of d n event ≡ []) → length s.outbox ≡ s.config.desks → IsAccounted s o i
     → IsAccounted (next_shard n event vacant s) o i
-written_accounted s o i n event vacant nothing_came boxes acc = record {
-  out_number = acc.out_number;
-  in_number = acc.in_number;
-  out_desks = acc.out_desks;
-  in_desks = acc.in_desks;
-  posted_desks = acc.posted_desks;
-  collected_desks = acc.collected_desks;
-  posted = posts_written s o i boxes acc n event;
-  collected = λ d h. rw (nothing_came d n, append-nil (gots s.journal d)) (acc.collected d h);
-}
+written_accounted s o i n event vacant nothing_came boxes acc =
+    accounted_by s (next_shard n event vacant s) o i acc refl refl (posts_written s o i boxes acc n event) (λ d h. rw (nothing_came d n, append-nil (gots s.journal d)) (acc.collected d h))
 
 pub step_whole : (s s' : ShardState) (o : OutEnds) (i : InEnds) (v : Sight) (seat : SeatState) → IsStep s s' → IsWhole s o i v seat → IsFit s' → IsWhole s' o i v seat
 step_whole s s' o i v seat step whole fit =

@@ -15,6 +15,7 @@ use Rattle.pt_shard.specs.Fit.{IsFit}
 use Rattle.pt_shard.specs.Restart.{forgetful}
 use Rattle.pt_desk.specs.Sight.{Sight, deaths_in, IsSeated, WasInTurn, AreToldBefore}
 use Rattle.pt_desk.specs.DeskState.{IsAccounted}
+use Rattle.pt_desk.proofs.Accounts.{accounted_by}
 use Rattle.pt_desk.proofs.Seating.{IsWhole}
 
 turns_without : (start : Start) (slots : ℕ) → ((p : Pid) → is_unborn (at_start start p) ≡ false → WasInTurn start slots p)
@@ -43,16 +44,10 @@ told_without start low d told before = record {
 module _ (s : ShardState) (o : OutEnds) (i : InEnds) (v : Sight) (seat : SeatState) (t : DeskTable) (is : t ≡ all_bare v.before) (bare : BeginsBare v.before t)
     (none : s.journal ≡ []) (whole : IsWhole s o i v seat) where
   accounted : IsAccounted (forgetful s) o i
-  accounted = record {
-    out_number = whole.0.accounts.out_number;
-    in_number = whole.0.accounts.in_number;
-    out_desks = whole.0.accounts.out_desks;
-    in_desks = whole.0.accounts.in_desks;
-    posted_desks = whole.0.accounts.posted_desks;
-    collected_desks = whole.0.accounts.collected_desks;
-    posted = λ e l. subst (λ (j : List Stamped). posts (without_reasons s.start) j e ≡ posts s.start j e) (sym none) refl ∙ whole.0.accounts.posted e l;
-    collected = whole.0.accounts.collected;
-  }
+  accounted =
+      accounted_by s (forgetful s) o i whole.0.accounts refl refl
+      (λ e l. subst (λ (j : List Stamped). posts (without_reasons s.start) j e ≡ posts s.start j e) (sym none) refl ∙ whole.0.accounts.posted e l)
+      whole.0.accounts.collected
 
   seated : IsSeated (forgetful s) (record v { before = t })
   seated = record {

@@ -23,7 +23,7 @@ use Rattle.pt_signal.specs.declared.config.Config.{Config}
 use Rattle.pt_shard.specs.Outbox.{sent_on_some}
 use Rattle.pt_shard.specs.Fit.{IsFit}
 use Rattle.pt_desk.specs.DeskState.{IsDesk, IsAccounted}
-use Rattle.pt_desk.proofs.Accounts.{accounted_met}
+use Rattle.pt_desk.proofs.Accounts.{accounted_by, accounted_met}
 use Rattle.pt_desk.proofs.Posted.{of_parts}
 
 abbrev pub sight_of : DirectoryState → SeatState → DeskTable → Sight
@@ -65,6 +65,15 @@ pub record SameJournal (s s' : ShardState) : Type 0 where
   pub config : s'.config ≡ s.config
   pub journal : s'.journal ≡ s.journal
 
+-- a desk that is one whose start, number, settings and journal are those of another
+pub same_journal : (s x s' : ShardState) → x.start ≡ s.start → x.number ≡ s.number → x.config ≡ s.config → x.journal ≡ s.journal → s' ≡ x → SameJournal s s'
+same_journal s x s' start number config journal is = record {
+  start = ap (λ (z : ShardState). z.start) is ∙ start;
+  number = ap (λ (z : ShardState). z.number) is ∙ number;
+  config = ap (λ (z : ShardState). z.config) is ∙ config;
+  journal = ap (λ (z : ShardState). z.journal) is ∙ journal;
+}
+
 pub same_seated : (s s' : ShardState) (v : Sight) → SameJournal s s' → IsSeated s v → IsSeated s' v
 same_seated s s' v same h = record {
   desks = h.desks ∙ sym (ap (λ (c : Config). c.desks) same.config);
@@ -90,12 +99,7 @@ same_whole s s' o o' i i' v seat same fit accounts whole =
 pub posted_whole : (s s' : ShardState) (o o' : OutEnds) (i : InEnds) (v : Sight) (seat : SeatState) (e count : ℕ) → s' ≡ sent_on_some e count s → IsFit s' → IsAccounted s' o' i → IsWhole s o i v seat → IsWhole s' o' i v seat
 posted_whole s s' o o' i v seat e count after fit accounts whole =
     same_whole s s' o o' i i v seat
-    (record {
-      start = ap (λ (z : ShardState). z.start) after;
-      number = ap (λ (z : ShardState). z.number) after;
-      config = ap (λ (z : ShardState). z.config) after;
-      journal = ap (λ (z : ShardState). z.journal) after;
-    })
+    (same_journal _ _ _ refl refl refl refl after)
     fit accounts whole
 
 -- a desk that keeps what it loses or does not, or of which another loss was told
@@ -103,23 +107,9 @@ pub lost_whole : (s s' : ShardState) (o : OutEnds) (i : InEnds) (v : Sight) (sea
     → s' ≡ record s { keeps = keeps; lost = lost } → IsFit s' → IsWhole s o i v seat → IsWhole s' o i v seat
 lost_whole s s' o i v seat keeps lost after fit whole =
     same_whole s s' o o i i v seat
-    (record {
-      start = ap (λ (z : ShardState). z.start) after;
-      number = ap (λ (z : ShardState). z.number) after;
-      config = ap (λ (z : ShardState). z.config) after;
-      journal = ap (λ (z : ShardState). z.journal) after;
-    })
+    (same_journal _ _ _ refl refl refl refl after)
     fit
-    (subst (λ z. IsAccounted z o i) (sym after) (record {
-      out_number = whole.0.accounts.out_number;
-      in_number = whole.0.accounts.in_number;
-      out_desks = whole.0.accounts.out_desks;
-      in_desks = whole.0.accounts.in_desks;
-      posted_desks = whole.0.accounts.posted_desks;
-      collected_desks = whole.0.accounts.collected_desks;
-      posted = whole.0.accounts.posted;
-      collected = whole.0.accounts.collected;
-    }))
+    (subst (λ z. IsAccounted z o i) (sym after) (accounted_by s _ o i whole.0.accounts refl refl whole.0.accounts.posted whole.0.accounts.collected))
     whole
 
 -- a desk whose ends looked at each other

@@ -9,7 +9,7 @@ use Rattle.atomic_table.proofs.Lists.{at_set, at_snoc, at_longer}
 use Rattle.pt_directory.specs.declared.view.Shape.{Shape}
 use Rattle.pt_directory.specs.declared.view.Death.{Death}
 use Rattle.pt_directory.specs.declared.view.View.{View}
-use Rattle.pt_directory.specs.Views.{is_at, deaths_at, is_of, is_not_of, IsHomeOf, fresh_view, up_from, joined_views}
+use Rattle.pt_directory.specs.Views.{times_among, is_at, deaths_at, is_of, is_not_of, IsHomeOf, fresh_view, up_from, joined_views}
 use Rattle.pt_directory.specs.Rule.{IsViewKept, IsKept, Ruled, one_home, other_homes, renewed_home, later_homes, first_view}
 use Rattle.pt_directory.proofs.Lists.{at_append, at_behind, at_single, at_nothing, none_at, from_filter, deaths_kept, true-is_at, seats_there, times_there, times-append, times-up_from, homes_of-set, homes_of-push}
 use Rattle.pt_directory.proofs.Loads.{set_each, two_homes}
@@ -64,6 +64,28 @@ opens shape words n zeros len = record {
     first zero v at = subst (IsViewKept shape words (λ _ _. []) (λ _ _. [])) (some-injective (first_view shape) v at) (fresh_ok shape words (λ _ _. []) (λ _ _. []) (up_from 0 shape.desks) (λ _ _ _ _. (refl, refl)))
     first (suc i) v at = absurd (some-ne-none v (sym at))
 
+-- a view that is parted: the later homes stay where it was, and the first is the home of a view that is added
+parted_kept : (shape : Shape) (words : List ℕ) (views : List View) (k : IsKept shape words views) (id h : ℕ) (hs : List ℕ) (was left right : View) → get_elem? views id ≡ some was → was.homes ≡ h ∷ hs → left.homes ≡ hs → right.homes ≡ h ∷ []
+    → IsViewKept shape words k.done k.pending left → IsViewKept shape words k.done k.pending right → IsKept shape words (set views id left ++ right ∷ [])
+parted_kept shape words views k id h hs was left right at both_homes later first lok rok = record {
+  done = k.done;
+  pending = k.pending;
+  sized = k.sized;
+  slots = k.slots;
+  once = λ x.
+      let a = homes_of-set x views id was left at in
+      let b = homes_of-push x (set views id left) right in
+      let c = k.once x in
+      let d : times_among x was.homes ≡ times_among x (h ∷ hs) = ap (times_among x) both_homes in
+      let e : times_among x left.homes ≡ times_among x hs = ap (times_among x) later in
+      let f : times_among x right.homes ≡ times_among x (h ∷ []) = ap (times_among x) first in
+      omega arith;
+  each = λ j u e. ⊎_elim
+      (λ (was : get_elem? (set views id left) j ≡ some u). set_each (IsViewKept shape words k.done k.pending) views id left (λ i z _ there. k.each i z there) lok j u was)
+      (λ (new : right ≡ u). subst (IsViewKept shape words k.done k.pending) new rok)
+      (at_snoc (set views id left) right u j e);
+}
+
 pub splits : (shape : Shape) (id h : ℕ) (hs : List ℕ) (v : View) → v ≡ fresh_view (h ∷ hs) → Splits (Ruled shape) id v (other_homes v) (one_home v)
 splits shape id h hs v is st k at =
     let left : View = fresh_view hs in
@@ -73,20 +95,7 @@ splits shape id h hs v is st k at =
     let bare : (x y j : ℕ) → get_elem? (h ∷ hs) j ≡ some x → (k.done x y ≡ []) × (k.pending x y ≡ []) = λ x y j e. let t = vok.home x y (j, e) in (sym t.0, sym t.1) in
     let lok : IsViewKept shape st.words k.done k.pending left = fresh_ok shape st.words k.done k.pending hs (λ x y j e. bare x y (suc j) e) in
     let rok : IsViewKept shape st.words k.done k.pending right = fresh_ok shape st.words k.done k.pending (h ∷ []) (λ x y j e. subst (λ (z : ℕ). (k.done z y ≡ []) × (k.pending z y ≡ [])) (at_single h x j e) (bare h y 0 refl)) in
-    let both : IsKept shape st.words (set st.views id left ++ right ∷ []) = record {
-      done = k.done;
-      pending = k.pending;
-      sized = k.sized;
-      slots = k.slots;
-      once = λ x.
-          let a = homes_of-set x st.views id (fresh_view (h ∷ hs)) left at' in
-          let b = homes_of-push x (set st.views id left) right in
-          let c = k.once x in omega arith;
-      each = λ j u e. ⊎_elim
-          (λ (was : get_elem? (set st.views id left) j ≡ some u). set_each (IsViewKept shape st.words k.done k.pending) st.views id left (λ i z _ there. k.each i z there) lok j u was)
-          (λ (new : right ≡ u). subst (IsViewKept shape st.words k.done k.pending) new rok)
-          (at_snoc (set st.views id left) right u j e);
-    } in
+    let both = parted_kept shape st.words st.views k id h hs (fresh_view (h ∷ hs)) left right at' refl refl refl lok rok in
     subst (λ (z : View). IsKept shape st.words (set st.views id (other_homes z) ++ one_home z ∷ [])) (sym is) both
 
 -- a seat that is made anew: the first home of a view, with what was told of that desk
@@ -122,20 +131,7 @@ renews shape id h hs v homes idle st k at =
       begun = λ j d e. absurd (at_nothing d j e);
       reads = λ j r e. absurd (at_nothing r j e);
     } in
-    let both : IsKept shape st.words (set st.views id left ++ right ∷ []) = record {
-      done = k.done;
-      pending = k.pending;
-      sized = k.sized;
-      slots = k.slots;
-      once = λ x.
-          let a = homes_of-set x st.views id was left at' in
-          let b = homes_of-push x (set st.views id left) right in
-          let c = k.once x in omega arith;
-      each = λ j u e. ⊎_elim
-          (λ (was : get_elem? (set st.views id left) j ≡ some u). set_each (IsViewKept shape st.words k.done k.pending) st.views id left (λ i z _ there. k.each i z there) lok j u was)
-          (λ (new : right ≡ u). subst (IsViewKept shape st.words k.done k.pending) new rok)
-          (at_snoc (set st.views id left) right u j e);
-    } in
+    let both = parted_kept shape st.words st.views k id h hs was left right at' refl refl refl lok rok in
     subst (λ (z : View). IsKept shape st.words (set st.views id (later_homes z) ++ renewed_home z ∷ [])) (sym is) both
 
 pub joins : (shape : Shape) (id : ℕ) (v : View) (other : ℕ) (w : View) → Joins (Ruled shape) id v other w (joined_views v w) (fresh_view [])

@@ -9,7 +9,7 @@ use Rattle.pt_directory.specs.declared.view.Death.{Death}
 use Rattle.pt_directory.specs.Views.{new_death, new_read, deaths_at, last_version, last_stamp, IsHomeOf, LastRead, with_read, with_stamp, up_from}
 use Rattle.pt_directory.specs.Rule.{version_word, death_word, Ruled, SeatKnows, LoadsVersion, DeathLoaded, DeathStored, VersionStored, ToldLoaded}
 use Rattle.atomic_table.specs.Seated.{TableId}
-use Rattle.pt_directory.specs.Seats.{SeatState, DeathIsBegun, death_of, seat_state, add_read, new_seat}
+use Rattle.pt_directory.specs.Seats.{DirectoryState, HasWordsFor, SeatState, DeathIsBegun, death_of, seat_state, add_read, new_seat}
 use mathlib.Core.List.{map-append}
 use Rattle.pt_directory.proofs.Lists.{stamp_last-push, up_from-push}
 use Rattle.pt_directory.proofs.Loads.{loads_version, loads_death, loads_told}
@@ -17,6 +17,22 @@ use Rattle.pt_directory.proofs.Stores.{stores_death, stores_version}
 
 pub word_in : (n m d s i w : ℕ) → w ≡ 2 * (n * m) → d < n → s < m → i ≡ 2 * (d * m + s) → i + 1 < w
 word_in n m d s i w len p q is = let h = mul-add-lt d m s n p q in let c = mul_comm m n in omega arith
+
+-- where the words of a pid's slot are in the table of a directory
+pub record HasWordAt (shape : Shape) (now : DirectoryState) (name : TableId) (i : ℕ) : Type 0 where
+  pub named : now.name ≡ name
+  pub desks : shape.desks ≡ now.desks
+  pub slots : shape.slots ≡ now.slots
+  pub within : i + 1 < name.words
+
+pub word_at : (shape : Shape) (was now : DirectoryState) (pid : Pid) (i : ℕ) → was ≡ now → (shape.desks ≡ was.desks) × (shape.slots ≡ was.slots) × (was.name.words ≡ 2 * (was.desks * was.slots)) × (0 < was.desks) × (0 < was.slots)
+    → HasWordsFor now pid → i ≡ version_word now.slots pid.shard pid.slot → HasWordAt shape now was.name i
+word_at shape was now pid i is inv has at = record {
+  named = sym (ap (λ (n : DirectoryState). n.name) is);
+  desks = inv.0 ∙ ap (λ (n : DirectoryState). n.desks) is;
+  slots = inv.1 ∙ ap (λ (n : DirectoryState). n.slots) is;
+  within = word_in now.desks now.slots pid.shard pid.slot i was.name.words (inv.2 ∙ ap (λ (n : DirectoryState). 2 * (n.desks * n.slots)) is) has.0 has.1 at;
+}
 
 module _ (shape : Shape) (slots id : ℕ) (me : SeatKnows) (d s n m i : ℕ) (en : shape.desks ≡ n) (em : shape.slots ≡ m) (p : d < n) (q : s < m) (is : i ≡ 2 * (d * m + s)) where
   p' : d < shape.desks

@@ -19,6 +19,7 @@ use Rattle.pt_events.specs.History.{Past, Start, Phase, unborn, living, ended, a
 use Rattle.pt_laws.specs.Sender.{body_of, said_messages, user_of, users}
 use Rattle.pt_laws.proofs.living.Resumed.{begun_over}
 use Rattle.pt_laws.proofs.order.Flight.{came_or_flies}
+use Rattle.pt_laws.proofs.order.Sender.{Parts, Part, more}
 use Rattle.pt_laws.proofs.order.Taken.{Arrival, arrivals, take_first, takes, untaken}
 use Rattle.pt_events.proofs.Phases.{was_unborn, was_not_ended}
 use Rattle.pt_history.specs.Custody.{mailbox, messages_in}
@@ -95,29 +96,6 @@ module _ (a p : Pid) where
   one_came : (c d : Pid) (x : Signal) (b : Bool) → messages_in (cond b (x ∷ []) []) ≡ cond b (body_of x) []
   one_came c d x true = append-nil (body_of x)
   one_came c d x false = refl
-
-  -- V is empty before the birth, W until the end
-  record Parts (f : Phase) (total U V W : List Body) : Type 0 where
-    joined : total ≡ (U ++ V) ++ W
-    none_before : is_unborn f ≡ true → V ≡ []
-    none_yet : is_ended f ≡ false → W ≡ []
-
-  -- what one more event adds to each
-  record Part (f : Phase) (t u v w : List Body) : Type 0 where
-    before : is_unborn f ≡ true → (u ≡ t) × (v ≡ []) × (w ≡ [])
-    during : is_unborn f ≡ false → is_ended f ≡ false → (u ≡ []) × (v ≡ t) × (w ≡ [])
-    behind : is_ended f ≡ true → (u ≡ []) × (v ≡ []) × (w ≡ t)
-
-  more : (f : Phase) (total U V W t u v w : List Body) → Parts f total U V W → Part f t u v w → total ++ t ≡ ((U ++ u) ++ (V ++ v)) ++ (W ++ w)
-  more unborn total U V W t u v w h k =
-      let e1 = h.none_before refl in let e2 = h.none_yet refl in let e3 = k.before refl in
-      rw (e3.0, e3.1, e3.2, e1, e2, h.joined) (simp (append-nil, e1, e2))
-  more (living s) total U V W t u v w h k =
-      let e2 = h.none_yet refl in let e3 = k.during refl refl in
-      rw (e3.0, e3.1, e3.2, h.joined) (simp (append-nil, e2, append_assoc))
-  more (ended r s) total U V W t u v w h k =
-      let e3 = k.behind refl in
-      rw (e3.0, e3.1, e3.2, h.joined) (simp (append-nil, append_assoc))
 
   part_of : (start : Start) (past : Past) (e : Event) (f : Phase) → life start past p ≡ f
       → Part f (messages_in (came_by a p e)) (users a p (strayed is_unborn p f e)) (users a p (arrives start past p e)) (users a p (strayed is_ended p f e))

@@ -17,80 +17,12 @@ use Rattle.pt_events.specs.Journal.{events, of_desk, letter, content, in_lane, I
 use Rattle.pt_events.specs.Locality.{AllHome}
 use Rattle.pt_events.proofs.Homes.{AllFrom, from_home, sent_home}
 use Rattle.pt_events.proofs.Telling.{AllLocal, head_local, tail_local, all_home}
-use Rattle.pt_laws.proofs.lanes.Lanes.{AllUpTo, AllUpTo-append, AllAt-letters, Back, back}
+use Rattle.pt_laws.proofs.lanes.Lanes.{AllAt-letters, Back, back}
+use Rattle.pt_laws.proofs.lanes.Newest.{new_posts, new_gots, posts_step, gots_step, gots_up_to, new_up_to}
 use Rattle.pt_auditor.specs.Lanes.{is_lane, lane, letters_flying, letters_landed, IsFirstInLane}
 use Rattle.pt_auditor.specs.Foreigners.{ComesInOrder}
 use Rattle.pt_auditor.proofs.Carried.{landed_lane}
 use Rattle.pt_auditor.proofs.Laid.{lane_is}
-
--- one event more in the lanes ----------------------------------------------------------------
-
--- the letters of the newest event in one lane
-abbrev new_posts : Stamped → List Stamped → ℕ → ℕ → List Letter
-new_posts s merged d e = lane d e (map (letter s.stamp) (sent_by [] (events merged) s.event))
-
-abbrev new_gots : Stamped → ℕ → ℕ → List Letter
-new_gots s d e = cond (s.desk == e) (got d s) []
-
-gots_step : (s : Stamped) (merged : List Stamped) (d e : ℕ) → gots (of_desk e (s ∷ merged)) d ≡ gots (of_desk e merged) d ++ new_gots s d e
-gots_step s merged d e = go (s.desk == e) refl
-  where
-    go : (b : Bool) → (s.desk == e) ≡ b → gots (of_desk e (s ∷ merged)) d ≡ gots (of_desk e merged) d ++ new_gots s d e
-    go true f = rw (f, gots) refl
-    go false f = rw (f, gots) (sym (append-nil _))
-
-lane_letters : (d e n : ℕ) (ls : List Sent) → AllFrom d ls → filter (λ l. l.to.shard == e) (map (letter n) ls) ≡ lane d e (map (letter n) ls)
-lane_letters d e n [] h = refl
-lane_letters d e n (l ∷ ls) h = rw (eq-eqb l.from.shard d h.0, lane_letters d e n ls h.1) refl
-
-no_letters : (d e c n : ℕ) (ls : List Sent) → (c == d) ≡ false → AllFrom c ls → lane d e (map (letter n) ls) ≡ []
-no_letters d e c n [] f h = refl
-no_letters d e c n (l ∷ ls) f h = let k : (l.from.shard == d) ≡ false = rw h.0 f in rw (k, no_letters d e c n ls f h.1) refl
-
-posts_step : (s : Stamped) (merged : List Stamped) (d e : ℕ) → IsHome s.desk s.event → AllHome merged
-    → posts [] (of_desk d (s ∷ merged)) e ≡ posts [] (of_desk d merged) e ++ new_posts s merged d e
-posts_step s merged d e i k = go (s.desk == d) refl
-  where
-    go : (b : Bool) → (s.desk == d) ≡ b → posts [] (of_desk d (s ∷ merged)) e ≡ posts [] (of_desk d merged) e ++ new_posts s merged d e
-    go true f =
-        let same : s.desk ≡ d = eqb-true _ _ f in
-        let home : IsHome d s.event = subst (λ d. IsHome d s.event) same i in
-        subst (λ c. posts [] (cond c (s ∷ of_desk d merged) (of_desk d merged)) e ≡ posts [] (of_desk d merged) e ++ new_posts s merged d e) (sym f)
-        (filter-append (λ l. l.to.shard == e) (letters [] (of_desk d merged)) (map (letter s.stamp) (sent_by [] (events (of_desk d merged)) s.event))
-        ∙ ap (λ z. posts [] (of_desk d merged) e ++ z)
-        (ap (λ z. filter (λ l. l.to.shard == e) (map (letter s.stamp) z)) (sent_home [] d merged s.event home k)
-        ∙ lane_letters d e s.stamp (sent_by [] (events merged) s.event) (from_home [] (events merged) d s.event home)))
-    go false f =
-        subst (λ c. posts [] (cond c (s ∷ of_desk d merged) (of_desk d merged)) e ≡ posts [] (of_desk d merged) e ++ new_posts s merged d e) (sym f)
-        (sym (append-nil _)
-        ∙ ap (λ z. posts [] (of_desk d merged) e ++ z) (sym (no_letters d e s.desk s.stamp (sent_by [] (events merged) s.event) f (from_home [] (events merged) s.desk s.event i))))
-
-before_le : (s t : Stamped) → IsAfter s t → t.stamp ≤ s.stamp
-before_le s t h = ⊎_elim (λ w. omega arith) (λ w. omega (arith, w.0)) h
-
--- stamps of receipts are no later than the newest event
-up_to_of : (n d : ℕ) (t : Stamped) → t.stamp ≤ n → (ev : Event) → AllUpTo n (got_of d t.stamp ev)
-up_to_of n d t h (Came a c x) = go (a.shard == d)
-  where
-    go : (b : Bool) → AllUpTo n (cond b (letter t.stamp (sent a c x) ∷ []) [])
-    go true = (h, tt)
-    go false = tt
-up_to_of n d t h _ = tt
-
-gots_up_to : (s : Stamped) (merged : List Stamped) (d e : ℕ) → AllBefore s merged → AllUpTo s.stamp (gots (of_desk e merged) d)
-gots_up_to s [] d e h = tt
-gots_up_to s (t ∷ merged) d e h = go (t.desk == e) (gots_up_to s merged d e h.1)
-  where
-    go : (b : Bool) → AllUpTo s.stamp (gots (of_desk e merged) d) → AllUpTo s.stamp (gots (cond b (t ∷ of_desk e merged) (of_desk e merged)) d)
-    go true ih = AllUpTo-append s.stamp _ _ ih (up_to_of s.stamp d t (before_le s t h.0) t.event)
-    go false ih = ih
-
-new_up_to : (s : Stamped) (d e : ℕ) → AllUpTo s.stamp (new_gots s d e)
-new_up_to s d e = go (s.desk == e)
-  where
-    go : (b : Bool) → AllUpTo s.stamp (cond b (got d s) [])
-    go true = up_to_of s.stamp d s (omega arith) s.event
-    go false = tt
 
 -- letters that land -----------------------------------------------------------------------
 
@@ -193,10 +125,10 @@ module _ (low top : ℕ) where
     next : IsNext [] low top s.desk (of_desk s.desk merged) s
     next = head_local [] low top s merged h
 
-    backs : (d e : ℕ) → Back (posts [] (of_desk d merged) e) (new_posts s merged d e) (gots (of_desk e merged) d) (new_gots s d e) (over d e)
+    backs : (d e : ℕ) → Back (posts [] (of_desk d merged) e) (new_posts [] s merged d e) (gots (of_desk e merged) d) (new_gots s d e) (over d e)
     backs d e =
         back s.stamp _ _ _ _ _ (AllAt-letters s.stamp (λ l. in_lane d e (content l)) (sent_by [] (events merged) s.event)) (gots_up_to s merged d e r.0) (new_up_to s d e)
-        (subst (λ z. Agrees z (gots (of_desk e merged) d ++ new_gots s d e) (over d e)) (posts_step s merged d e next.home (all_home [] low top merged tail))
+        (subst (λ z. Agrees z (gots (of_desk e merged) d ++ new_gots s d e) (over d e)) (posts_step [] s merged d e next.home (all_home [] low top merged tail))
         (subst (λ z. Agrees (posts [] (of_desk d (s ∷ merged)) e) z (over d e)) (gots_step s merged d e) (a d e)))
 
     before : ℕ → ℕ → List Letter
@@ -211,7 +143,7 @@ module _ (low top : ℕ) where
     more k = record {
       flies = λ d e.
           filter-append (λ l. in_lane d e (content l)) (letters_landed s.event (letters_flying merged)) (map (letter s.stamp) (sent_by [] (events merged) s.event))
-          ∙ ap (λ z. z ++ new_posts s merged d e)
+          ∙ ap (λ z. z ++ new_posts [] s merged d e)
           (lands s.desk s.stamp (letters_flying merged) (λ d e. (backs d e).lead) (λ d e. (backs d e).rest) k.flies s.event next.home (λ d e. (backs d e).same) d e)
           ∙ sym (backs d e).left;
       order = (

@@ -1,4 +1,5 @@
 -- Order: what is in flight, what came, what was taken.
+pub mod Each
 pub mod Filters
 pub mod Positions
 pub mod Flight

@@ -10,7 +10,8 @@ use Rattle.pt_crew.specs.Running.{is_idle, UpholdsOn}
 use Rattle.pt_crew.proofs.Runs.{idle_awake}
 use Rattle.pt_supervisor.specs.Keeping.{Keeps, PartOf}
 use Rattle.pt_pauses.specs.Gathering.{GatheredChildrenLive}
-use Rattle.pt_pauses.proofs.Still.{StillLaws, children_live}
+use Rattle.pt_pauses.specs.Still.{StillLaws}
+use Rattle.pt_pauses.proofs.Still.{children_live}
 use Rattle.pt_crew.proofs.Resting.{awake_idle}
 
 abbrev shard_of : DeskState → ShardState

@@ -18,38 +18,8 @@ use Rattle.pt_events.specs.declared.event.Event.TheVariants.{Said, Came, Left, R
 use Rattle.pt_events.specs.History.{Past, Start, Phase, unborn, living, ended, after, is_unborn, is_ended, is_living, life, state, leaves, gets, live_or_end, is_between, landed, flying, sent_by, got_sends, left_sends, end_sends, MaySay, May, IsLegal}
 use Rattle.pt_events.proofs.Phases.{each_branch, after_ended, after_born}
 use Rattle.pt_laws.specs.Links.{IsKnownSaid}
+use Rattle.pt_laws.proofs.order.Each.{Each, each-append, each-without, each-found, each-map, each-weaker}
 use Rattle.pt_behaviour.proofs.Cases.{by_cases}
-
--- each of a list -----------------------------------------------------------------------------------
-
-abbrev Each : {X : Type 0} → (X → Type 0) → List X → Type 0
-Each P [] = ⊤
-Each P (x ∷ xs) = P x × Each P xs
-
-module _ {X : Type 0} (P : X → Type 0) where
-  each-append : (xs ys : List X) → Each P xs → Each P ys → Each P (xs ++ ys)
-  each-append [] ys h k = k
-  each-append (x ∷ xs) ys h k = (h.0, each-append xs ys h.1 k)
-
-  each-without : (test : X → Bool) (xs : List X) → Each P xs → Each P (without_first test xs)
-  each-without test [] h = tt
-  each-without test (x ∷ xs) h = each_branch (Each P) (test x) xs (x ∷ without_first test xs) h.1 (h.0, each-without test xs h.1)
-
-  each-found : (test : X → Bool) (xs : List X) (y : X) → find test xs ≡ Some y → Each P xs → P y
-  each-found test [] y e h = absurd (cc)
-  each-found test (x ∷ xs) y e h = go (test x) refl e (each-found test xs y)
-    where
-      go : (b : Bool) → test x ≡ b → find test (x ∷ xs) ≡ Some y → (find test xs ≡ Some y → Each P xs → P y) → P y
-      go true f e ih = let k : Some x ≡ Some y = rw f at e in let k2 : x ≡ y = cc in subst P k2 h.0
-      go false f e ih = let k : find test xs ≡ Some y = rw f at e in ih k h.1
-
-each-map : {X Y : Type 0} (P : Y → Type 0) (f : X → Y) → ((x : X) → P (f x)) → (xs : List X) → Each P (map f xs)
-each-map P f h [] = tt
-each-map P f h (x ∷ xs) = (h x, each-map P f h xs)
-
-each-weaker : {X : Type 0} (P Q : X → Type 0) → ((x : X) → P x → Q x) → (xs : List X) → Each P xs → Each Q xs
-each-weaker P Q f [] h = tt
-each-weaker P Q f (x ∷ xs) h = (f x h.0, each-weaker P Q f xs h.1)
 
 -- what a letter on its way within a desk tells -----------------------------------------------------
 

@@ -31,7 +31,8 @@ use Rattle.pt_crew.specs.Running.{UpholdsOn}
 use Rattle.pt_crew.specs.Waking.{IsAwake}
 use Rattle.pt_crew.proofs.Runs.{idle_awake}
 use Rattle.pt_supervisor.specs.Keeping.{Keeps, PartOf, SuperviseAs}
-use Rattle.pt_pauses.proofs.Still.{StillLaws, children_live, still_node}
+use Rattle.pt_pauses.specs.Still.{StillLaws}
+use Rattle.pt_pauses.proofs.Still.{children_live, still_node}
 use Rattle.pt_crew.proofs.Resting.{awake_idle}
 use Rattle.pt_pauses.proofs.Stopping.{stopped_children}
 use Rattle.pt_supervisor.proofs.Tending.{upheld}
@@ -144,7 +145,7 @@ module _ {B : Type 0} (answers : Answers B) (part : PartOf B) (law : SuperviseAs
       with_crews past back.gathered crews later same (subst (λ (z : QuietState). AllHoldIn part past crews z.gathered) (sym is) h)
 
   halts_resuming : (past : Past) (q : QuietState) (crews : List (Crew B)) (halted : Halted) (later : List (Crew B)) → HaltsResuming q crews halted later → AllHoldIn part past crews q.gathered → HoldWhereHalted part past later halted
-  halts_resuming past q crews (Resuming back) later r h = of_quiet past back.settled q crews later r.0 r.1 h
+  halts_resuming past q crews (Resuming back) later r h = of_quiet past back q crews later r.0 r.1 h
   halts_resuming past q crews (Beginning node) later r h = absurd (r.2.1 (have_room past crews q.gathered h))
   halts_resuming past q crews (Running a b) later r h = absurd r.2
   halts_resuming past q crews (Turning a b) later r h = absurd r.2
@@ -228,8 +229,8 @@ module _ {B : Type 0} (answers : Answers B) (part : PartOf B) (law : SuperviseAs
     )
     going_on_holds past (Reading q) desks crews later sink after r h = handed_then past q desks crews later sink after r h
     going_on_holds past (Taking q) desks crews later sink after r h = handed_then past q desks crews later sink after r h
-    going_on_holds past (Resuming back) desks crews later sink after r h = λ merged merge.
-        resuming_holds answers part law past merged back.settled.gathered crews later desks merge r.0 h
+    going_on_holds past (Resuming q) desks crews later sink after r h = λ merged merge.
+        resuming_holds answers part law past merged q.gathered crews later desks merge r.0 h
     going_on_holds past (Beginning node) desks crews later sink after r h = absurd h
 
     pub halting_again_holds : HaltingAgainHolds part Takes Refuses
@@ -239,7 +240,7 @@ module _ {B : Type 0} (answers : Answers B) (part : PartOf B) (law : SuperviseAs
     halting_again_holds past (Settling back) again crews later sink after r h = halts_settling past back.gathered crews sink later after h again r
     halting_again_holds past (Reading q) again crews later sink after r h = halts_handing past q crews sink again later after r h
     halting_again_holds past (Taking q) again crews later sink after r h = halts_handing past q crews sink again later after r h
-    halting_again_holds past (Resuming back) again crews later sink after r h = halts_resuming past back.settled crews again later r.0 h
+    halting_again_holds past (Resuming q) again crews later sink after r h = halts_resuming past q crews again later r.0 h
     halting_again_holds past (Beginning node) again crews later sink after r h = absurd h
 
     -- a run of epochs that halts ----------------------------------------------------------------------------

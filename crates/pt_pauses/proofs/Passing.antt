@@ -24,7 +24,8 @@ use Rattle.pt_crew.proofs.Runs.{rest_upholds, run_upholds}
 use Rattle.pt_supervisor.specs.Keeping.{Keeps, PartOf, SuperviseAs}
 use Rattle.pt_pauses.specs.Gathering.{AllChildrenLive}
 use Rattle.pt_pauses.proofs.AllLive.{all_children_live}
-use Rattle.pt_pauses.proofs.Still.{StillLaws, still_node}
+use Rattle.pt_pauses.specs.Still.{StillLaws}
+use Rattle.pt_pauses.proofs.Still.{still_node}
 use Rattle.pt_supervisor.proofs.Tending.{upheld}
 use Rattle.pt_epochs.specs.declared.epochs.Outcome.{Outcome}
 use Rattle.pt_epochs.specs.declared.epochs.Outcome.TheVariants as outcome

@@ -53,7 +53,7 @@ use Rattle.pt_supervisor.specs.Ending.{monitor_of, told_in, next_at_stage}
 use Rattle.pt_supervisor.specs.Hearing.{Standing}
 use Rattle.pt_supervisor.specs.Supervising.{EndsLast}
 use Rattle.pt_supervisor.specs.Keeping.{pid_of_child, is_end_of, has_cut, all_events, IsHeld, IsPlaced, IsWatched, IsAsked, bids_to, has_bid_to, Holds, PartOf, HoldsAs}
-use Rattle.pt_pauses.specs.Still.{HasTrapped, IsSpared, IsEnding, ChildLives, IsStillNode, QuietChildrenLive}
+use Rattle.pt_pauses.specs.Still.{HasTrapped, IsSpared, IsEnding, ChildLives, IsStillNode, StillLaws, QuietChildrenLive}
 use Rattle.pt_pauses.proofs.Homes.{born_here}
 use Rattle.pt_pauses.proofs.Opened.{keeper_lives, open_among, open_made, some_counted}
 use Rattle.pt_pauses.proofs.Stopping.{any_both, any_events, any_filter, ended_stays, known_ended, not_alive}
@@ -76,15 +76,6 @@ pid_of (Some q) h = (q, refl)
 
 holds_of : (past : Past) (o : Option Standing) (s : Standing) (next : Next) (p : Pid) (d : ShardState) → o ≡ Some s → lives d p ≡ true → HoldsAs past o next p d → Holds past s next p d
 holds_of past o s next p d is alive h = (subst (λ (x : Option Standing). HoldsAs past x next p d) is h).0 alive
-
--- what is said of histories in pt_laws
-pub record StillLaws : Type 0 where
-  pub say : JournalsSay
-  pub there : MergeIsThere
-  pub legal : MergeLegal
-  pub known : MergeKnown
-  pub once : MadeOnceOver
-  pub stamps : StampsAreNew
 
 -- the DOWN that waits is taken by one that waits for it
 down_waits : (m : Ref) (items : List Item) → list_any (is_down_item m) items ≡ true → is_some (find (fits (Pick.DownOf m)) items) ≡ true

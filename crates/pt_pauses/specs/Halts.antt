@@ -95,7 +95,7 @@ HoldWhereHalted part past crews (Gathering back) = AllHold part past crews back.
 HoldWhereHalted part past crews (Settling back) = AllHoldIn part past crews back.gathered
 HoldWhereHalted part past crews (Reading q) = AllHoldIn part past crews q.gathered
 HoldWhereHalted part past crews (Taking q) = AllHoldIn part past crews q.gathered
-HoldWhereHalted part past crews (Resuming back) = AllHoldIn part past crews back.settled.gathered
+HoldWhereHalted part past crews (Resuming q) = AllHoldIn part past crews q.gathered
 HoldWhereHalted part past crews (Beginning node) = ⊥
 
 module _ {B S : Type 0} (part : PartOf B) (Takes Refuses : S → List Stamped → S → Type 0) where
@@ -111,8 +111,8 @@ module _ {B S : Type 0} (part : PartOf B) (Takes Refuses : S → List Stamped �
   abbrev pub HoldBehind : Past → Halted → List DeskState → List (Crew B) → S → S → Type 0
   HoldBehind past (Running node fault) desks later sink after = AllHold part past later desks
   HoldBehind past (Turning node stopped) desks later sink after = AllHold part past later desks
-  HoldBehind past (Resuming back) desks later sink after =
-      (merged : List Stamped) → IsMerge (journals back.settled.gathered) merged
+  HoldBehind past (Resuming q) desks later sink after =
+      (merged : List Stamped) → IsMerge (journals q.gathered) merged
       → AllHold part (events merged ++ past) later desks
   HoldBehind past halted desks later sink after =
       (history : List Stamped) × Takes sink history after × AllHold part (events (reverse history) ++ past) later desks

@@ -10,6 +10,12 @@ use Rattle.pt_events.specs.declared.event.Event.TheVariants.{Came}
 use Rattle.pt_events.specs.declared.event.Stamped.{Stamped}
 use Rattle.pt_events.specs.History.{Past, Start, state_of, life, alive}
 use Rattle.pt_events.specs.Journal.{IsMerge, events}
+use Rattle.pt_events.specs.Locality.{JournalsSay}
+use Rattle.pt_laws.specs.JournalLaws.{MergeIsThere}
+use Rattle.pt_laws.specs.Laws.{MergeLegal}
+use Rattle.pt_laws.specs.LinkLaws.{MergeKnown}
+use Rattle.pt_laws.specs.MonitorLaws.{MadeOnceOver}
+use Rattle.pt_laws.specs.ResumedLaws.{StampsAreNew}
 use Rattle.pt_shard.specs.ShardState.{ShardState, lives}
 use Rattle.pt_gathered.specs.Gathered.{GatheredState, IsGathered, begins, journals}
 use Rattle.pt_gathered.specs.Lawful.{IsQuietNode, LinksStand, WatchesStand}
@@ -26,6 +32,15 @@ use Rattle.pt_supervisor.specs.Ending.{next_at_stage}
 use Rattle.pt_supervisor.specs.Hearing.{Standing}
 use Rattle.pt_supervisor.specs.Supervising.{EndsLast}
 use Rattle.pt_supervisor.specs.Keeping.{has_cut, all_events, PartOf, Keeps}
+
+-- the laws of histories on which the promises on still nodes rest
+pub record StillLaws : Type 0 where
+  pub say : JournalsSay
+  pub there : MergeIsThere
+  pub legal : MergeLegal
+  pub known : MergeKnown
+  pub once : MadeOnceOver
+  pub stamps : StampsAreNew
 
 -- as an exit signal `shutdown` of me came to q, q trapped exits
 abbrev pub HasTrapped : Start → Past → Pid → Pid → Type 0

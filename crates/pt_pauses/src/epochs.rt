@@ -4,6 +4,7 @@ ghost use Rattle.pt_epochs.specs.Driving.{lets_short};
 ghost use Rattle.pt_epochs.specs.Idle.{InTurns};
 ghost use Rattle.pt_pauses.specs.Pauses.{EpochsHold, IdleEpochsLive, RunsHold};
 
+use crate::supervised::still_node_laws;
 use pt_epochs::{Drive, Sink};
 use pt_laws::{laws, links};
 use pt_supervisor::Supervised;
@@ -25,13 +26,8 @@ pub fn epochs_children_live<B: Supervised + Drop, D: Drive<B>, S: Sink>(drive: &
     ensures idle_threads { IdleEpochsLive B.supervisor S.takes S.refuses
         (λ plan. InTurns B.answers (lets_short plan.events) plan.budget) }
 {
-    laws::merge_is_legal();
+    still_node_laws();
     laws::receipts_lower_the_load();
-    laws::journals_tell_their_pids();
-    laws::journals_have_one_merge();
-    laws::one_down();
-    laws::stamps_make_new_ids();
     laws::quiet_monitors();
-    links::merge_known();
     links::resumed_links();
 }

@@ -7,7 +7,7 @@ ghost use Rattle.pt_crew.specs.Running.{RestUpholds, RoundsUphold, RunUpholds};
 ghost use Rattle.pt_supervisor.specs.Keeping.{Keeps};
 ghost use Rattle.pt_pauses.specs.Gathering.{GatheredChildrenLive};
 
-use pt_laws::{laws, links};
+use crate::supervised::still_node_laws;
 use pt_node::Gate;
 use pt_supervisor::Supervised;
 
@@ -27,10 +27,5 @@ pub fn gathered_children_live<B: Supervised + Drop, G: Gate>(gate: &G)
     ensures rests { (past : Past) → RestUpholds (Keeps past B.supervisor) }
     ensures live { GatheredChildrenLive B.supervisor }
 {
-    laws::journals_tell_their_pids();
-    laws::journals_have_one_merge();
-    laws::merge_is_legal();
-    links::merge_known();
-    laws::one_down();
-    laws::stamps_make_new_ids();
+    still_node_laws();
 }

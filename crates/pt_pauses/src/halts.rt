@@ -6,6 +6,7 @@ ghost use Rattle.pt_pauses.specs.Halts.{GatheringHolds, GoingOnHolds, HaltedEpoc
 ghost use Rattle.pt_pauses.specs.Halts.{HeldChildrenEnded, HeldChildrenLive, ResumingHolds, RunUntilIdleHolds};
 ghost use Rattle.pt_pauses.specs.Halts.{SettlingHolds};
 
+use crate::supervised::still_node_laws;
 use pt_epochs::{Drive, Sink};
 use pt_laws::{laws, links};
 use pt_supervisor::Supervised;
@@ -40,13 +41,8 @@ pub fn halted_children_live<B: Supervised + Drop, D: Drive<B>, S: Sink>(drive: &
         (λ plan. InTurns B.answers (lets_short plan.events) plan.budget) }
     ensures until_idle { RunUntilIdleHolds B.supervisor (InTurns B.answers (D.lets drive.now)) }
 {
-    laws::merge_is_legal();
+    still_node_laws();
     laws::receipts_lower_the_load();
-    laws::journals_tell_their_pids();
-    laws::journals_have_one_merge();
-    laws::one_down();
-    laws::stamps_make_new_ids();
     laws::quiet_monitors();
-    links::merge_known();
     links::resumed_links();
 }

@@ -41,4 +41,4 @@ pub use epochs::epochs_children_live;
 pub use gathering::gathered_children_live;
 pub use halts::halted_children_live;
 pub use pauses::paused_children_live;
-pub use supervised::{quiet_children_live, stopped_children_ended};
+pub use supervised::{quiet_children_live, still_node_laws, stopped_children_ended};

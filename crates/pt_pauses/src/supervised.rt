@@ -16,11 +16,27 @@ ghost use Rattle.pt_crew.specs.Crews.{CrewDoes, Enters, CrewWorks, left, members
 ghost use Rattle.pt_behaviour.specs.declared.births.Role.{Role};
 ghost use Rattle.pt_crew.specs.Upholding.{AllStand, AllStill, Upholds};
 ghost use Rattle.pt_supervisor.specs.Keeping.{SupervisorBegins, Keeps};
-ghost use Rattle.pt_pauses.specs.Still.{QuietChildrenLive};
+ghost use Rattle.pt_pauses.specs.Still.{QuietChildrenLive, StillLaws};
 ghost use Rattle.pt_pauses.specs.Stopping.{StoppedChildrenEnded};
 
 use pt_laws::{laws, links};
 use pt_supervisor::Supervised;
+
+/// The laws of histories on which the promises on still nodes rest. The function does nothing: its contract is these
+/// laws.
+///
+/// A journal tells its own pids (`say`). Journals whose lanes agree have a merge (`there`), it is legal (`legal`), and
+/// who is linked in it is known (`known`). A reference is made once (`once`), and stamps make new ids (`stamps`).
+pub fn still_node_laws()
+    ensures { StillLaws }
+{
+    laws::journals_tell_their_pids();
+    laws::journals_have_one_merge();
+    laws::merge_is_legal();
+    links::merge_known();
+    laws::one_down();
+    laws::stamps_make_new_ids();
+}
 
 /// In a node that is still, each child that its supervisor wants alive is alive, or unlinked itself from the
 /// supervisor; unless the supervisor is ending a child that traps exits and lives on. Such a child has no time to be
@@ -46,12 +62,7 @@ pub fn quiet_children_live<B: Supervised + Drop>()
     ensures idle { (c : Crew B) (d : ShardState) → IsAwake (members c) (queue c) d → queue c ≡ [] → IsIdle c d }
     ensures live { QuietChildrenLive B.supervisor }
 {
-    laws::journals_tell_their_pids();
-    laws::journals_have_one_merge();
-    laws::merge_is_legal();
-    links::merge_known();
-    laws::one_down();
-    laws::stamps_make_new_ids();
+    still_node_laws();
 }
 
 /// If a supervisor stopped by itself, no child that it ever started is alive, unless that child sent it an exit signal.

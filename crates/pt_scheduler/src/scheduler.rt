@@ -13,6 +13,8 @@ ghost use Rattle.pt_crew.specs.Crews.{AreBorn, Attends, Enters, HasRoom, IsNextT
 ghost use Rattle.pt_crew.specs.Crews.{crew_size, left, queue, roles, time_of, was_refused};
 ghost use Rattle.pt_crew.specs.Running.{is_idle};
 ghost use Rattle.pt_crew.specs.Stepping.{BeginsStep, EndsStep, EntersChild, IsAnswered, QueueIsLonger, is_running};
+ghost use Rattle.pt_supervisor.specs.Keeping.{SupervisorBegins};
+ghost use Rattle.pt_scheduler.specs.Members.{boss_part};
 ghost use Rattle.pt_scheduler.specs.Owning.{desk_after, desk_of};
 ghost use Rattle.pt_scheduler.specs.Scheduling.{AreAllQueued, BecomesBoss, Fills, IsNoBoss, NoneNoted, NotesLoss};
 ghost use Rattle.pt_scheduler.specs.Scheduling.{NotesLost, Pulls, SchedulerAttends, SchedulerGoesOn, SchedulerUpholds};
@@ -164,8 +166,23 @@ impl Scheduler {
         ensures desk { desk_of self.new ≡ desk_after result desk.old.shard.number (desk_of self.old) }
         ensures goes_on { GoesOn desk.old desk.new }
     {
+        self.enter(desk, Member::new(tag, None), first)
+    }
+
+    /// Spawns a process on the desk as this member, which has told of no exit. The process does this first.
+    ///
+    /// It fails as [`Desk::spawn`] does, and with `Memory` if there is none here; then nothing has changed.
+    fn enter(&mut self, desk: &mut Desk, member: Member, first: Next) -> Result<Pid, Fault>
+        requires { member.notes.ended ≡ None }
+        ensures does { Enters member first (crew_of self.old) desk.old.shard result (crew_of self.new) desk.new.shard }
+        ensures attends { SchedulerAttends self.old desk.old.shard → SchedulerAttends self.new desk.new.shard }
+        ensures upholds { (past : Past) → SupervisorBegins (boss_part member) first
+            → SchedulerUpholds past self.old desk.old.shard → SchedulerUpholds past self.new desk.new.shard }
+        ensures desk { desk_of self.new ≡ desk_after result desk.old.shard.number (desk_of self.old) }
+        ensures goes_on { GoesOn desk.old desk.new }
+    {
         let own = desk.number();
-        let pid = self.crew.enter(desk, Member::new(tag, None), first)?;
+        let pid = self.crew.enter(desk, member, first)?;
         let _lawful = desk.journal();
         self.desk = Some(own);
         Ok(pid)
@@ -219,14 +236,8 @@ impl Scheduler {
         ensures desk { desk_of self.new ≡ desk_after result desk.old.shard.number (desk_of self.old) }
         ensures goes_on { GoesOn desk.old desk.new }
     {
-        let own = desk.number();
         let boss = supervisor(alloc, spec, children)?;
-        let pid = self
-            .crew
-            .enter(desk, Member::new(tag, Some(boss)), Next::Proceed)?;
-        let _lawful = desk.journal();
-        self.desk = Some(own);
-        Ok(pid)
+        self.enter(desk, Member::new(tag, Some(boss)), Next::Proceed)
     }
 
     /// Says that a running process is a supervisor from now on, which starts its children when it runs.

@@ -2,7 +2,7 @@
 
 ghost use Rattle.pt_scheduler_laws.specs.Quieting.{SchedulersChildrenLive};
 
-use pt_laws::{laws, links};
+use pt_pauses::still_node_laws;
 
 /// Once no scheduler of a node has anything to do, and the node is gathered and settled, each child that a live supervisor
 /// wants alive is alive, on each desk, or unlinked itself; unless the supervisor is ending a child that traps exits and
@@ -13,10 +13,5 @@ use pt_laws::{laws, links};
 pub fn node_children_live()
     ensures { SchedulersChildrenLive }
 {
-    laws::journals_tell_their_pids();
-    laws::journals_have_one_merge();
-    laws::merge_is_legal();
-    links::merge_known();
-    laws::one_down();
-    laws::stamps_make_new_ids();
+    still_node_laws();
 }

@@ -6,6 +6,7 @@ use Rattle.pt_signal.specs.declared.letter.Letter.{Letter}
 use Rattle.pt_carrier.specs.Ends.{Place, OutEnds, InEnds}
 use Rattle.pt_carrier.specs.Meeting.{HaveMet, Meets, out_kept, in_kept}
 use Rattle.pt_signal.proofs.Lists.{get_or-map_read, map-set_same}
+use Rattle.pt_carrier.proofs.Lists.{set_parts, set_parts_back, front_read, back_read}
 use Rattle.pt_carrier.proofs.Places.{out_number, in_number, out_lanes, in_lanes}
 use Rattle.pt_shard.specs.ShardState.{ShardState}
 use Rattle.pt_desk.specs.Sight.{Sight}
@@ -230,3 +231,35 @@ module _ (desks : List DeskState) (node : AreDesks desks) (d : ℕ) (p p' : Desk
         (λ (apart : i ≢ d). ap (λ (z : DeskState). get_or z.outs.seen k 0) (else_at i x apart))
         (cases_eq i d);
   }
+
+-- two desks of a list that is cut at the later one: the earlier is at place `low` of the front, and the later begins the back
+module _ (desks front back : List DeskState) (cut : desks ≡ front ++ back) (node : AreDesks desks) (low high : ℕ) (at : length front ≡ high) (below : low < high) (within : high < length desks) (p q : DeskState) (p_is : p ≡ get_or front low p) (q_is : q ≡ get_or back 0 q) where
+  low_in : low < length desks
+  low_in = omega (arith, below, within)
+
+  p_read : p ≡ get_or desks low p
+  p_read = rw cut (front_read front back high at low p below p_is)
+
+  q_read : q ≡ get_or desks high q
+  q_read = rw cut (back_read front back high at q q_is)
+
+  apart : low ≢ high
+  apart = λ w. omega (arith, below, w)
+
+  -- the look from the earlier to the later
+  pub can_meet_up : Meets p.outs q.ins
+  can_meet_up = can_meet desks node low high p q low_in within p_read q_read
+
+  pub meet_up : (p' q' : DeskState) → DesksMeet p q p' q' → MeetsAt low high desks (set front low p' ++ set back 0 q')
+  meet_up p' q' meet =
+      subst (MeetsAt low high desks) (ap (λ (l : List DeskState). set (set l low p') high q') cut ∙ sym (set_parts front back high at low p' q' below))
+      (two_meet desks node low high p q p' q' low_in within p_read q_read apart meet)
+
+  -- the look from the later to the earlier
+  pub can_meet_down : Meets q.outs p.ins
+  can_meet_down = can_meet desks node high low q p within low_in q_read p_read
+
+  pub meet_down : (p' q' : DeskState) → DesksMeet q p q' p' → MeetsAt high low desks (set front low p' ++ set back 0 q')
+  meet_down p' q' meet =
+      subst (MeetsAt high low desks) (ap (λ (l : List DeskState). set (set l high q') low p') cut ∙ sym (set_parts_back front back high at low p' q' below))
+      (two_meet desks node high low q p q' p' within low_in q_read p_read (λ w. apart (sym w)) meet)

@@ -162,6 +162,16 @@ module _ {W : Type 0} (lets : BeginRelation W) (does : WorkRelation W) (budget :
   pub round_more : (n turn : ℕ) (old mid new : Workers W) → Rounds lets does budget n turn old mid → Round lets does budget turn n mid new → Rounds lets does budget n (turn + 1) old new
   round_more n turn old mid new r next = let e : suc turn ≡ turn + 1 = omega arith in subst (λ k. Rounds lets does budget n k old new) e (mid, r, next)
 
+  -- one round more from the start, of at most 64 workers
+  pub one_round_more : (turn : ℕ) (start : List (DeskState × W)) (old new : Workers W) → AllGoOn start old.0 → length old.1 ≡ 64 → length start ≤ 64 → Rounds lets does budget (length start) turn (start, replicate 64 false) old → AllSoFar turn start old
+      → Round lets does budget turn (length old.0) old new → Rounds lets does budget (length start) (turn + 1) (start, replicate 64 false) new × (length new.1 ≡ 64) × AllSoFar (turn + 1) start new
+  one_round_more turn start old new went long few rounds so_far next =
+      let round = subst (λ n. Round lets does budget turn n old new) went.count next in (
+        round_more (length start) turn (start, replicate 64 false) old new rounds round,
+        (round_counts turn (length start) old new round).1 ∙ long,
+        all_one_more turn start old new went (omega (arith, long, few)) so_far round,
+      )
+
   pub turn_more : (turn d : ℕ) (old mid new : Workers W) → Round lets does budget turn d old mid → HasTurn lets does budget turn d mid new → Round lets does budget turn (d + 1) old new
   turn_more turn d old mid new r next = let e : suc d ≡ d + 1 = omega arith in subst (λ k. Round lets does budget turn k old new) e (mid, r, next)
 

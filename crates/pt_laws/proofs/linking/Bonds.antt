@@ -323,6 +323,13 @@ module _ (made mine theirs : LinkId → Bool) (B : Seen) (F G : List Tie) where
 -- a birth that links the child, here, and the parent, there, where the parent made no link to it before
 module _ (made mine theirs : LinkId → Bool) (F G : List Tie) (o : Option Ids) (j : LinkId) (fresh : made j ≡ false)
     (none : (i : LinkId) → theirs i ≡ false) where
+  unheld : Bond made mine theirs before (here o) F G → (i : LinkId) → has i o ≡ false
+  unheld b i = go (has i o) refl
+    where
+      go : (c : Bool) → has i o ≡ c → has i o ≡ false
+      go true e = absurd (not_or (theirs i) (mine i) (none i) (b.left.unborn refl i) (b.right.known i e))
+      go false e = e
+
   one_bond : Bond made mine theirs before (here o) F G → Bond (plus j made) mine (plus j theirs) (here (Some (one_id j))) (here (Some (one_id j))) F G
   one_bond b = record {
     left = record {
@@ -368,29 +375,15 @@ module _ (made mine theirs : LinkId → Bool) (F G : List Tie) (o : Option Ids) 
       is_new : (i : LinkId) → (same_link i j || false) ≡ true → plus j theirs i ≡ true
       is_new i h = or_left (same_link i j) (theirs i) (or_first (same_link i j) false refl h)
 
-      unheld : (i : LinkId) → has i o ≡ false
-      unheld i = go (has i o) refl
-        where
-          go : (c : Bool) → has i o ≡ c → has i o ≡ false
-          go true e = absurd (not_or (theirs i) (mine i) (none i) (b.left.unborn refl i) (b.right.known i e))
-          go false e = e
-
       each : Pair mine theirs before (here o) F G → (i : LinkId) → (c : Bool) → same_link i j ≡ c
           → will i (same_link i j || false) F ≡ will i (same_link i j || false) G
       each p i true e =
           let m = subst (λ z. made z ≡ false) (sym (same_link_is i j e)) fresh in
           let y = will_unnamed i F true (b.right.new i m) in let z = will_unnamed i G true (b.left.new i m) in rw e (y ∙ sym z)
-      each p i false e = let z : will i false F ≡ will i false G = ap (λ c. will i c F) (sym (unheld i)) ∙ p.same i in rw e z
+      each p i false e = let z : will i false F ≡ will i false G = ap (λ c. will i c F) (sym (unheld b i)) ∙ p.same i in rw e z
 
   pub born_linked : Bond made mine theirs before (here o) F G
       → Bond (plus j made) mine (plus j theirs) (here (Some (one_id j))) (here (Some (entered o j))) F G
   born_linked b =
       subst (λ o. Bond (plus j made) mine (plus j theirs) (here (Some (one_id j))) (here (Some (entered o j))) F G)
-      (sym (empty_entry o unheld)) (one_bond b)
-    where
-      unheld : (i : LinkId) → has i o ≡ false
-      unheld i = go (has i o) refl
-        where
-          go : (c : Bool) → has i o ≡ c → has i o ≡ false
-          go true e = absurd (not_or (theirs i) (mine i) (none i) (b.left.unborn refl i) (b.right.known i e))
-          go false e = e
+      (sym (empty_entry o (unheld b))) (one_bond b)

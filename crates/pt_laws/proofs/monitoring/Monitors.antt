@@ -1,5 +1,5 @@
 -- The invariant of monitors over legal histories, and what it says of quiet ones.
-use Rattle.std.proofs.Common.{◌≡◌, ℕ, zero, suc, ◌+◌, ◌-◌, ◌≤◌, Bool, true, false, cond, ◌&&◌, ◌⊎◌, inl, inr, List, [], ◌∷◌, ◌++◌, Option, Some, refl, sym, ap, ◌∙◌, subst, subst₂, arith}
+use Rattle.std.proofs.Common.{◌≡◌, ℕ, zero, suc, ◌+◌, ◌-◌, ◌≤◌, Bool, true, false, cond, ◌&&◌, ◌⊎◌, inl, inr, List, [], ◌∷◌, ◌++◌, Option, Some, refl, sym, ap, ◌∙◌, subst, subst₂, append-nil, arith}
 use Rattle.std.specs.Prelude.{⊤}
 use Rattle.std.proofs.lemmas.Bool.{false≢true, both_ways, and_parts, and_right, or_parts}
 use Rattle.std.specs.List.{find}
@@ -188,6 +188,15 @@ module _ (w t : Pid) (m : Ref) where
   same_inv P K D O Q M P2 K2 D2 O2 Q2 M2 h e1 e2 e3 e4 e5 e6 =
       let a = h.tokens in let b = h.opened in let c = h.maker in let d = h.justified in
       record { tokens = omega arith; opened = omega arith; maker = omega arith; justified = omega arith }
+
+  -- an event that sends nothing, and neither opens nor ends a monitor of theirs
+  silent : (past after : Past) → flying [] after ≡ flying [] past ++ [] → M_of after ≡ M_of past → K_of after ≡ K_of past → O_of after ≡ O_of past → Monitored past → Monitored after
+  silent past after none said k o h =
+      let same : flying [] after ≡ flying [] past = none ∙ append-nil (flying [] past) in
+      record {
+        counts = same_inv _ _ _ _ _ _ _ _ _ _ _ _ h.counts (ap (count mon) same) k (ap (count dwn) same) o (ap (count dem) same) said;
+        ordered = subst Ordered (sym same) h.ordered;
+      }
 
   -- a Said
   said_inv : (P K D O Q M O2 μ δ : ℕ) → Inv P K D O Q M → O2 + δ ≡ O + μ → Inv (P + μ) K D O2 (Q + δ) (M + μ)
@@ -432,43 +441,19 @@ module _ (m : Ref) where
       (each_branch (λ f. open_in w t m f ≡ O_of w t m past) (same_pid w c) _ _ (open_born m w t parent link (life [] past w)) (open_while m w t (linked (Some c) link) (linked_keeps (λ s. s.watching) (λ l s. refl) (Some c) link) (life [] past w))) refl in
       let k = each_branch (λ f. kept_in w t m f ≡ K_of w t m past) (touches t (Born c parent link)) _ _
       (each_branch (λ f. kept_in w t m f ≡ K_of w t m past) (same_pid t c) _ _ (kept_born m w t parent link (life [] past t)) (kept_while m w t (linked (Some c) link) (linked_keeps (λ s. s.kept) (λ l s. refl) (Some c) link) (life [] past t))) refl in
-      let p = count-append (mon w t m) (flying [] past) [] in
-      let q = count-append (dem w t m) (flying [] past) [] in
-      let d = count-append (dwn w t m) (flying [] past) [] in
-      record {
-        counts = same_inv w t m _ _ _ _ _ _ _ _ _ _ _ _ ih.counts (omega arith) k (omega arith) o (omega arith) (omega arith);
-        ordered = ordered_quiet w t m (flying [] past) [] ih.ordered refl;
-      }
+      silent w t m past _ refl (omega arith) k o ih
   monitored (Took c j i ∷ past) h w t =
       let ih = monitored past h.1 w t in
       let o = each_branch (λ f. open_in w t m f ≡ O_of w t m past) (same_pid w c) _ _ (open_while m w t _ (λ s. refl) (life [] past w)) refl in
       let k = each_branch (λ f. kept_in w t m f ≡ K_of w t m past) (same_pid t c) _ _ (kept_while m w t _ (λ s. refl) (life [] past t)) refl in
-      let p = count-append (mon w t m) (flying [] past) [] in
-      let q = count-append (dem w t m) (flying [] past) [] in
-      let d = count-append (dwn w t m) (flying [] past) [] in
-      record {
-        counts = same_inv w t m _ _ _ _ _ _ _ _ _ _ _ _ ih.counts (omega arith) k (omega arith) o (omega arith) (omega arith);
-        ordered = ordered_quiet w t m (flying [] past) [] ih.ordered refl;
-      }
+      silent w t m past _ refl (omega arith) k o ih
   monitored (Flag c on ∷ past) h w t =
       let ih = monitored past h.1 w t in
       let o = each_branch (λ f. open_in w t m f ≡ O_of w t m past) (same_pid w c) _ _ (open_while m w t _ (λ s. refl) (life [] past w)) refl in
       let k = each_branch (λ f. kept_in w t m f ≡ K_of w t m past) (same_pid t c) _ _ (kept_while m w t _ (λ s. refl) (life [] past t)) refl in
-      let p = count-append (mon w t m) (flying [] past) [] in
-      let q = count-append (dem w t m) (flying [] past) [] in
-      let d = count-append (dwn w t m) (flying [] past) [] in
-      record {
-        counts = same_inv w t m _ _ _ _ _ _ _ _ _ _ _ _ ih.counts (omega arith) k (omega arith) o (omega arith) (omega arith);
-        ordered = ordered_quiet w t m (flying [] past) [] ih.ordered refl;
-      }
+      silent w t m past _ refl (omega arith) k o ih
   monitored (e ∷ past) h w t =
       let ih = monitored past h.1 w t in
       let o : open_in w t m (life [] (e ∷ past) w) ≡ O_of w t m past = refl in
       let k : kept_in w t m (life [] (e ∷ past) t) ≡ K_of w t m past = refl in
-      let p = count-append (mon w t m) (flying [] past) [] in
-      let q = count-append (dem w t m) (flying [] past) [] in
-      let d = count-append (dwn w t m) (flying [] past) [] in
-      record {
-        counts = same_inv w t m _ _ _ _ _ _ _ _ _ _ _ _ ih.counts (omega arith) k (omega arith) o (omega arith) (omega arith);
-        ordered = ordered_quiet w t m (flying [] past) [] ih.ordered refl;
-      }
+      silent w t m past _ refl (omega arith) k o ih

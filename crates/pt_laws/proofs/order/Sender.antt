@@ -130,32 +130,33 @@ user_items a p me s c (LinkExit ids r) = no_user_by_link a p (holds_any (held s.
 user_items a p me s c (Signal.Down m r) = no_user_down a p (lookup (same_ref m) s.watching) s c m r ∙ both _
 user_items a p me s c _ = both _
 
+-- a total in three parts: before the birth, in the life, and after the end
+-- V is empty before birth, W until the end
+pub record Parts (f : Phase) (total U V W : List Body) : Type 0 where
+  pub joined : total ≡ (U ++ V) ++ W
+  pub none_before : is_unborn f ≡ true → V ≡ []
+  pub none_yet : is_ended f ≡ false → W ≡ []
+
+-- one more receipt
+pub record Part (f : Phase) (t u v w : List Body) : Type 0 where
+  pub before : is_unborn f ≡ true → (u ≡ t) × (v ≡ []) × (w ≡ [])
+  pub during : is_unborn f ≡ false → is_ended f ≡ false → (u ≡ []) × (v ≡ t) × (w ≡ [])
+  pub behind : is_ended f ≡ true → (u ≡ []) × (v ≡ []) × (w ≡ t)
+
+pub more : (f : Phase) (total U V W t u v w : List Body) → Parts f total U V W → Part f t u v w
+    → total ++ t ≡ ((U ++ u) ++ (V ++ v)) ++ (W ++ w)
+more unborn total U V W t u v w h k =
+    let e1 = h.none_before refl in let e2 = h.none_yet refl in let e3 = k.before refl in
+    rw (e3.0, e3.1, e3.2, e1, e2, h.joined) (simp (append-nil, e1, e2))
+more (living s) total U V W t u v w h k =
+    let e2 = h.none_yet refl in let e3 = k.during refl refl in
+    rw (e3.0, e3.1, e3.2, h.joined) (simp (append-nil, e2, append_assoc))
+more (ended r s) total U V W t u v w h k =
+    let e3 = k.behind refl in
+    rw (e3.0, e3.1, e3.2, h.joined) (simp (append-nil, append_assoc))
+
 -- what the event adds to the three parts, by the phase
 module _ (a p : Pid) where
-  -- V is empty before birth, W until the end
-  record Parts (f : Phase) (total U V W : List Body) : Type 0 where
-    joined : total ≡ (U ++ V) ++ W
-    none_before : is_unborn f ≡ true → V ≡ []
-    none_yet : is_ended f ≡ false → W ≡ []
-
-  -- one more receipt
-  record Part (f : Phase) (t u v w : List Body) : Type 0 where
-    before : is_unborn f ≡ true → (u ≡ t) × (v ≡ []) × (w ≡ [])
-    during : is_unborn f ≡ false → is_ended f ≡ false → (u ≡ []) × (v ≡ t) × (w ≡ [])
-    behind : is_ended f ≡ true → (u ≡ []) × (v ≡ []) × (w ≡ t)
-
-  more : (f : Phase) (total U V W t u v w : List Body) → Parts f total U V W → Part f t u v w
-      → total ++ t ≡ ((U ++ u) ++ (V ++ v)) ++ (W ++ w)
-  more unborn total U V W t u v w h k =
-      let e1 = h.none_before refl in let e2 = h.none_yet refl in let e3 = k.before refl in
-      rw (e3.0, e3.1, e3.2, e1, e2, h.joined) (simp (append-nil, e1, e2))
-  more (living s) total U V W t u v w h k =
-      let e2 = h.none_yet refl in let e3 = k.during refl refl in
-      rw (e3.0, e3.1, e3.2, h.joined) (simp (append-nil, e2, append_assoc))
-  more (ended r s) total U V W t u v w h k =
-      let e3 = k.behind refl in
-      rw (e3.0, e3.1, e3.2, h.joined) (simp (append-nil, append_assoc))
-
   part_of : (start : Start) (past : Past) (e : Event) (f : Phase) → life start past p ≡ f
       → Part f (came_by_when a p (λ f. true) f e) (came_by_when a p is_unborn f e) (users a p (arrives start past p e)) (came_by_when a p is_ended f e)
   part_of start past (Came c d x) unborn l = record {

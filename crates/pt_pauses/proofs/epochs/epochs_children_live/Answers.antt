@@ -17,25 +17,11 @@ returns-clause-threads g c = λ past plan most why old new passes h.
 pub returns-clause-idle : goal.returns-clause-idle
 returns-clause-idle g c = λ past plan history old new passes h.
     idle_lives g.B.Behaviour.answers g.B.Supervised.supervisor g.met.B.Supervised.supervises g.S.Sink.takes g.S.Sink.refuses (g.D.Drive.lets c.args.drive.now) plan
-    (record {
-      say = c.journals_tell_their_pids.ensures.journals;
-      there = c.journals_have_one_merge.ensures.there;
-      legal = c.merge_is_legal.ensures;
-      known = c.merge_known.ensures;
-      once = c.one_down.ensures.over;
-      stamps = c.stamps_make_new_ids.ensures.new;
-    })
+    c.still_node_laws.ensures
     c.receipts_lower_the_load.ensures.empty c.resumed_links.ensures.merge c.quiet_monitors.ensures.since c.quiet_monitors.ensures.over_watches past history old new passes h
 
 pub returns-clause-idle_threads : goal.returns-clause-idle_threads
 returns-clause-idle_threads g c = λ past plan history old new passes h.
     idle_lives g.B.Behaviour.answers g.B.Supervised.supervisor g.met.B.Supervised.supervises g.S.Sink.takes g.S.Sink.refuses (lets_short plan.events) plan
-    (record {
-      say = c.journals_tell_their_pids.ensures.journals;
-      there = c.journals_have_one_merge.ensures.there;
-      legal = c.merge_is_legal.ensures;
-      known = c.merge_known.ensures;
-      once = c.one_down.ensures.over;
-      stamps = c.stamps_make_new_ids.ensures.new;
-    })
+    c.still_node_laws.ensures
     c.receipts_lower_the_load.ensures.empty c.resumed_links.ensures.merge c.quiet_monitors.ensures.since c.quiet_monitors.ensures.over_watches past history old new passes h

@@ -26,11 +26,4 @@ returns-clause-rests g c =
 
 pub returns-clause-live : goal.returns-clause-live
 returns-clause-live g c = all_children_live g.B.Supervised.supervisor
-    (record {
-      say = c.journals_tell_their_pids.ensures.journals;
-      there = c.journals_have_one_merge.ensures.there;
-      legal = c.merge_is_legal.ensures;
-      known = c.merge_known.ensures;
-      once = c.one_down.ensures.over;
-      stamps = c.stamps_make_new_ids.ensures.new;
-    })
+    c.still_node_laws.ensures

@@ -16,19 +16,12 @@ returns-clause-resumes g c = resuming_holds g.B.Behaviour.answers g.B.Supervised
 pub returns-clause-live : goal.returns-clause-live
 returns-clause-live g c =
     held_live g.B.Behaviour.answers g.B.Supervised.supervisor g.met.B.Supervised.supervises
-    (record {
-      say = c.journals_tell_their_pids.ensures.journals;
-      there = c.journals_have_one_merge.ensures.there;
-      legal = c.merge_is_legal.ensures;
-      known = c.merge_known.ensures;
-      once = c.one_down.ensures.over;
-      stamps = c.stamps_make_new_ids.ensures.new;
-    })
+    c.still_node_laws.ensures
     c.receipts_lower_the_load.ensures.empty c.resumed_links.ensures.merge c.quiet_monitors.ensures.since c.quiet_monitors.ensures.over_watches
 
 pub returns-clause-ended : goal.returns-clause-ended
 returns-clause-ended g c =
-    held_ended g.B.Behaviour.answers g.B.Supervised.supervisor g.met.B.Supervised.supervises c.merge_is_legal.ensures c.merge_known.ensures
+    held_ended g.B.Behaviour.answers g.B.Supervised.supervisor g.met.B.Supervised.supervises c.still_node_laws.ensures.legal c.still_node_laws.ensures.known
 
 pub returns-clause-halts : goal.returns-clause-halts
 returns-clause-halts g c = halted_epoch_holds g.B.Behaviour.answers g.B.Supervised.supervisor g.met.B.Supervised.supervises g.S.Sink.takes g.S.Sink.refuses

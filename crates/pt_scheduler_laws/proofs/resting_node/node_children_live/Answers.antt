@@ -9,13 +9,6 @@ use Rattle.pt_scheduler_laws.proofs.resting_node.node_children_live.Goals as goa
 pub returns : goal.returns
 returns c = λ past schedulers desks g u idle.
     all_children_live boss_part
-    (record {
-      say = c.journals_tell_their_pids.ensures.journals;
-      there = c.journals_have_one_merge.ensures.there;
-      legal = c.merge_is_legal.ensures;
-      known = c.merge_known.ensures;
-      once = c.one_down.ensures.over;
-      stamps = c.stamps_make_new_ids.ensures.new;
-    })
+    c.still_node_laws.ensures
     past (map crew_of schedulers) desks g
     (crews_uphold past schedulers desks u) (crews_idle past schedulers desks u idle)

@@ -8,8 +8,7 @@ use Rattle.pt_crew.specs.Crews.{members, queue, role, roles}
 use Rattle.pt_crew.specs.Stepping.{is_running}
 use Rattle.pt_behaviour.specs.Behaving.{limit_of}
 use Rattle.pt_crew.specs.Waking.{has_work}
-use Rattle.pt_crew.proofs.Answering.{is_member, is_role, knows_replaced, put_at, put_attends, put_back_same, put_room, rests_endless, rests_task, role_set, runs_next, same_both, timed_replaced, was_running}
-use Rattle.pt_crew.proofs.Places.{written_at}
+use Rattle.pt_crew.proofs.Answering.{is_role, knows_replaced, put_at, put_attends, put_back_same, put_room, rests_endless, rests_task, role_set, runs_next, set_at, same_both, timed_replaced, was_running}
 use Rattle.pt_crew.proofs.Reading.{woke_knows}
 use Rattle.pt_crew.proofs.Room.{on_err}
 use Rattle.pt_crew.proofs.Visiting.{rest_then}
@@ -37,17 +36,14 @@ returns-then-rests-clause-is g c =
 
 pub returns-then-rests-clause-answered : goal.returns-then-rests-clause-answered
 returns-then-rests-clause-answered g c =
-    let e = c.pair_mut-member.ensures in
-    let old = c.args.self.now in
-    let p = c.args.p in
-    let i = c.in-Some.place in
-    let k = c.pair_mut-member.result.0.now in
     let v = c.pair_mut-member.result.1.now in
-    let w : Member g.row.B.Denot = record v { next = c.args.next } in
+    let e = c.pair_mut-member.ensures in
+    let at = set_at c.args.self.now c.args.p c.in-Some.place c.pair_mut-member.result.0.now v c.place_of.new.self c.in-Some.ensures.index e.value e.unique (record v { next = c.args.next }) in
+    let old = c.args.self.now in
     record {
       behaviour = v.behaviour;
-      ran = was_running old p i k v c.place_of.new.self c.in-Some.ensures.index e.value e.unique (sym c.runs.ensures ∙ c.if-not-runs.false);
-      does = role_set (members old) _ p v w (is_member old p i k v c.place_of.new.self c.in-Some.ensures.index e.value e.unique) (written_at old.members p i k v c.in-Some.ensures.index e.value e.unique w).0 v.behaviour c.args.next refl refl;
+      ran = was_running old c.args.p c.in-Some.place c.pair_mut-member.result.0.now v c.place_of.new.self c.in-Some.ensures.index e.value e.unique (sym c.runs.ensures ∙ c.if-not-runs.false);
+      does = role_set (members old) _ c.args.p v _ at.0 at.1 v.behaviour c.args.next refl refl;
       longer = ([], sym (append-nil (queue old)));
       read = refl;
       rest = record { waiting = refl; left = refl; refused = refl; rounds = refl; time = refl };
@@ -55,23 +51,18 @@ returns-then-rests-clause-answered g c =
 
 pub returns-then-rests-clause-attends : goal.returns-then-rests-clause-attends
 returns-then-rests-clause-attends g c =
-    let e = c.pair_mut-member.ensures in
-    let old = c.args.self.now in
-    let p = c.args.p in
-    let i = c.in-Some.place in
-    let k = c.pair_mut-member.result.0.now in
     let v = c.pair_mut-member.result.1.now in
-    let w : Member g.row.B.Denot = record v { next = c.args.next } in
-    let held = is_member old p i k v c.place_of.new.self c.in-Some.ensures.index e.value e.unique in
-    let set = (written_at old.members p i k v c.in-Some.ensures.index e.value e.unique w).0 in
+    let e = c.pair_mut-member.ensures in
+    let at = set_at c.args.self.now c.args.p c.in-Some.place c.pair_mut-member.result.0.now v c.place_of.new.self c.in-Some.ensures.index e.value e.unique (record v { next = c.args.next }) in
+    let old = c.args.self.now in
     let rests = sym c.rests.ensures ∙ c.if-rests.true in
     let ran = runs_next v.next (sym c.runs.ensures ∙ c.if-not-runs.false) in
     λ d a. (
       refl,
       record {
-        knows = knows_replaced (members old) _ p v w held set refl (λ f work. rests_task c.args.next v.clear f (has_work v.next f) rests work) (queue old) old.read d a.knows;
-        room = put_room old p i k v c.place_of.new.self c.in-Some.ensures.index e.value e.unique w refl a.room;
-        timers = timed_replaced (members old) _ p v w held set refl (rests_endless c.args.next v.clear rests ∙ sym (ap limit_of ran)) old.timers refl a.timers;
+        knows = knows_replaced (members old) _ c.args.p v _ at.0 at.1 refl (λ f work. rests_task c.args.next v.clear f (has_work v.next f) rests work) (queue old) old.read d a.knows;
+        room = put_room old c.args.p c.in-Some.place c.pair_mut-member.result.0.now v c.place_of.new.self c.in-Some.ensures.index e.value e.unique (record v { next = c.args.next }) refl a.room;
+        timers = timed_replaced (members old) _ c.args.p v _ at.0 at.1 refl (rests_endless c.args.next v.clear rests ∙ sym (ap limit_of ran)) old.timers refl a.timers;
       },
     )
 

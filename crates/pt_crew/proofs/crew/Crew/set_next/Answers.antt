@@ -1,56 +1,34 @@
 -- `Crew::set_next`: its clauses `set`, `knows`, `room` and `timers`.
 use Rattle.std.proofs.Common.{ap, sym, refl, ◌∙◌, arith}
 use Rattle.std.specs.Option.{option_map}
-use Rattle.pt_crew.specs.declared.crew.Member.{Member}
 use Rattle.pt_behaviour.specs.declared.behaviour.Next.{Next}
 use Rattle.pt_crew.specs.Crews.{members, role}
-use Rattle.pt_crew.proofs.Places.{held_at, written_at}
 use Rattle.pt_crew.proofs.Room.{unmarked_set}
 use Rattle.pt_behaviour.proofs.Cases.{same_some}
-use Rattle.pt_crew.proofs.Answering.{role_set, knows_set, timed_set}
+use Rattle.pt_crew.proofs.Answering.{set_at, role_set, knows_set, timed_set}
 use Rattle.pt_crew.proofs.crew.Crew.set_next.Goals as goal
 
 pub returns-clause-set : goal.returns-clause-set
 returns-clause-set g c =
-    let m = c.args.self.now.members in
-    let p = c.args.p in
-    let i = c.in-Some.place in
-    let k = c.pair_mut-member.result.0.now in
     let v = c.pair_mut-member.result.1.now in
-    let at = c.pair_mut-member.ensures.value in
-    let unique = c.pair_mut-member.ensures.unique in
-    let w : Member g.row.B.Denot = record v { next = c.args.next } in
-    let held = held_at m p i k v c.in-Some.ensures.index at unique in
-    λ b n was. role_set (members c.args.self.now) _ p v w held (written_at m p i k v c.in-Some.ensures.index at unique w).0 b c.args.next
-    (ap (λ (r : g.row.B.Denot × Next). r.0) (same_some (role v) (b, n) (sym (ap (option_map role) held) ∙ was))) refl
+    let e = c.pair_mut-member.ensures in
+    let at = set_at c.args.self.now c.args.p c.in-Some.place c.pair_mut-member.result.0.now v c.place_of.new.self c.in-Some.ensures.index e.value e.unique (record v { next = c.args.next }) in
+    λ b n was. role_set (members c.args.self.now) _ c.args.p v _ at.0 at.1 b c.args.next
+    (ap (λ (r : g.row.B.Denot × Next). r.0) (same_some (role v) (b, n) (sym (ap (option_map role) at.0) ∙ was))) refl
 
 pub returns-clause-knows : goal.returns-clause-knows
 returns-clause-knows g c =
-    let m = c.args.self.now.members in
-    let p = c.args.p in
-    let i = c.in-Some.place in
-    let k = c.pair_mut-member.result.0.now in
     let v = c.pair_mut-member.result.1.now in
-    let at = c.pair_mut-member.ensures.value in
-    let unique = c.pair_mut-member.ensures.unique in
-    let w : Member g.row.B.Denot = record v { next = c.args.next } in
-    let held = held_at m p i k v c.in-Some.ensures.index at unique in
-    λ d all known. knows_set (members c.args.self.now) _ p v w held (written_at m p i k v c.in-Some.ensures.index at unique w).0 (all v held) (all v held)
-    c.args.self.now.queue.items c.args.self.now.read d known
+    let e = c.pair_mut-member.ensures in
+    let at = set_at c.args.self.now c.args.p c.in-Some.place c.pair_mut-member.result.0.now v c.place_of.new.self c.in-Some.ensures.index e.value e.unique (record v { next = c.args.next }) in
+    λ d all known. knows_set (members c.args.self.now) _ c.args.p v _ at.0 at.1 (all v at.0) (all v at.0) c.args.self.now.queue.items c.args.self.now.read d known
 
 pub returns-clause-timers : goal.returns-clause-timers
 returns-clause-timers g c =
-    let m = c.args.self.now.members in
-    let p = c.args.p in
-    let i = c.in-Some.place in
-    let k = c.pair_mut-member.result.0.now in
     let v = c.pair_mut-member.result.1.now in
-    let at = c.pair_mut-member.ensures.value in
-    let unique = c.pair_mut-member.ensures.unique in
-    let w : Member g.row.B.Denot = record v { next = c.args.next } in
-    let held = held_at m p i k v c.in-Some.ensures.index at unique in
-    λ all timed. timed_set (members c.args.self.now) _ p v w held (written_at m p i k v c.in-Some.ensures.index at unique w).0 (all v held) (all v held)
-    c.args.self.now.timers refl timed
+    let e = c.pair_mut-member.ensures in
+    let at = set_at c.args.self.now c.args.p c.in-Some.place c.pair_mut-member.result.0.now v c.place_of.new.self c.in-Some.ensures.index e.value e.unique (record v { next = c.args.next }) in
+    λ all timed. timed_set (members c.args.self.now) _ c.args.p v _ at.0 at.1 (all v at.0) (all v at.0) c.args.self.now.timers refl timed
 
 pub returns-clause-room : goal.returns-clause-room
 returns-clause-room g c =

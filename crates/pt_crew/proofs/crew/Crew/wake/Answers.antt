@@ -7,25 +7,20 @@ use Rattle.pt_crew.proofs.Reading.{absent_wakes}
 use Rattle.pt_crew.proofs.Timing.{queued_bare, stopped_fewer, stopped_timers, stops_held, timed_same}
 use Rattle.pt_crew.proofs.Room.{unmarked_set, bare, on_err}
 use Rattle.pt_crew.specs.Crews.{members}
-use Rattle.pt_crew.proofs.Places.{held_at, written_at}
+use Rattle.pt_crew.proofs.Answering.{set_at}
 use Rattle.pt_crew.proofs.Beginning.{keys_set}
 use Rattle.pt_crew.proofs.crew.Crew.wake.Goals as goal
 
 pub returns-then-member-clause-wakes : goal.returns-then-member-clause-wakes
 returns-then-member-clause-wakes g c =
-    let m = c.args.self.now.members in
-    let p = c.args.p in
-    let i = c.in-Some.place in
-    let k0 = c.pair_mut-member.result.0.now in
     let v = c.pair_mut-member.result.1.now in
-    let at = c.pair_mut-member.ensures.value in
-    let unique = c.pair_mut-member.ensures.unique in
-    let held = held_at m p i k0 v c.in-Some.ensures.index at unique in
-    woken p c.args.self.now _ v v held (written_at m p i k0 v c.in-Some.ensures.index at unique v).0 c.if-member.true refl refl
-    (λ k. same_queue (members c.args.self.now) _ c.args.self.now.queue.items _ (λ q. (written_at m p i k0 v c.in-Some.ensures.index at unique v).0 q ∙ same_back (members c.args.self.now) p v held q) refl k)
+    let e = c.pair_mut-member.ensures in
+    let at = set_at c.args.self.now c.args.p c.in-Some.place c.pair_mut-member.result.0.now v c.place_of.new.self c.in-Some.ensures.index e.value e.unique v in
+    woken c.args.p c.args.self.now _ v v at.0 at.1 c.if-member.true refl refl
+    (λ k. same_queue (members c.args.self.now) _ c.args.self.now.queue.items _ (λ q. at.1 q ∙ same_back (members c.args.self.now) c.args.p v at.0 q) refl k)
     ([], sym (append-nil c.args.self.now.queue.items))
-    (λ k. timed_same (members c.args.self.now) _ c.args.self.now.timers _ (λ q. (written_at m p i k0 v c.in-Some.ensures.index at unique v).0 q ∙ same_back (members c.args.self.now) p v held q) refl k)
-    (λ k t is. some_none _ t (queued_bare (members c.args.self.now) p v c.args.self.now.timers held c.if-member.true k) is)
+    (λ k. timed_same (members c.args.self.now) _ c.args.self.now.timers _ (λ q. at.1 q ∙ same_back (members c.args.self.now) c.args.p v at.0 q) refl k)
+    (λ k t is. some_none _ t (queued_bare (members c.args.self.now) c.args.p v c.args.self.now.timers at.0 c.if-member.true k) is)
     refl
     (record { waiting = refl; left = refl; refused = refl; rounds = refl; time = refl })
 
@@ -37,16 +32,11 @@ returns-then-member-clause-room g c =
 
 pub returns-in_err-reserve-clause-refused : goal.returns-in_err-reserve-clause-refused
 returns-in_err-reserve-clause-refused g c =
-    let m = c.args.self.now.members in
-    let p = c.args.p in
-    let i = c.in-Some.place in
-    let k = c.pair_mut-member.result.0.now in
     let v = c.pair_mut-member.result.1.now in
-    let at = c.pair_mut-member.ensures.value in
-    let unique = c.pair_mut-member.ensures.unique in
-    let held = held_at m p i k v c.in-Some.ensures.index at unique in
+    let e = c.pair_mut-member.ensures in
+    let at = set_at c.args.self.now c.args.p c.in-Some.place c.pair_mut-member.result.0.now v c.place_of.new.self c.in-Some.ensures.index e.value e.unique v in
     on_err _ c.from_residual.result (record {
-      members = λ q. (written_at m p i k v c.in-Some.ensures.index at unique v).0 q ∙ same_back (members c.args.self.now) p v held q;
+      members = λ q. at.1 q ∙ same_back (members c.args.self.now) c.args.p v at.0 q;
       queue = c.reserve.ensures.items;
       read = refl;
       timers = refl;
@@ -74,23 +64,17 @@ returns-clause-room g c =
 
 pub returns-clause-wakes : goal.returns-clause-wakes
 returns-clause-wakes g c =
-    let m = c.args.self.now.members in
-    let p = c.args.p in
-    let i = c.in-Some.place in
-    let k = c.pair_mut-member.result.0.now in
     let v = c.pair_mut-member.result.1.now in
-    let at = c.pair_mut-member.ensures.value in
-    let unique = c.pair_mut-member.ensures.unique in
-    let held = held_at m p i k v c.in-Some.ensures.index at unique in
+    let e = c.pair_mut-member.ensures in
     let w = record v { queued = true; timer = None } in
-    let stops = stops_held (members c.args.self.now) p v c.args.self.now.timers c.stop_timer.new.timers held c.stop_timer.ensures in
-    let items = c.push_back_reserved.ensures.items ∙ ap (λ (ps : List Pid). ps ++ p ∷ []) c.reserve.ensures.items in
-    let at2 = (written_at m p i k v c.in-Some.ensures.index at unique w).0 in
-    woken p c.args.self.now _ v w held at2 refl refl refl
-    (λ k. woken_queue (members c.args.self.now) _ p w c.args.self.now.queue.items _ (λ m2 is. ap (λ (x : _). x.queued) (sym (same_some v m2 (sym held ∙ is))) ∙ c.if-member.false) at2 refl items k)
-    (p ∷ [], items)
-    (stopped_timers (members c.args.self.now) _ p w c.args.self.now.timers c.stop_timer.new.timers at2 stops refl refl)
-    (stopped_fewer (members c.args.self.now) p c.args.self.now.timers c.stop_timer.new.timers stops)
+    let at = set_at c.args.self.now c.args.p c.in-Some.place c.pair_mut-member.result.0.now v c.place_of.new.self c.in-Some.ensures.index e.value e.unique w in
+    let stops = stops_held (members c.args.self.now) c.args.p v c.args.self.now.timers c.stop_timer.new.timers at.0 c.stop_timer.ensures in
+    let items = c.push_back_reserved.ensures.items ∙ ap (λ (ps : List Pid). ps ++ c.args.p ∷ []) c.reserve.ensures.items in
+    woken c.args.p c.args.self.now _ v w at.0 at.1 refl refl refl
+    (λ k. woken_queue (members c.args.self.now) _ c.args.p w c.args.self.now.queue.items _ (λ m2 is. ap (λ (x : _). x.queued) (sym (same_some v m2 (sym at.0 ∙ is))) ∙ c.if-member.false) at.1 refl items k)
+    (c.args.p ∷ [], items)
+    (stopped_timers (members c.args.self.now) _ c.args.p w c.args.self.now.timers c.stop_timer.new.timers at.1 stops refl refl)
+    (stopped_fewer (members c.args.self.now) c.args.p c.args.self.now.timers c.stop_timer.new.timers stops)
     refl
     (record { waiting = refl; left = refl; refused = refl; rounds = refl; time = refl })
 

@@ -8,6 +8,7 @@ use Rattle.pt_shard.specs.ShardState.{ShardState, written}
 use Rattle.pt_desk.specs.InPlace.{CanTell}
 use Rattle.pt_desk.specs.DeskState.{IsAccounted}
 use Rattle.pt_desk.proofs.Calling.{written_accounted}
+use Rattle.pt_desk.proofs.Seating.{same_journal}
 use Rattle.pt_desk.proofs.Telling.{may_tell, sits}
 use Rattle.pt_desk.proofs.desk.Desk.exit.Goals as goal
 
@@ -30,12 +31,7 @@ invariant_of-self-2 c =
     let is = told.does.3 in
     let stamp : c.exit.new.self.clock ≡ n = ap (λ (z : ShardState). z.clock) is in
     let seats = sits s i.outs i.ins (arc_value i.directory) i.seat i.before c.self.invariant n left c.exit.new.self
-    (record {
-      start = ap (λ (z : ShardState). z.start) is;
-      number = ap (λ (z : ShardState). z.number) is;
-      config = ap (λ (z : ShardState). z.config) is;
-      journal = ap (λ (z : ShardState). z.journal) is;
-    })
+    (same_journal _ _ _ refl refl refl refl is)
     tt tt (Some c.args.p) c.tell_end.new.seat refl (c.tell_end.ensures ∙ ap (λ m. add_death (death_of c.args.p m) i.seat) stamp) in (
       record {
         fit = told.fit;

@@ -1,5 +1,5 @@
 -- `Desk::handle`: its clauses `empty`, `here` and `near`, and the invariant of `self`, and what its calls of `hold_front` and `tell_ended` ask.
-use Rattle.std.proofs.Common.{◌≡◌, ◌<◌, Some, Ok, Err, sym, ap, ◌∙◌, subst, arith}
+use Rattle.std.proofs.Common.{◌≡◌, ◌<◌, Some, Ok, Err, refl, sym, ap, ◌∙◌, subst, arith}
 use Rattle.std.specs.Arc.{arc_value}
 use Rattle.std.specs.Prelude.{IfSome}
 use Rattle.pt_carrier.specs.Ends.{Place, Collects}
@@ -10,7 +10,7 @@ use Rattle.pt_desk.proofs.Turning.{is_free, front_handled, front_refused, next_c
 use Rattle.pt_desk.proofs.Posted.{of_parts}
 use Rattle.pt_shard.specs.Outbox.{holding}
 use Rattle.pt_desk.specs.InPlace.{CanTell, seat_told}
-use Rattle.pt_desk.proofs.Seating.{sight_of, same_whole}
+use Rattle.pt_desk.proofs.Seating.{sight_of, same_journal, same_whole}
 use Rattle.pt_desk.proofs.Telling.{may_tell_ended, handled_whole, told_sight}
 use Rattle.pt_desk.proofs.desk.Desk.handle.Goals as goal
 
@@ -58,12 +58,7 @@ invariant_of-self-in-Ok c =
     let i = c.self.inside in
     let is = (done c).1 in
     handled_whole i.shard i.outs i.ins (arc_value i.directory) i.seat i.before c.self.invariant c.pass.ensures.collects.0 c.handle_front.new.shard i.outs c.pass.new.self c.in-Ok.ended c.tell_ended.new.seat
-    (record {
-      start = ap (λ (z : ShardState). z.start) is;
-      number = ap (λ (z : ShardState). z.number) is;
-      config = ap (λ (z : ShardState). z.config) is;
-      journal = ap (λ (z : ShardState). z.journal) is;
-    })
+    (same_journal _ _ _ refl refl refl refl is)
     (done c).2 (c.tell_ended.ensures ∙ ap (λ m. seat_told c.in-Ok.ended m i.seat) (ap (λ (z : ShardState). z.clock) is))
     c.in-Ok.ensures.fit
     (collected_accounted i.shard i.outs i.ins c.pass.new.self (sight_of (arc_value i.directory) i.seat i.before) c.in-Some.from c.pass.ensures.collects.0 (is_free i.shard.hold (sym c.if-holds.ensures)) (taken c)
@@ -102,12 +97,7 @@ invariant_of-self-in-Err c =
     let takes = c.hold_front.ensures.holds in
     let is = takes.held ∙ ap (holding (Some takes.letter)) (front_refused c.in-Some.from c.next_from.new.self i.shard c.handle_front.new.shard c.in-Err.stop c.in-Err.ensures.does) in
     same_whole i.shard c.hold_front.new.shard i.outs i.outs i.ins c.hold_front.new.ins (sight_of (arc_value i.directory) i.seat i.before) i.seat
-    (record {
-      start = ap (λ (z : ShardState). z.start) is;
-      number = ap (λ (z : ShardState). z.number) is;
-      config = ap (λ (z : ShardState). z.config) is;
-      journal = ap (λ (z : ShardState). z.journal) is;
-    })
+    (same_journal _ _ _ refl refl refl refl is)
     c.hold_front.ensures.fit
     (refused_accounted i.shard i.outs i.ins c.hold_front.new.ins (sight_of (arc_value i.directory) i.seat i.before) c.in-Some.from takes.letter (is_free i.shard.hold (sym c.if-holds.ensures)) (held c)
     (takes.place ∙ c.in-Some.ensures.same.0) c.handle_front.new.shard c.hold_front.new.shard c.in-Err.stop c.self.invariant.0.accounts (stopped c) takes.held)

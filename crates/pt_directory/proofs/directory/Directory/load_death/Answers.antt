@@ -1,19 +1,12 @@
 -- `Directory::load_death`: what its call of `load` asks.
-use Rattle.std.proofs.Common.{◌*◌, sym, ap, ◌∙◌, arith}
-use Rattle.pt_directory.proofs.Words.{word_in, loads_death_as}
+use Rattle.std.proofs.Common.{◌∙◌, arith}
+use Rattle.pt_directory.proofs.Words.{word_at, loads_death_as}
 use Rattle.pt_directory.proofs.directory.Directory.load_death.Goals as goal
 
 pub load-requires : goal.load-requires
 load-requires c =
-    let is = c.self.view_is in
-    let inv = c.self.invariant in
-    let en = inv.0 ∙ ap (λ n. n.desks) is in
-    let em = inv.1 ∙ ap (λ n. n.slots) is in
-    let key = c.self.inside.table.shared.key in
-    let slots = c.self.inside.table.shared.table_id.slots in
-    let words = inv.2 ∙ ap (λ n. 2 * (n.desks * n.slots)) is in
-    let at = word_in c.args.self.now.desks c.args.self.now.slots c.args.pid.shard c.args.pid.slot c.word.result c.self.inside.table.shared.table_id.words words c.requires.pid.0 c.requires.pid.1 c.word.ensures in (
-      c.requires.seat ∙ sym (ap (λ n. n.name) is),
+    let at = word_at c.self.inside.table.shared.key (record { name = c.self.inside.table.shared.table_id; desks = c.self.inside.desks; slots = c.self.inside.slots }) c.args.self.now c.args.pid c.word.result c.self.view_is c.self.invariant c.requires.pid c.word.ensures in (
+      c.requires.seat ∙ at.named,
       omega arith,
-      loads_death_as key slots c.args.seat.now.id c.args.seat.now.me c.args.pid.shard c.args.pid.slot _ _ c.word.result en em c.requires.pid.0 c.requires.pid.1 c.word.ensures c.args.version c.requires.read,
+      loads_death_as c.self.inside.table.shared.key c.self.inside.table.shared.table_id.slots c.args.seat.now.id c.args.seat.now.me c.args.pid.shard c.args.pid.slot _ _ c.word.result at.desks at.slots c.requires.pid.0 c.requires.pid.1 c.word.ensures c.args.version c.requires.read,
     )
