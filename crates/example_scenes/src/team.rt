@@ -196,7 +196,7 @@ fn settled(node: Node) -> Result<Quiet>
 {
     let quiet = node.gather()?.settle()?;
     // read for the proof alone: it says what holds of every gathered node
-    let _desks = quiet.desks();
+    let _desks = quiet.settled().desks();
     Ok(quiet)
 }
 

@@ -11,13 +11,10 @@ ghost use Rattle.pt_events.specs.declared.event.Stamped.{Stamped};
 ghost use Rattle.pt_gathered.specs.Gathered.{GatheredState};
 ghost use Rattle.pt_gathered.specs.Settling.{NothingLeft, Settles};
 ghost use Rattle.pt_node.specs.Gathering.{Gathers};
-ghost use Rattle.pt_node.specs.Keeping.{IsKeptOf};
 ghost use Rattle.pt_workers.specs.Running.{AllWork, always, begins_by};
 ghost use Rattle.example_uses.specs.Epochs.{Archives, IsArchived, Passes, PassAsOne};
 
-use pt_node::{
-    FreeGate, Kept, Node, NodeBack, RestingSettled, RunFault, Settled, Stamped, Task, Unsettled,
-};
+use pt_node::{FreeGate, Node, NodeBack, RunFault, Settled, Stamped, Task, Unsettled};
 use std::alloc::Global;
 use std::io::Write;
 use std::thread::Threads;
@@ -72,7 +69,7 @@ pub enum Halted {
     /// Its history was not kept: there was no memory for it, or the archive failed.
     Archiving(Settled),
     /// There was no memory to resume it.
-    Resuming(RestingSettled),
+    Resuming(Settled),
 }
 
 impl fmt::Display for Halted {
@@ -82,7 +79,7 @@ impl fmt::Display for Halted {
             Halted::Gathering(back) => write!(f, "{back}"),
             Halted::Settling(unsettled) => write!(f, "{unsettled}"),
             Halted::Archiving(_) => write!(f, "the history was not kept"),
-            Halted::Resuming(resting) => write!(f, "{resting}"),
+            Halted::Resuming(_) => write!(f, "there was no memory to go on from the settled node"),
         }
     }
 }
@@ -144,28 +141,28 @@ pub fn end_epoch<A: Archive>(alloc: Global, node: Node, archive: &mut A) -> Resu
     ensures { IfOk result (λ next. (history : List Stamped)
         × Archives A.keeps history node archive.old next archive.new) }
 {
-    let (settled, kept) = settle(node)?;
+    let settled = settle(node)?;
     if let Err(_refused) = archived(&settled, archive) {
         return Err(Halted::Archiving(settled));
     }
-    match Node::resume_kept(alloc, settled, kept) {
+    match Node::resume_settled(alloc, settled) {
         Ok(node) => Ok(node),
-        Err(resting) => Err(Halted::Resuming(resting)),
+        Err(settled) => Err(Halted::Resuming(settled)),
     }
 }
 
-/// Gathers and settles the node, and returns what is kept of its directory too.
-fn settle(node: Node) -> Result<(Settled, Kept), Halted>
-    ensures settles { IfOk result (λ r. (gathered : GatheredState) × Gathers node gathered
-        × Settles gathered r.0.gathered × IsKeptOf gathered r.1) }
-    ensures nothing_left { IfOk result (λ r. NothingLeft r.0.gathered) }
+/// Gathers and settles the node.
+fn settle(node: Node) -> Result<Settled, Halted>
+    ensures settles { IfOk result (λ settled. (gathered : GatheredState) × Gathers node gathered
+        × Settles gathered settled.gathered) }
+    ensures nothing_left { IfOk result (λ settled. NothingLeft settled.gathered) }
 {
-    let (gathered, kept) = match node.gather_keeping() {
-        Ok(both) => both,
+    let gathered = match node.gather() {
+        Ok(gathered) => gathered,
         Err(back) => return Err(Halted::Gathering(back)),
     };
     match gathered.settle_unlisted() {
-        Ok(settled) => Ok((settled, kept)),
+        Ok(settled) => Ok(settled),
         Err(unsettled) => Err(Halted::Settling(unsettled)),
     }
 }

@@ -91,5 +91,5 @@ module _ (start : Start) (journals : Journals) (lives : Lives) (of : AreLivesOf 
         (λ i. ap is_unborn (sym same) ∙ was_born p i, λ b. is_listed (record { desk = 0; slots = []; read = 0 }) p (ap is_unborn same ∙ b)),
   )
 
-pub all_listed : (lives : Lives) (pids seen : List Pid) → pids ≡ all_pids lives → seen ≡ pids → JournalsSay → Tell lives (λ start past. AreAllPids start past seen)
-all_listed lives pids seen h s say start journals of = subst (λ z. InEveryMerge journals (λ past. AreAllPids start past z)) (sym (s ∙ h)) (all_are start journals lives of say)
+pub all_listed : (lives : Lives) (pids : List Pid) → pids ≡ all_pids lives → JournalsSay → Tell lives (λ start past. AreAllPids start past pids)
+all_listed lives pids is say start journals of = subst (λ z. InEveryMerge journals (λ past. AreAllPids start past z)) (sym is) (all_are start journals lives of say)

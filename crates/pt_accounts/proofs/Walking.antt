@@ -1,5 +1,5 @@
 -- The journal is read from its oldest event on.
-use Rattle.std.proofs.Common.{◌≡◌, None, ℕ, zero, suc, ◌+◌, ◌-◌, ◌<◌, ◌≤◌, List, [], ◌∷◌, ◌++◌, length, take, drop, get_or, reverse, refl, ap, sym, ◌∙◌, subst, arith}
+use Rattle.std.proofs.Common.{◌≡◌, ℕ, zero, suc, ◌+◌, ◌-◌, ◌<◌, ◌≤◌, List, [], ◌∷◌, ◌++◌, length, take, drop, get_or, reverse, refl, ap, sym, ◌∙◌, subst, arith}
 use Rattle.std.proofs.lemmas.List.{length-reverse, reverse-reverse}
 use Rattle.pt_signal.specs.declared.pid.Pid.{Pid}
 use Rattle.pt_signal.specs.declared.signal.Signal.{Signal}
@@ -13,10 +13,10 @@ use Rattle.pt_events.specs.Journal.{events, clock, IsNext, IsLocal, IsNewAt, May
 use Rattle.pt_events.proofs.InOrder.{reverse_take, reverse_split}
 use Rattle.pt_events.specs.OldRefs.{HasOldRefs}
 use Rattle.pt_events.proofs.Orders.{clock_above}
-use Rattle.pt_accounts.specs.Table.{life_at, AreTold, TableTells}
+use Rattle.pt_accounts.specs.Table.{AreTold}
 use Rattle.pt_accounts.specs.DeskLives.{DeskTable, oldest, IsJournalOver, IsReadUpTo}
 use Rattle.pt_accounts.specs.Steps.{TableGoesOn, Observes, AreAlike, IsAnewAfter}
-use Rattle.pt_accounts.proofs.Told.{told_alike, all_told}
+use Rattle.pt_accounts.proofs.Told.{told_alike}
 use Rattle.pt_accounts.proofs.MayObserve.{unmade_closed, count_closed, told_next}
 
 drop_front : {X : Type 0} (xs ys : List X) (n : ℕ) → n ≡ length xs → drop n (xs ++ ys) ≡ ys
@@ -124,34 +124,3 @@ read_still start journal t s up = record {
   where
     older : (n m : ℕ) → n ≡ suc m → drop n (s ∷ journal) ≡ drop m journal
     older n m e = rw e refl
-
--- what was read whole tells the whole journal
-pub read_whole : (start : Start) (journal : List Stamped) (t : DeskTable) → t.read ≡ length journal → IsReadUpTo start journal t → AreTold start t.desk t.slots (events journal)
-read_whole start journal t whole up = subst (λ (j : List Stamped). AreTold start t.desk t.slots (events j)) (all (length journal - t.read) (omega arith)) up.told
-  where
-    all : (n : ℕ) → n ≡ 0 → drop n journal ≡ journal
-    all n e = rw e refl
-
--- before anything is read, the table tells the start
-pub read_nothing : (start : Start) (journal : List Stamped) (t : DeskTable) → t.read ≡ 0 → AreTold start t.desk t.slots [] → IsReadUpTo start journal t
-read_nothing start journal t none told = record {
-  within = omega arith;
-  told = subst (λ (j : List Stamped). AreTold start t.desk t.slots (events j)) (sym (empty (length journal - t.read) journal (omega arith))) told;
-}
-  where
-    empty : (n : ℕ) (journal : List Stamped) → n ≡ length journal → drop n journal ≡ []
-    empty zero [] e = refl
-    empty (suc n) [] e = refl
-    empty zero (s ∷ journal) e = absurd (omega arith)
-    empty (suc n) (s ∷ journal) e = empty n journal (omega arith)
-
--- a new table tells that nobody was
-pub read_new : (journal : List Stamped) (desk : ℕ) → IsReadUpTo [] journal (record { desk = desk; slots = []; read = 0 })
-read_new journal desk = read_nothing [] journal (record { desk = desk; slots = []; read = 0 }) refl (all_told [] desk [] [] (λ p s. subst (TableTells [] [] p) (sym (none p.slot p.version)) (refl, refl)))
-  where
-    none : (s v : ℕ) → life_at [] s v ≡ None
-    none s zero = refl
-    none s (suc v) = refl
-
-pub nothing_open : (low : ℕ) → HasOldRefs low []
-nothing_open low w m = (omega arith, λ l. refl)

@@ -52,10 +52,6 @@ pub record IsJournalOver (start : Start) (d : ℕ) (journal : List Stamped) : Ty
   pub local : IsLocal start low top d journal
   pub refs : HasOldRefs low start
 
--- some desk's journal over the start, whatever its lowest stamp and its top version
-abbrev pub IsDeskJournal : Start → ℕ → List Stamped → Type 0
-IsDeskJournal start d journal = (low : ℕ) × (top : ℕ) × IsLocal start low top d journal
-
 -- there is a start over which the table can be read on
 abbrev pub MayRead : DeskTable → List Stamped → Type 0
 MayRead t journal = (start : Start) × IsJournalOver start t.desk journal × IsReadUpTo start journal t

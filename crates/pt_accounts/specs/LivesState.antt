@@ -1,12 +1,11 @@
 -- What became of a node's processes, and what is told of them.
-use Rattle.std.specs.Prelude.{◌≡◌, ℕ, ◌<◌, ◌≤◌, ◌++◌, ◌∷◌, ◌↔◌, false, cond, List, [], flat_map, length, slice_index_or}
+use Rattle.std.specs.Prelude.{◌≡◌, ℕ, ◌<◌, ◌≤◌, ◌↔◌, false, cond, List, [], flat_map, length, slice_index_or}
 use Rattle.std.specs.Prelude.{Option, Some, None}
 use Rattle.pt_signal.specs.declared.pid.Pid.{Pid}
 use Rattle.pt_signal.specs.declared.item.Item.{Item}
 use Rattle.pt_events.specs.declared.event.Stamped.{Stamped}
 use Rattle.pt_events.specs.History.{Past, Start, Phase, unborn, at_start, life, state_of, arrived, is_unborn, reason_of}
 use Rattle.pt_events.specs.Journal.{Journals, IsLocal, IsMerge, events}
-use Rattle.pt_events.specs.JournalState.{JournalState}
 use Rattle.pt_events.specs.Takes.{taken}
 use Rattle.pt_accounts.specs.declared.account.Account.{Account}
 use Rattle.pt_accounts.specs.DeskLives.{DeskTable, IsTableOf, pids_in}
@@ -64,10 +63,6 @@ pub record AreLivesOf (start : Start) (journals : Journals) (lives : Lives) : Ty
 abbrev pub Tell : Lives → (Start → Past → Type 0) → Type 0
 Tell lives Says =
     (start : Start) (journals : Journals) → AreLivesOf start journals lives → InEveryMerge journals (Says start)
-
--- one desk more, on which nothing was before its journal, and whose table has what that says
-abbrev pub Adds : JournalState → Lives → Lives → Type 0
-Adds journal old new = (t : DeskTable) × IsTableOf [] journal.desk (events journal.past) t × (new ≡ old ++ t ∷ [])
 
 abbrev pub all_pids : Lives → List Pid
 all_pids lives = flat_map (λ t. pids_in t.slots) lives

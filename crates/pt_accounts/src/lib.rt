@@ -3,9 +3,9 @@
 //! ```
 //! let mut lives = DeskLives::new(alloc, desk);     // one for each desk
 //! lives.read(&journal)?;                           // each event once; the next call resumes there
-//! let node = Lives::of(alloc, desks)?;             // the tables of all desks, that of desk 0 first
-//! for pid in node.pids() {
-//!     let account = node.account(*pid);            // ended, arrived, taken, waiting
+//! let node = Lives::of(desks);                     // the tables of all desks, that of desk 0 first
+//! for pid in node.list(alloc)? {
+//!     let account = node.account(pid);             // ended, arrived, taken, waiting
 //! }
 //! ```
 //!
@@ -38,7 +38,7 @@
 //! - **What is reported.** For each process ever spawned, `Lives` returns why it exited, how many items arrived, were
 //!   taken and wait, and its links, watchers and open monitors. For an exited process these are the last.
 //! - **In every merge.** Each of these is what the definitions give for every merge of the journals.
-//! - **Order.** `Lives::pids` lists the pids by desk, slot and version.
+//! - **Order.** `Lives::list` lists the pids of all processes by desk, slot and version.
 //! - **Reading on.** `DeskLives::read` reads each event once, and `forget` makes the start of the next journal.
 //! - **Forgetting reasons.** After `forget_reasons` each process is there as before. An exited one stays exited, and
 //!   its reason is `noproc`. (`BeginsBare`)

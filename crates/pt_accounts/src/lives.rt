@@ -1,17 +1,16 @@
 //! The processes of all desks.
 
-ghost use Rattle.std.specs.Prelude.{◌≡◌, [], ◌++◌, length, is_some, IfOk, IfErr, OnOk};
+ghost use Rattle.std.specs.Prelude.{◌≡◌, ◌++◌, is_some, IfOk, OnOk};
 ghost use Rattle.std.specs.Map.{lookup};
 ghost use Rattle.std.specs.List.{list_any};
 ghost use Rattle.pt_signal.specs.Values.{same_ref};
 ghost use Rattle.pt_signal.specs.Process.{held};
 ghost use Rattle.pt_events.specs.History.{life, state, open_monitors};
-ghost use Rattle.pt_accounts.specs.DeskLives.{IsDeskJournal};
-ghost use Rattle.pt_accounts.specs.LivesState.{Adds, Tell, AreAllPids, account_in, all_pids};
+ghost use Rattle.pt_accounts.specs.LivesState.{Tell, AreAllPids, account_in, all_pids};
 
 use crate::Account;
 use crate::desk_lives::DeskLives;
-use pt_events::{Journal, journals_tell_their_pids};
+use pt_events::journals_tell_their_pids;
 use pt_signal::{Ids, Pid, Ref};
 use std::alloc::{AllocError, Global};
 use std::marker::Model;
@@ -23,19 +22,14 @@ use std::marker::Model;
 #[derive(Drop)]
 pub struct Lives {
     desks: Vec<DeskLives>,
-    pids: Vec<Pid>,
 }
 
 impl Model for Lives {
     ghost use Rattle.pt_accounts.specs.LivesState as state;
-    ghost use Rattle.pt_accounts.specs.LivesState.{all_pids};
-    ghost use Rattle.std.specs.Prelude.{◌≡◌};
 
     ghost Value = { state.Lives };
 
     ghost view = { λ l. l.desks.items };
-
-    ghost invariant = { λ l. l.pids.items ≡ all_pids l.desks.items };
 }
 
 /// Adds the pids of all processes, by shard, slot and version.
@@ -49,26 +43,11 @@ fn list_all(desks: &[DeskLives], pids: &mut Vec<Pid>) -> Result<(), AllocError>
 }
 
 impl Lives {
-    /// The lives of a node without desks.
-    pub fn new(alloc: Global) -> Lives
-        ensures { result ≡ [] }
+    /// The lives of the desks with these tables, desk 0 first. It takes no memory.
+    pub fn of(desks: Vec<DeskLives>) -> Lives
+        ensures { result ≡ desks.items }
     {
-        Lives {
-            desks: Vec::new(alloc),
-            pids: Vec::new(alloc),
-        }
-    }
-
-    /// The lives of the desks with these tables, desk 0 first. Fails with the tables if there is no memory.
-    pub fn of(alloc: Global, desks: Vec<DeskLives>) -> Result<Lives, Vec<DeskLives>>
-        ensures lives { IfOk result (λ lives. lives ≡ desks.items) }
-        ensures back { IfErr result (λ back. back ≡ desks) }
-    {
-        let mut pids = Vec::new(alloc);
-        match list_all(desks.as_slice(), &mut pids) {
-            Ok(()) => Ok(Lives { desks, pids }),
-            Err(_) => Err(desks),
-        }
+        Lives { desks }
     }
 
     /// The tables of the desks, desk 0 first, to be read.
@@ -82,33 +61,19 @@ impl Lives {
     pub fn into_desks(self) -> Vec<DeskLives>
         ensures { result.items ≡ self }
     {
-        let Lives { desks, pids: _ } = self;
+        let Lives { desks } = self;
         desks
     }
 
-    /// These lives, and those of the next desk, whose journal is read from its first event to its last.
-    pub fn with(self, alloc: Global, journal: &Journal) -> Result<Lives, AllocError>
-        requires local { IsDeskJournal [] journal.now.desk journal.now.past }
-        requires next { journal.now.desk ≡ length self }
-        ensures { IfOk result (λ lives. Adds journal.now self lives) }
-    {
-        let Lives {
-            mut desks,
-            mut pids,
-        } = self;
-        let mut desk = DeskLives::new(alloc, journal.desk());
-        desk.read(journal)?;
-        desk.list(&mut pids)?;
-        desks.push(desk)?;
-        Ok(Lives { desks, pids })
-    }
-
-    /// The pids of all processes that were spawned, by shard, slot and version.
-    pub fn pids(&self) -> &[Pid]
-        ensures { Tell self.now (λ start past. AreAllPids start past result.now) }
+    /// The pids of all processes that were spawned, by shard, slot and version. Fails only if there is no memory.
+    pub fn list(&self, alloc: Global) -> Result<Vec<Pid>, AllocError>
+        ensures listed { IfOk result (λ pids. pids.items ≡ all_pids self.now) }
+        ensures told { IfOk result (λ pids. Tell self.now (λ start past. AreAllPids start past pids.items)) }
     {
         journals_tell_their_pids();
-        self.pids.as_slice()
+        let mut pids = Vec::new(alloc);
+        list_all(self.desks.as_slice(), &mut pids)?;
+        Ok(pids)
     }
 
     /// What is known of the process, or `None` if it was never spawned.

@@ -8,7 +8,7 @@ ghost use Rattle.pt_events.specs.History.{is_ended};
 ghost use Rattle.pt_accounts.specs.LifeState.{LifeState, account_of};
 ghost use Rattle.pt_accounts.specs.Table.{of_version};
 ghost use Rattle.pt_accounts.specs.DeskLives.{pids_of, linked_in, kept_by, watching_in, forgotten, bare, latest_end};
-ghost use Rattle.pt_accounts.specs.SlotState.{Finds, IsCounted, reasons_of, life_end, left_of, living_of};
+ghost use Rattle.pt_accounts.specs.SlotState.{AreOver, Finds, IsCounted, reasons_of, life_end, left_of, living_of};
 ghost use Rattle.pt_accounts.specs.Steps.{life_after, MaySee, IsNextOf};
 
 use crate::Account;
@@ -97,6 +97,24 @@ fn forget_newest(newest: &mut Option<Life>) -> Option<Reason>
         life.count_anew();
     }
     reason
+}
+
+/// Adds the reason of each process that exited, and removes the process. A newest that has not exited counts anew.
+fn keep_ends(forgotten: &mut Reasons, ended: &mut Vec<Life>, newest: &mut Option<Life>)
+    requires over { AreOver ended.old.items }
+    requires room { length ended.old.items + length (option_to_list newest.old) ≤ forgotten.old.room }
+    requires few { length forgotten.old.listed + length ended.old.items + length (option_to_list newest.old) < 2 ^ 32 }
+    ensures listed { forgotten.new.listed
+        ≡ (forgotten.old.listed ++ reasons_of ended.old.items) ++ option_to_list (life_end newest.old) }
+    ensures room { length forgotten.old.listed + forgotten.old.room ≤ length forgotten.new.listed + forgotten.new.room }
+    ensures ended { ended.new.items ≡ [] }
+    ensures newest { newest.new ≡ left_of newest.old }
+{
+    add_reasons(forgotten, ended.as_slice());
+    ended.clear();
+    ended.shrink_to_fit();
+    let reason = forget_newest(newest);
+    add_reason(forgotten, reason);
 }
 
 /// Moves the newest, if there is one, to those that exited. If it fails, both are as before.
@@ -206,22 +224,14 @@ impl Slot {
     pub(crate) fn forget(&mut self)
         ensures { self.new ≡ map forgotten self.old }
     {
-        add_reasons(&mut self.forgotten, self.ended.as_slice());
-        self.ended.clear();
-        self.ended.shrink_to_fit();
-        let reason = forget_newest(&mut self.newest);
-        add_reason(&mut self.forgotten, reason);
+        keep_ends(&mut self.forgotten, &mut self.ended, &mut self.newest);
     }
 
     /// Keeps of each exited process that it exited, and not why; counts anew what the others take.
     pub(crate) fn forget_reasons(&mut self)
         ensures { self.new ≡ map bare self.old }
     {
-        add_reasons(&mut self.forgotten, self.ended.as_slice());
-        self.ended.clear();
-        self.ended.shrink_to_fit();
-        let reason = forget_newest(&mut self.newest);
-        add_reason(&mut self.forgotten, reason);
+        keep_ends(&mut self.forgotten, &mut self.ended, &mut self.newest);
         self.forgotten.fill(Reason::Noproc);
     }
 

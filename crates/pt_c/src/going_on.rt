@@ -10,8 +10,8 @@ use pt_c_crews::crew_handle::CrewHandle;
 use pt_c_crews::going_on;
 use pt_c_desks::desk_handle::DeskHandle;
 use pt_c_desks::history_handle::HistoryHandle;
+use pt_c_desks::quiet_handle::QuietHandle;
 use pt_c_nodes::gathered_handle::GatheredHandle;
-use pt_c_nodes::settled_handle::SettledHandle;
 use std::alloc::Global;
 
 /// Continues with a node and its crews. It gathers the desks and settles the node, takes its history, and resumes it. Then
@@ -22,18 +22,18 @@ use std::alloc::Global;
 /// more or fewer crews than desks, else 10 if `history` is not empty, else 18 if a crew is that of a desk with another
 /// number than its place.
 ///
-/// Then it makes the calls `pt_gather`, `pt_settle_unlisted`, `pt_settled_history` and `pt_resume_settled`, up to the
-/// first that does not return 0, and returns its code. The crews and `history` are as they were then, and the node is
-/// where that call left it: in the handles of the desks, in `gathered` or in `settled`. So the same call made again does
-/// the rest: the desks are gathered only if neither `gathered` nor `settled` has a node, and the node is settled only if
-/// `settled` has none. It returns 10 if a desk, too, is in its handle, or if both have a node.
+/// Then it makes the calls `pt_gather`, `pt_settle_unlisted`, `pt_quiet_history` and `pt_resume`, up to the first that
+/// does not return 0, and returns its code. The crews and `history` are as they were then, and the node is where that
+/// call left it: in the handles of the desks, in `gathered` or in `settled`. So the same call made again does the rest:
+/// the desks are gathered only if neither `gathered` nor `settled` has a node, and the node is settled only if `settled`
+/// has none. It returns 10 if a desk, too, is in its handle, or if both have a node.
 #[unsafe(no_mangle)]
 pub extern "C" fn pt_crews_go_on(
     alloc: Global,
     crews: &mut [CrewHandle],
     desks: &mut [DeskHandle],
     gathered: &mut GatheredHandle,
-    settled: &mut SettledHandle,
+    settled: &mut QuietHandle,
     history: &mut HistoryHandle,
 ) -> u32
     requires { IsWholeNode (map (λ h. h.state) desks.old) → AreDesks (values (map (λ h. h.state) desks.old)) }

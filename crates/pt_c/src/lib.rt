@@ -1,10 +1,9 @@
 //! The process table for C: a static library, whose header is `bindings/c/pundewo.h`.
 //!
-//! C keeps opaque handles of one pointer: for a desk, a gathered node, a settled one with and without the list of its
-//! pids, a history, a crew, timers, names, and the two ends of a way in. An export is one call of a library below, which
-//! takes the value out of the handle, makes the call of Rattle that has its name, and puts the value back. By its
-//! contract, its code and what it writes are that call's answer, and if it fails, all is as it was. An empty handle is a
-//! code, too.
+//! C keeps opaque handles of one pointer: for a desk, a gathered node, a settled one, a history, a crew, timers, names, and
+//! the two ends of a way in. An export is one call of a library below, which takes the value out of the handle, makes the
+//! call of Rattle that has its name, and puts the value back. By its contract, its code and what it writes are that call's
+//! answer, and if it fails, all is as it was. An empty handle is a code, too.
 //!
 //! Values with an enum or an option in Rattle cross as plain structs with a code (`pt_c_values::types`). `about` reports
 //! codes, sizes and fields, to be compared with a header. The calls are in one library for each object: `pt_c_desks`,
@@ -31,6 +30,8 @@
 //!   handed in, in order, each message once. (`PostsWhereLettersWait`, `TakesCode`, `meet` of `pt_c_tools`)
 //! - **Nodes.** Opening, gathering, settling and resuming leave in the handles what `open`, `gather`, `settle` and
 //!   `resume` promise, or `settle_unlisted` and `resume_settled`.
+//! - **Lists on request.** A call that needs the list of pids says of a settled node without it that there is none. One call
+//!   makes it. (`TellsPid`, `ListsItsPids`)
 //! - **Going on.** A node and its crews go through the stages of a pause in one call. Whichever is refused, its code says
 //!   so, and the node is in the handle where that stage leaves it. (`NodeGoesOn`)
 //! - **Threads.** Each handle may go to another thread.
@@ -48,6 +49,5 @@ mod names;
 mod node;
 mod reads;
 mod resuming;
-mod settled;
 mod timers;
 mod ways_in;

@@ -1,17 +1,17 @@
-//! Opening a node, gathering its desks, and settling it.
+//! Opening a node, gathering its desks, settling it, and listing its pids.
 
-ghost use Rattle.std.specs.Prelude.{◌≡◌, map};
+ghost use Rattle.std.specs.Prelude.{◌≡◌, ⊤, true, false, map};
 ghost use Rattle.pt_workers.specs.Desks.{AreDesks};
-ghost use Rattle.pt_c_values.specs.Places.{value_behind, values};
-ghost use Rattle.pt_c_nodes.specs.Nodes.{OpensAs, IsWholeNode, GathersAs, SettlesAs, HandleTells};
+ghost use Rattle.pt_c_values.specs.Places.{CallsThrough, value_behind, values};
+ghost use Rattle.pt_c_nodes.specs.Nodes.{OpensAs, IsWholeNode, GathersAs, SettlesAs, ListsItsPids, HandleTells};
 ghost use Rattle.pt_c_values.specs.Filling.{GivesUp};
-ghost use Rattle.pt_c_nodes.specs.Nodes.{IsHistoryOf, IsQuietHistoryOf};
+ghost use Rattle.pt_c_nodes.specs.Nodes.{IsHistoryOf, IsHistoryOfQuiet};
 
 use pt_c_desks::desk_handle::DeskHandle;
 use pt_c_desks::history_handle::HistoryHandle;
 use pt_c_desks::quiet_handle::QuietHandle;
 use pt_c_nodes::gathered_handle::GatheredHandle;
-use pt_c_nodes::node;
+use pt_c_nodes::{node, settling};
 use pt_c_values::types::PtConfig;
 use std::alloc::Global;
 
@@ -26,8 +26,8 @@ pub extern "C" fn pt_open(alloc: Global, desks: &mut [DeskHandle], config: PtCon
     node::open_desks(alloc, desks, config)
 }
 
-/// Brings the desks of a node together, as `gather` does. `out` has the node then, with its directory of exited
-/// processes, and the handles of the desks are empty.
+/// Brings the desks of a node together, as `gather` does. `out` has the node then, and the handles of the desks are
+/// empty.
 ///
 /// All handles must have a desk: it returns 9 if one has none, or there is no handle. They must be all desks of one
 /// `pt_open` or of one resumption, each once and in order: it returns 11 if there are more or fewer than their node has, or
@@ -46,16 +46,42 @@ pub extern "C" fn pt_gather(
     node::gather_desks(alloc, desks, out)
 }
 
-/// Settles the node, as `Gathered::settle` does. `out` has the settled node then, and the handle of the gathered one is
-/// empty. The directory of exited processes is not kept.
+/// Settles the node, as `Gathered::settle` does. `out` has the settled node then, with the list of its pids, and the
+/// handle of the gathered one is empty.
 ///
 /// `out` must be empty: it returns 10 if it is not. If it returns 2 or 3, the handle has the node with what was handled
-/// so far and with its directory, and the node may be settled again.
+/// so far, and the node may be settled again.
 #[unsafe(no_mangle)]
 pub extern "C" fn pt_settle(alloc: Global, g: &mut GatheredHandle, out: &mut QuietHandle) -> u32
-    ensures { SettlesAs result g.old.state g.new.state out.old.state out.new.state }
+    ensures { SettlesAs true result g.old.state g.new.state out.old.state out.new.state }
 {
-    node::settle_gathered(alloc, g, out)
+    settling::settle_listed(alloc, g, out)
+}
+
+/// Settles the node, as `Gathered::settle_unlisted` does: without the list of all pids that ever were. `out` has the
+/// settled node then, and the handle of the gathered one is empty.
+///
+/// `out` must be empty: it returns 10 if it is not. If it returns 2 or 3, the handle has the node with what was handled
+/// so far, and the node may be settled again.
+#[unsafe(no_mangle)]
+pub extern "C" fn pt_settle_unlisted(
+    alloc: Global,
+    g: &mut GatheredHandle,
+    out: &mut QuietHandle,
+) -> u32
+    ensures { SettlesAs false result g.old.state g.new.state out.old.state out.new.state }
+{
+    settling::settle_unlisted(alloc, g, out)
+}
+
+/// Makes the list of all pids that ever were, if the settled node has none.
+///
+/// If it returns 2, for want of memory, the node is in its handle as it was, without the list.
+#[unsafe(no_mangle)]
+pub extern "C" fn pt_quiet_list(alloc: Global, q: &mut QuietHandle) -> u32
+    ensures { CallsThrough q.old.state q.new.state result ⊤ (λ old new. ListsItsPids result old new) }
+{
+    settling::list_pids(alloc, q)
 }
 
 /// Gives up a desk, with its processes, its journal and the letters in it. The handle is empty then, and the memory is
@@ -106,7 +132,7 @@ pub extern "C" fn pt_gathered_history(
     node::gathered_history(alloc, g, out)
 }
 
-/// The history of a settled node, as `Quiet::history` returns it. `out` has it then, with no letter left over.
+/// The history of a settled node, as `Settled::history` returns it. `out` has it then, with no letter left over.
 ///
 /// `out` must be empty: it returns 10 if it is not.
 #[unsafe(no_mangle)]
@@ -115,7 +141,7 @@ pub extern "C" fn pt_quiet_history(
     q: &mut QuietHandle,
     out: &mut HistoryHandle,
 ) -> u32
-    ensures tells { HandleTells result (value_behind q.old.state) IsQuietHistoryOf out.old.state out.new.state }
+    ensures tells { HandleTells result (value_behind q.old.state) IsHistoryOfQuiet out.old.state out.new.state }
     ensures same { q.new.state ≡ q.old.state }
 {
     node::quiet_history(alloc, q, out)

@@ -12,6 +12,7 @@ ghost use Rattle.pt_c_desks.specs.Reading.{nth_link, links_on_desk, nth_monitor,
 ghost use Rattle.pt_c_desks.specs.Reading.{traps_on_desk, watchers_on_desk};
 ghost use Rattle.pt_c_desks.specs.Waking.{Woken, NobodyIsMissed};
 ghost use Rattle.pt_c_desks.specs.Reading.{TellsCount, TellsPid, TellsAccount, TellsLinked, TellsKept, TellsWatching};
+ghost use Rattle.pt_c_desks.specs.QuietNodes.{node_of};
 ghost use Rattle.pt_c_values.specs.Crossing.{pid_crossed, pid_out, ref_in, ref_out, ids_out, item_out, event_out, left_out};
 
 use pt_c_desks::desk_handle::DeskHandle;
@@ -255,7 +256,7 @@ pub extern "C" fn pt_gathered_desks(alloc: Global, g: &mut GatheredHandle, out: 
 #[unsafe(no_mangle)]
 pub extern "C" fn pt_quiet_desks(alloc: Global, q: &mut QuietHandle, out: &mut u8) -> u32
     ensures { ReadsThrough q.old.state q.new.state result (out.new ≡ out.old)
-        (λ d. (result ≡ 0) × (out.new ≡ length d.gathered.shards)) }
+        (λ d. (result ≡ 0) × (out.new ≡ length (node_of d).gathered.shards)) }
 {
     node_reads::quiet_desks(alloc, q, out)
 }
@@ -263,20 +264,22 @@ pub extern "C" fn pt_quiet_desks(alloc: Global, q: &mut QuietHandle, out: &mut u
 /// The number of letters that settling handled.
 #[unsafe(no_mangle)]
 pub extern "C" fn pt_quiet_handled(alloc: Global, q: &mut QuietHandle, out: &mut u64) -> u32
-    ensures { ReadsThrough q.old.state q.new.state result (out.new ≡ out.old) (λ d. (result ≡ 0) × (out.new ≡ d.handled)) }
+    ensures { ReadsThrough q.old.state q.new.state result (out.new ≡ out.old)
+        (λ d. (result ≡ 0) × (out.new ≡ (node_of d).handled)) }
 {
     node_reads::quiet_handled(alloc, q, out)
 }
 
-/// The number of processes ever spawned.
+/// The number of processes ever spawned; 26 if the node has no list of its pids.
 #[unsafe(no_mangle)]
 pub extern "C" fn pt_quiet_pid_count(alloc: Global, q: &mut QuietHandle, out: &mut usize) -> u32
-    ensures { ReadsThrough q.old.state q.new.state result (out.new ≡ out.old) (λ d. TellsCount d result out.new) }
+    ensures { ReadsThrough q.old.state q.new.state result (out.new ≡ out.old) (λ d. TellsCount d result out.old out.new) }
 {
     node_reads::quiet_pid_count(alloc, q, out)
 }
 
-/// The pid at this place among all ever spawned, by shard, slot and version; 8 if there is none.
+/// The pid at this place among all ever spawned, by shard, slot and version; 26 if the node has no list of its pids, and
+/// else 8 if there is none at the place.
 #[unsafe(no_mangle)]
 pub extern "C" fn pt_quiet_pid_at(
     alloc: Global,
@@ -289,7 +292,7 @@ pub extern "C" fn pt_quiet_pid_at(
     node_reads::quiet_pid_at(alloc, q, place, out)
 }
 
-/// What became of p, as `Quiet::account` returns it; 8 if it was never spawned.
+/// What became of p, as `Settled::account` returns it; 8 if it was never spawned.
 #[unsafe(no_mangle)]
 pub extern "C" fn pt_quiet_account(
     alloc: Global,
@@ -298,7 +301,7 @@ pub extern "C" fn pt_quiet_account(
     out: &mut PtAccount,
 ) -> u32
     ensures { ReadsThrough q.old.state q.new.state result (out.new ≡ out.old)
-        (λ d. TellsAccount d (pid_crossed p) result out.old out.new) }
+        (λ d. TellsAccount (node_of d) (pid_crossed p) result out.old out.new) }
 {
     node_reads::quiet_account(alloc, q, p, out)
 }
@@ -313,7 +316,7 @@ pub extern "C" fn pt_quiet_linked(
     out: &mut PtIds,
 ) -> u32
     ensures { ReadsThrough q.old.state q.new.state result (out.new ≡ out.old)
-        (λ d. TellsLinked d (pid_crossed p) (pid_crossed peer) result out.old out.new) }
+        (λ d. TellsLinked (node_of d) (pid_crossed p) (pid_crossed peer) result out.old out.new) }
 {
     node_reads::quiet_linked(alloc, q, p, peer, out)
 }
@@ -328,7 +331,7 @@ pub extern "C" fn pt_quiet_kept(
     out: &mut bool,
 ) -> u32
     ensures { ReadsThrough q.old.state q.new.state result (out.new ≡ out.old)
-        (λ d. TellsKept d (pid_crossed target) (ref_in monitor) result out.new) }
+        (λ d. TellsKept (node_of d) (pid_crossed target) (ref_in monitor) result out.new) }
 {
     node_reads::quiet_kept(alloc, q, target, monitor, out)
 }
@@ -343,7 +346,7 @@ pub extern "C" fn pt_quiet_watching(
     out: &mut bool,
 ) -> u32
     ensures { ReadsThrough q.old.state q.new.state result (out.new ≡ out.old)
-        (λ d. TellsWatching d (pid_crossed watcher) (ref_in monitor) result out.new) }
+        (λ d. TellsWatching (node_of d) (pid_crossed watcher) (ref_in monitor) result out.new) }
 {
     node_reads::quiet_watching(alloc, q, watcher, monitor, out)
 }

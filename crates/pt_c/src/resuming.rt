@@ -8,8 +8,8 @@ use pt_c_desks::quiet_handle::QuietHandle;
 use pt_c_nodes::resuming;
 use std::alloc::Global;
 
-/// Continues from a settled node, as `resume` does. Each handle gets one of its desks, in order, with an empty journal
-/// over what was left, and the handle of the settled node is empty then.
+/// Continues from a settled node, as `resume` and `resume_settled` do. Each handle gets one of its desks, in order, with
+/// an empty journal over what was left, and the handle of the settled node is empty then.
 ///
 /// It returns 9 if there is no settled node. The handles must be empty, and as many as the node has desks: it returns
 /// 10 if one is not empty, else 11 if there are more or fewer. If it returns 2, for want of memory, the settled node is

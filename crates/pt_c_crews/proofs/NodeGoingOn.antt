@@ -4,31 +4,31 @@ use Rattle.pt_signal.specs.declared.config.OpenError.TheVariants.{Bounds}
 use Rattle.pt_signal.specs.declared.config.Setting.TheVariants.{Desks}
 use Rattle.pt_desk.specs.DeskState.{DeskState}
 use Rattle.pt_gathered.specs.Gathered.{GatheredState}
-use Rattle.pt_gathered.specs.Quiet.{QuietState}
+use Rattle.pt_c_desks.specs.declared.quiet_node.QuietNode.{QuietNode}
 use Rattle.pt_c_values.specs.Codes.{empty, filled, open_code, wrong_desk}
 use Rattle.pt_c_values.specs.Places.{HandlePlace, value_behind}
 use Rattle.pt_c_desks.specs.Answers.{HistoryState}
 use Rattle.pt_scheduler.specs.declared.scheduler.Scheduler.{Scheduler}
 use Rattle.pt_c_crews.specs.Owning.{are_own}
-use Rattle.pt_c_nodes.specs.Nodes.{HandleTells, IsQuietHistoryOf, ResumesAs}
+use Rattle.pt_c_nodes.specs.Nodes.{HandleTells, IsHistoryOfQuiet, ResumesAs}
 use Rattle.pt_c_crews.specs.NodeGoingOn.{AreAllThere, GoOnWith, NodeGoesOn, Places, ResumesWith, Stages}
 use Rattle.pt_c_nodes.specs.FirstStages.{GathersFirst, SettlesFirst, has}
 use Rattle.pt_c_nodes.proofs.FirstStages.{passed, refused}
 
 -- the last stage ---------------------------------------------------------------------------------
 
-module _ (told : ℕ) (start h : HandlePlace HistoryState) (settled mid : HandlePlace QuietState) (none : start ≡ None)
-    (tells : HandleTells told (value_behind settled) IsQuietHistoryOf start h) (same : mid ≡ settled)
+module _ (told : ℕ) (start h : HandlePlace HistoryState) (settled mid : HandlePlace QuietNode) (none : start ≡ None)
+    (tells : HandleTells told (value_behind settled) IsHistoryOfQuiet start h) (same : mid ≡ settled)
     (crews : List (HandlePlace Scheduler)) (desks : List (HandlePlace DeskState)) (before : HandlePlace HistoryState) where
-  tells_it : HandleTells told (value_behind settled) IsQuietHistoryOf None h
-  tells_it = subst (λ (p : HandlePlace HistoryState). HandleTells told (value_behind settled) IsQuietHistoryOf p h) none tells
+  tells_it : HandleTells told (value_behind settled) IsHistoryOfQuiet None h
+  tells_it = subst (λ (p : HandlePlace HistoryState). HandleTells told (value_behind settled) IsHistoryOfQuiet p h) none tells
 
   pub not_told : told ≢ 0 → ResumesWith told crews crews desks desks settled mid before before
   not_told some = (told, h, tells_it, refused told told _ _ some refl (refl, refl, same, refl))
 
-  module _ (resumed : ℕ) (left : HandlePlace QuietState) (back : List (HandlePlace DeskState)) (done : told ≡ 0) (resumes : ResumesAs resumed mid left desks back) where
+  module _ (resumed : ℕ) (left : HandlePlace QuietNode) (back : List (HandlePlace DeskState)) (done : told ≡ 0) (resumes : ResumesAs resumed mid left desks back) where
     resumes_it : ResumesAs resumed settled left desks back
-    resumes_it = subst (λ (p : HandlePlace QuietState). ResumesAs resumed p left desks back) same resumes
+    resumes_it = subst (λ (p : HandlePlace QuietNode). ResumesAs resumed p left desks back) same resumes
 
     pub not_resumed : resumed ≢ 0 → ResumesWith resumed crews crews desks back settled left before before
     not_resumed some = (told, h, tells_it, passed told resumed _ _ done (resumed, resumes_it, refused resumed resumed _ _ some refl (refl, refl)))
@@ -87,7 +87,7 @@ module _ (code : ℕ) (old new : Places) where
 
 -- the stages, where what no stage has changed is as it was
 module _ (old : Places) (crews : List (HandlePlace Scheduler)) (history : HandlePlace HistoryState) (same_crews : crews ≡ old.crews) (same_history : history ≡ old.history)
-    (gathered_code : ℕ) (desks : List (HandlePlace DeskState)) (gathered : HandlePlace GatheredState) (settled : HandlePlace QuietState) (same_settled : settled ≡ old.settled)
+    (gathered_code : ℕ) (desks : List (HandlePlace DeskState)) (gathered : HandlePlace GatheredState) (settled : HandlePlace QuietNode) (same_settled : settled ≡ old.settled)
     (gathers : GathersFirst gathered_code old.desks desks old.gathered gathered old.settled) where
   pub first_refused : gathered_code ≢ 0 → Stages gathered_code old (record { crews = crews; desks = desks; gathered = gathered; settled = settled; history = history })
   first_refused some = record {
@@ -99,9 +99,9 @@ module _ (old : Places) (crews : List (HandlePlace Scheduler)) (history : Handle
         (λ i. record { crews = same_crews i; desks = desks; gathered = gathered; settled = same_settled i; history = same_history i });
   }
 
-  module _ (done : gathered_code ≡ 0) (settled_code : ℕ) (left : HandlePlace GatheredState) (after : HandlePlace QuietState) (settles : SettlesFirst settled_code gathered left settled after) where
+  module _ (done : gathered_code ≡ 0) (settled_code : ℕ) (left : HandlePlace GatheredState) (after : HandlePlace QuietNode) (settles : SettlesFirst settled_code gathered left settled after) where
     settles_it : SettlesFirst settled_code gathered left old.settled after
-    settles_it = subst (λ (p : HandlePlace QuietState). SettlesFirst settled_code gathered left p after) same_settled settles
+    settles_it = subst (λ (p : HandlePlace QuietNode). SettlesFirst settled_code gathered left p after) same_settled settles
 
     pub second_refused : settled_code ≢ 0 → Stages settled_code old (record { crews = crews; desks = desks; gathered = left; settled = after; history = history })
     second_refused some = record {
@@ -119,7 +119,7 @@ module _ (old : Places) (crews : List (HandlePlace Scheduler)) (history : Handle
       );
     }
 
-    pub last_stage : settled_code ≡ 0 → (code : ℕ) (later : List (HandlePlace Scheduler)) (back : List (HandlePlace DeskState)) (rest : HandlePlace QuietState) (told : HandlePlace HistoryState)
+    pub last_stage : settled_code ≡ 0 → (code : ℕ) (later : List (HandlePlace Scheduler)) (back : List (HandlePlace DeskState)) (rest : HandlePlace QuietNode) (told : HandlePlace HistoryState)
         → ResumesWith code crews later desks back after rest history told
         → Stages code old (record { crews = later; desks = back; gathered = left; settled = rest; history = told })
     last_stage fine code later back rest told resumes = record {

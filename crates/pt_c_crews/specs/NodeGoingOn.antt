@@ -4,14 +4,14 @@ use Rattle.pt_signal.specs.declared.config.OpenError.TheVariants.{Bounds}
 use Rattle.pt_signal.specs.declared.config.Setting.TheVariants.{Desks}
 use Rattle.pt_desk.specs.DeskState.{DeskState}
 use Rattle.pt_gathered.specs.Gathered.{GatheredState}
-use Rattle.pt_gathered.specs.Quiet.{QuietState}
+use Rattle.pt_c_desks.specs.declared.quiet_node.QuietNode.{QuietNode}
 use Rattle.pt_c_values.specs.Codes.{empty, filled, open_code, wrong_desk}
 use Rattle.pt_c_values.specs.Places.{HandlePlace, value_behind, values}
 use Rattle.pt_c_desks.specs.Answers.{HistoryState}
 use Rattle.pt_scheduler.specs.declared.scheduler.Scheduler.{Scheduler}
 use Rattle.pt_c_crews.specs.GoingOn.{AllCrewsGoOn}
 use Rattle.pt_c_crews.specs.Owning.{are_own}
-use Rattle.pt_c_nodes.specs.Nodes.{HandleTells, IsQuietHistoryOf, ResumesAs}
+use Rattle.pt_c_nodes.specs.Nodes.{HandleTells, IsHistoryOfQuiet, ResumesAs}
 use Rattle.pt_c_nodes.specs.FirstStages.{GathersFirst, IfPassed, SettlesFirst, has}
 
 -- what the handles of the call have
@@ -19,7 +19,7 @@ pub record Places : Type 0 where
   pub crews : List (HandlePlace Scheduler)
   pub desks : List (HandlePlace DeskState)
   pub gathered : HandlePlace GatheredState
-  pub settled : HandlePlace QuietState
+  pub settled : HandlePlace QuietNode
   pub history : HandlePlace HistoryState
 
 -- they go on with the history of the handle
@@ -30,10 +30,10 @@ GoOnWith _ old new = new ≡ old
 -- The history of the node is told, and then the node is resumed. Once it is, the crews go on with the history, and it is
 -- in its handle.
 abbrev pub ResumesWith : ℕ → List (HandlePlace Scheduler) → List (HandlePlace Scheduler) → List (HandlePlace DeskState)
-    → List (HandlePlace DeskState) → HandlePlace QuietState → HandlePlace QuietState → HandlePlace HistoryState
+    → List (HandlePlace DeskState) → HandlePlace QuietNode → HandlePlace QuietNode → HandlePlace HistoryState
     → HandlePlace HistoryState → Type 0
 ResumesWith code crews later desks back settled left before after =
-    (told : ℕ) × (h : HandlePlace HistoryState) × HandleTells told (value_behind settled) IsQuietHistoryOf None h
+    (told : ℕ) × (h : HandlePlace HistoryState) × HandleTells told (value_behind settled) IsHistoryOfQuiet None h
     × IfPassed told code ((later ≡ crews) × (back ≡ desks) × (left ≡ settled) × (after ≡ before))
     ((resumed : ℕ) × ResumesAs resumed settled left desks back
     × IfPassed resumed code ((later ≡ crews) × (after ≡ before))
@@ -46,7 +46,7 @@ pub record Stages (code : ℕ) (old new : Places) : Type 0 where
   pub gathered : HandlePlace GatheredState
   pub gathers : GathersFirst gathered_code old.desks desks old.gathered gathered old.settled
   pub rest : IfPassed gathered_code code (new ≡ record old { desks = desks; gathered = gathered })
-      ((settled_code : ℕ) × (left : HandlePlace GatheredState) × (settled : HandlePlace QuietState)
+      ((settled_code : ℕ) × (left : HandlePlace GatheredState) × (settled : HandlePlace QuietNode)
       × SettlesFirst settled_code gathered left old.settled settled
       × IfPassed settled_code code (new ≡ record old { desks = desks; gathered = left; settled = settled })
       ((new.gathered ≡ left)

@@ -10,11 +10,12 @@ use crate::crew_handle::CrewHandle;
 use crate::rows::{are_own, count_crews, go_on_all};
 use pt_c_desks::desk_handle::DeskHandle;
 use pt_c_desks::history_handle::{HistoryHandle, claim, hold, is_full as has_history};
+use pt_c_desks::quiet_handle::QuietHandle;
 use pt_c_nodes::first_stages::{gather_first, settle_first};
 use pt_c_nodes::gathered_handle::GatheredHandle;
-use pt_c_nodes::node::{gather_desks, give_up_history};
-use pt_c_nodes::settled::{resume_unlisted, settle_unlisted, settled_history};
-use pt_c_nodes::settled_handle::SettledHandle;
+use pt_c_nodes::node::{give_up_history, quiet_history};
+use pt_c_nodes::resuming::resume_desks;
+use pt_c_nodes::settling::settle_unlisted;
 use pt_c_values::codes::{DONE, EMPTY, FILLED, WRONG_DESK, open_code};
 use pt_node::{OpenError, Setting};
 use std::alloc::Global;
@@ -27,17 +28,17 @@ use std::alloc::Global;
 /// more or fewer crews than desks, else 10 if `history` is not empty, else 18 if a crew is that of a desk with another
 /// number than its place.
 ///
-/// Then it makes the calls `gather_desks`, `settle_unlisted`, `settled_history` and `resume_unlisted`, up to the
-/// first that does not return 0, and returns its code. The crews and `history` are as they were then, and the node is
-/// where that call left it: in the handles of the desks, in `gathered` or in `settled`. So the same call made again does
-/// the rest: the desks are gathered only if neither `gathered` nor `settled` has a node, and the node is settled only if
-/// `settled` has none. It returns 10 if a desk, too, is in its handle, or if both have a node.
+/// Then it makes the calls `gather_desks`, `settle_unlisted`, `quiet_history` and `resume_desks`, up to the first that
+/// does not return 0, and returns its code. The crews and `history` are as they were then, and the node is where that
+/// call left it: in the handles of the desks, in `gathered` or in `settled`. So the same call made again does the rest:
+/// the desks are gathered only if neither `gathered` nor `settled` has a node, and the node is settled only if `settled`
+/// has none. It returns 10 if a desk, too, is in its handle, or if both have a node.
 pub fn crews_go_on(
     alloc: Global,
     crews: &mut [CrewHandle],
     desks: &mut [DeskHandle],
     gathered: &mut GatheredHandle,
-    settled: &mut SettledHandle,
+    settled: &mut QuietHandle,
     history: &mut HistoryHandle,
 ) -> u32
     requires { IsWholeNode (map (λ h. h.state) desks.old) → AreDesks (values (map (λ h. h.state) desks.old)) }
@@ -86,7 +87,7 @@ fn resume_crews(
     alloc: Global,
     crews: &mut [CrewHandle],
     desks: &mut [DeskHandle],
-    settled: &mut SettledHandle,
+    settled: &mut QuietHandle,
     history: &mut HistoryHandle,
 ) -> u32
     ensures { ResumesWith result (map (λ h. h.state) crews.old) (map (λ h. h.state) crews.new)
@@ -94,11 +95,11 @@ fn resume_crews(
         history.old.state history.new.state }
 {
     let mut told = HistoryHandle::none();
-    let read = settled_history(alloc, settled, &mut told);
+    let read = quiet_history(alloc, settled, &mut told);
     if read != DONE {
         return read;
     }
-    let resumed = resume_unlisted(alloc, settled, desks);
+    let resumed = resume_desks(alloc, settled, desks);
     if resumed != DONE {
         // (a handle that goes out of scope frees nothing)
         give_up_history(alloc, &mut told);

@@ -1,6 +1,7 @@
 pub mod Answers
 pub mod InOrder
 pub mod Reading
+pub mod QuietNodes
 pub mod Losing
 pub mod Waking
 pub mod Letters

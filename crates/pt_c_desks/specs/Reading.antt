@@ -23,7 +23,10 @@ use Rattle.pt_c_values.specs.declared.types.PtPid.{PtPid}
 use Rattle.pt_c_values.specs.declared.types.PtIds.{PtIds}
 use Rattle.pt_c_values.specs.declared.types.PtAccount.{PtAccount}
 use Rattle.pt_c_values.specs.Crossing.{pid_out, ids_out, account_out}
+use Rattle.pt_c_values.specs.Codes.{unlisted}
 use Rattle.pt_c_values.specs.Places.{ShowsCode}
+use Rattle.pt_c_desks.specs.declared.quiet_node.QuietNode.{QuietNode}
+use Rattle.pt_c_desks.specs.declared.quiet_node.QuietNode.TheVariants.{Listed, Unlisted}
 
 -- desks --------------------------------------------------------------------------------
 
@@ -76,12 +79,20 @@ event_numbered d place = slice_get (reverse d.shard.journal) place
 abbrev pub AreItsPids : QuietState → List Pid → Type 0
 AreItsPids q pids = InEveryMerge (journals q.gathered) (λ past. AreAllPids (begins q.gathered) past pids)
 
-abbrev pub TellsCount : QuietState → ℕ → ℕ → Type 0
-TellsCount q code after = (code ≡ 0) × (pids : List Pid) × AreItsPids q pids × (after ≡ length pids)
+-- how many there are; if the node has no list of them, the code says so
+abbrev pub TellsCount : QuietNode → ℕ → ℕ → ℕ → Type 0
+TellsCount (Listed q) code before after =
+    (code ≡ 0) × (pids : List Pid) × AreItsPids q pids × (after ≡ length pids)
+TellsCount (Unlisted q) code before after = (code ≡ unlisted) × (after ≡ before)
 
-abbrev pub TellsPid : QuietState → ℕ → ℕ → PtPid → PtPid → Type 0
-TellsPid q place code before after =
+-- the pid at a place of the list
+abbrev pub ShowsPid : QuietState → ℕ → ℕ → PtPid → PtPid → Type 0
+ShowsPid q place code before after =
     (pids : List Pid) × AreItsPids q pids × ShowsCode code before after pid_out (slice_get pids place)
+
+abbrev pub TellsPid : QuietNode → ℕ → ℕ → PtPid → PtPid → Type 0
+TellsPid (Listed q) place code before after = ShowsPid q place code before after
+TellsPid (Unlisted q) place code before after = (code ≡ unlisted) × (after ≡ before)
 
 abbrev pub TellsAccount : QuietState → Pid → ℕ → PtAccount → PtAccount → Type 0
 TellsAccount q p code before after =

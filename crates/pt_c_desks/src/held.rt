@@ -1,8 +1,8 @@
 //! The places that handles have: a value on the heap, which can be taken out and leaves its place.
 
+use crate::quiet_node::QuietNode;
 use pt_desk::Desk;
 use pt_events::Stamped;
-use pt_gathered::Quiet;
 use pt_signal::LeftOver;
 use std::marker::Model;
 
@@ -39,14 +39,14 @@ fn give_up(desk: Desk) {
 /// The place of a settled node.
 #[derive(Drop)]
 pub struct HeldQuiet {
-    pub quiet: Option<Quiet>,
+    pub quiet: Option<QuietNode>,
 }
 
 impl Model for HeldQuiet {
     ghost use Rattle.std.specs.Prelude.{Option};
-    ghost use Rattle.pt_gathered.specs.Quiet.{QuietState};
+    ghost use Rattle.pt_c_desks.specs.declared.quiet_node.QuietNode.{QuietNode};
 
-    ghost Value = { Option QuietState };
+    ghost Value = { Option QuietNode };
 
     ghost view = { λ h. h.quiet };
 }

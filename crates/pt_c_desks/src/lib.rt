@@ -1,4 +1,4 @@
-//! Desks for C without their exports: the handles of desks, histories and quiet nodes, and each call of a desk.
+//! Desks for C without their exports: the handles of desks, histories and settled nodes, and each call of a desk.
 //!
 //! A call takes the desk out of its handle, makes the call that has its name, with plain structs and codes, and puts the desk
 //! back. `pt_c` exports these calls. They are in a library so that the gate proves them once: a static library keeps no
@@ -32,5 +32,6 @@ pub mod letters;
 pub mod looking;
 pub mod losses;
 pub mod quiet_handle;
+pub mod quiet_node;
 pub mod reads;
 pub mod rows;

@@ -8,8 +8,8 @@ ghost use Rattle.pt_c_values.specs.Places.{value_behind, full};
 ghost use Rattle.pt_c_values.specs.Held.{held_on_heap};
 
 use crate::held::HeldQuiet;
+use crate::quiet_node::QuietNode;
 use pt_c_values::loose::{Loose, Opaque};
-use pt_gathered::Quiet;
 use std::alloc::{AllocError, Global};
 use std::marker::Model;
 use std::mem;
@@ -93,7 +93,7 @@ pub fn is_full(alloc: Global, h: &mut QuietHandle) -> bool
 }
 
 /// Takes the value out of the handle, with its place.
-pub fn take_out(alloc: Global, h: &mut QuietHandle) -> Option<(Box<HeldQuiet, Global>, Quiet)>
+pub fn take_out(alloc: Global, h: &mut QuietHandle) -> Option<(Box<HeldQuiet, Global>, QuietNode)>
     ensures value { option_map (λ r. r.1) result ≡ value_behind h.old.state }
     ensures empty { h.new.state ≡ None }
 {
@@ -113,7 +113,7 @@ pub fn spare(alloc: Global) -> Result<Box<HeldQuiet, Global>, AllocError>
 }
 
 /// The handle with this place, and with the value in it.
-pub fn filled(place: Box<HeldQuiet, Global>, value: Quiet) -> QuietHandle
+pub fn filled(place: Box<HeldQuiet, Global>, value: QuietNode) -> QuietHandle
     ensures { result.state ≡ full value }
 {
     let mut place = place;

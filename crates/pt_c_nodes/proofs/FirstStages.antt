@@ -3,7 +3,7 @@ use Rattle.std.proofs.Common.{◌≡◌, ◌≢◌, ℕ, zero, suc, Bool, true, 
 use Rattle.std.specs.Prelude.{◌||◌, MatchBool}
 use Rattle.pt_desk.specs.DeskState.{DeskState}
 use Rattle.pt_gathered.specs.Gathered.{GatheredState}
-use Rattle.pt_gathered.specs.Quiet.{QuietState}
+use Rattle.pt_c_desks.specs.declared.quiet_node.QuietNode.{QuietNode}
 use Rattle.pt_c_values.specs.Codes.{filled}
 use Rattle.pt_c_values.specs.Places.{HandlePlace, values}
 use Rattle.pt_c_nodes.specs.Nodes.{GathersAs, SettlesAs}
@@ -36,7 +36,7 @@ or_second true b is = absurd (cc is)
 
 -- the first stage --------------------------------------------------------------------------------
 
-module _ (code : ℕ) (old new : List (HandlePlace DeskState)) (before after : HandlePlace GatheredState) (settled : HandlePlace QuietState) where
+module _ (code : ℕ) (old new : List (HandlePlace DeskState)) (before after : HandlePlace GatheredState) (settled : HandlePlace QuietNode) where
   pub was_gathered : has before ≡ true → new ≡ old → after ≡ before → IfNone (values old) (code ≡ 0) (code ≡ filled) → GathersFirst code old new before after settled
   was_gathered is same out how = match_true (has before || has settled) _ _ (or_first (has before) (has settled) is) (same, out, how)
 
@@ -50,10 +50,10 @@ module _ (code : ℕ) (old new : List (HandlePlace DeskState)) (before after : H
 
 -- the second stage -------------------------------------------------------------------------------
 
-module _ (code : ℕ) (old new : HandlePlace GatheredState) (before after : HandlePlace QuietState) where
-  pub settles_now : has before ≡ false → (start : HandlePlace QuietState) → start ≡ before → SettlesAs code old new start after → SettlesFirst code old new before after
+module _ (code : ℕ) (old new : HandlePlace GatheredState) (before after : HandlePlace QuietNode) where
+  pub settles_now : has before ≡ false → (start : HandlePlace QuietNode) → start ≡ before → SettlesAs false code old new start after → SettlesFirst code old new before after
   settles_now none start is settles =
-      match_false (has before) _ _ none (subst (λ (p : HandlePlace QuietState). SettlesAs code old new p after) is settles)
+      match_false (has before) _ _ none (subst (λ (p : HandlePlace QuietNode). SettlesAs false code old new p after) is settles)
 
 if_full : (p : HandlePlace GatheredState) (P Q : Type 0) → has p ≡ true → Q → IfEmpty p P Q
 if_full (Some (Some s)) P Q is q = q
@@ -65,7 +65,7 @@ if_empty (Some (Some s)) P Q is x = absurd (cc is)
 if_empty (Some None) P Q is x = x
 if_empty None P Q is x = x
 
-module _ (old new : HandlePlace GatheredState) (before after : HandlePlace QuietState) where
+module _ (old new : HandlePlace GatheredState) (before after : HandlePlace QuietNode) where
   pub both_full : has before ≡ true → has old ≡ true → new ≡ old → after ≡ before → SettlesFirst filled old new before after
   both_full is two same out = match_true (has before) _ _ is (same, out, if_full old _ _ two refl)
 

@@ -1,16 +1,17 @@
 -- What gathering and settling come to, from what their parts tell.
-use Rattle.std.proofs.Common.{◌≡◌, ℕ, true, false, List, [], ◌∷◌, Some, None, length, map, refl, sym, ap, ◌∙◌, subst, arith, inl, inr}
+use Rattle.std.proofs.Common.{◌≡◌, ℕ, Bool, true, false, List, [], ◌∷◌, Some, None, length, map, refl, sym, ap, ◌∙◌, subst, arith, inl, inr}
 use Rattle.std.specs.Prelude.{is_some}
 use Rattle.std.proofs.lemmas.List.{length-map}
 use Rattle.pt_signal.specs.declared.config.OpenError.TheVariants.{Bounds}
 use Rattle.pt_signal.specs.declared.config.Setting.TheVariants.{Desks}
 use Rattle.pt_desk.specs.DeskState.{DeskState}
 use Rattle.pt_gathered.specs.Gathered.{GatheredState}
-use Rattle.pt_gathered.specs.Quiet.{QuietState}
+use Rattle.pt_c_desks.specs.QuietNodes.{is_listed, node_of}
+use Rattle.pt_c_desks.specs.declared.quiet_node.QuietNode.{QuietNode}
 use Rattle.pt_c_values.specs.Places.{HandlePlace, value_behind, values, had, full}
 use Rattle.pt_c_values.specs.Codes.{empty, filled, open_code}
 use Rattle.pt_c_desks.specs.InOrder.{are_in_order}
-use Rattle.pt_c_nodes.specs.Nodes.{AreAllFull, GathersAs, GathersWhole, Joins, SettlesAs, IsSettledOf, NotSettled, ListsAs, ListsOne, in_order}
+use Rattle.pt_c_nodes.specs.Nodes.{AreAllFull, GathersAs, GathersWhole, Joins, SettlesAs, IsSettledOf, NotSettled, in_order}
 use Rattle.pt_c_values.specs.Filling.{IfEmpty}
 use Rattle.pt_c_values.proofs.Empty.{if_empty}
 use Rattle.pt_c_values.proofs.InRow.{first_value}
@@ -79,14 +80,10 @@ module _ (old new : List (HandlePlace DeskState)) (before after : HandlePlace Ga
     all_full = λ a e. subst (λ (p : List (HandlePlace DeskState)). GathersWhole code p new before after) is whole;
   }
 
-module _ (old : HandlePlace GatheredState) (g : GatheredState) (is : old ≡ full g) (new : HandlePlace GatheredState) (before after : HandlePlace QuietState) (none : is_some (value_behind before) ≡ false) where
-  pub settled : (q : QuietState) → new ≡ None → IsSettledOf g q → after ≡ full q → SettlesAs 0 old new before after
-  settled q gone so out =
-      subst (λ o. SettlesAs 0 o new before after) (sym is) (if_empty before _ _ none (inl (record { done = refl; emptied = gone; node = q; is_of = so; out_is = out })))
+module _ (old : HandlePlace GatheredState) (g : GatheredState) (is : old ≡ full g) (new : HandlePlace GatheredState) (before after : HandlePlace QuietNode) (none : is_some (value_behind before) ≡ false) where
+  pub settled : (listed : Bool) (q : QuietNode) → new ≡ None → is_listed q ≡ listed → IsSettledOf g (node_of q) → after ≡ full q → SettlesAs listed 0 old new before after
+  settled listed q gone list so out =
+      subst (λ o. SettlesAs listed 0 o new before after) (sym is) (if_empty before _ _ none (inl (record { done = refl; emptied = gone; node = q; list = list; is_of = so; out_is = out })))
 
-  pub not_settled : (code : ℕ) → NotSettled code g new before after → SettlesAs code old new before after
-  not_settled code so = subst (λ o. SettlesAs code o new before after) (sym is) (if_empty before _ _ none (inr (inl so)))
-
-pub listed : (code : ℕ) (old new before after : HandlePlace QuietState) (q : QuietState) → old ≡ full q → is_some (value_behind before) ≡ false → ListsOne code q new before after
-    → ListsAs code old new before after
-listed code old new before after q is none so = subst (λ o. ListsAs code o new before after) (sym is) (if_empty before _ _ none so)
+  pub not_settled : (listed : Bool) (code : ℕ) → NotSettled code g new before after → SettlesAs listed code old new before after
+  not_settled listed code so = subst (λ o. SettlesAs listed code o new before after) (sym is) (if_empty before _ _ none (inr (inl so)))

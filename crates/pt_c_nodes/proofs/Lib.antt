@@ -1,5 +1,4 @@
 -- The lemmas that more than one function of the crate uses.
 pub mod Joining
-pub mod Kept
 pub mod FirstStages
 mod Handles

@@ -27,6 +27,9 @@ use Rattle.pt_c_values.specs.Codes.{open_code, stop_code, empty, filled}
 use Rattle.pt_c_values.specs.Crossing.{config_in}
 use Rattle.pt_c_values.specs.Places.{HandlePlace, values, full}
 use Rattle.pt_c_desks.specs.Answers.{HistoryState}
+use Rattle.pt_c_desks.specs.QuietNodes.{is_listed, node_of}
+use Rattle.pt_c_desks.specs.declared.quiet_node.QuietNode.{QuietNode}
+use Rattle.pt_c_desks.specs.declared.quiet_node.QuietNode.TheVariants.{Listed}
 pub use Rattle.pt_c_values.specs.Filling.{IfNone, IfEmpty, GivesUp}
 use Rattle.pt_c_desks.specs.InOrder.{are_in_order}
 
@@ -136,20 +139,8 @@ pub record IsSettledOf (g : GatheredState) (q : QuietState) : Type 0 where
   pub answers : AnswersHold q.gathered
   pub questions : QuestionsAnswered q.gathered
 
-pub record Settled (code : ℕ) (g : GatheredState) (new : HandlePlace GatheredState) (out : HandlePlace QuietState) : Type 0 where
-  pub done : code ≡ 0
-  pub emptied : new ≡ None
-  pub node : QuietState
-  pub is_of : IsSettledOf g node
-  pub out_is : out ≡ full node
-
--- a receipt was refused, or there was no memory after the last one: the handle has the node with what was handled
-pub record NotSettled (code : ℕ) (g : GatheredState) (new : HandlePlace GatheredState)
-    (before after : HandlePlace QuietState) : Type 0 where
-  pub fault : Stop
-  pub code_is : code ≡ stop_code (Some fault)
-  pub node : GatheredState
-  pub new_is : new ≡ full node
+-- what holds of a node whose settling stopped: a receipt was refused, or there was no memory after the last one
+pub record IsStoppedOf (g : GatheredState) (fault : Stop) (node : GatheredState) : Type 0 where
   pub settles : Settles g node
   pub order : SettlingStops (length g.shards) fault g node
   pub bounded : IsBounded g node
@@ -157,53 +148,70 @@ pub record NotSettled (code : ℕ) (g : GatheredState) (new : HandlePlace Gather
   pub headline : KeepsHeadline node
   pub legal : IsLegalNode node
   pub answers : AnswersHold node
+
+-- the settled node is in its handle, with the list of its pids if it was to have one
+pub record Settled (listed : Bool) (code : ℕ) (g : GatheredState) (new : HandlePlace GatheredState)
+    (out : HandlePlace QuietNode) : Type 0 where
+  pub done : code ≡ 0
+  pub emptied : new ≡ None
+  pub node : QuietNode
+  pub list : is_listed node ≡ listed
+  pub is_of : IsSettledOf g (node_of node)
+  pub out_is : out ≡ full node
+
+-- settling stopped: the handle has the node with what was handled
+pub record NotSettled (code : ℕ) (g : GatheredState) (new : HandlePlace GatheredState)
+    (before after : HandlePlace QuietNode) : Type 0 where
+  pub fault : Stop
+  pub code_is : code ≡ stop_code (Some fault)
+  pub node : GatheredState
+  pub is_of : IsStoppedOf g fault node
+  pub new_is : new ≡ full node
   pub out_same : after ≡ before
 
 -- there was no memory for what settling leaves, before anything was handled
-abbrev pub NotBegun : ℕ → GatheredState → HandlePlace GatheredState → HandlePlace QuietState → HandlePlace QuietState → Type 0
+abbrev pub NotBegun : ℕ → GatheredState → HandlePlace GatheredState → HandlePlace QuietNode → HandlePlace QuietNode → Type 0
 NotBegun code g new before after = (code ≡ 2) × (new ≡ full g) × (after ≡ before)
 
-abbrev pub SettlesOne : ℕ → GatheredState → HandlePlace GatheredState → HandlePlace QuietState → HandlePlace QuietState → Type 0
-SettlesOne code g new before after =
-    Settled code g new after ⊎ NotSettled code g new before after ⊎ NotBegun code g new before after
+abbrev pub SettlesOne : Bool → ℕ → GatheredState → HandlePlace GatheredState → HandlePlace QuietNode → HandlePlace QuietNode
+    → Type 0
+SettlesOne listed code g new before after =
+    Settled listed code g new after ⊎ NotSettled code g new before after ⊎ NotBegun code g new before after
 
-abbrev pub SettlesAs : ℕ → HandlePlace GatheredState → HandlePlace GatheredState → HandlePlace QuietState → HandlePlace QuietState → Type 0
-SettlesAs code (Some (Some g)) new before after =
-    IfEmpty before (SettlesOne code g new before after) (Refused filled code (full g) new before after)
-SettlesAs code old new before after = Refused empty code old new before after
+-- the node is settled, with the list of its pids or without
+abbrev pub SettlesAs : Bool → ℕ → HandlePlace GatheredState → HandlePlace GatheredState → HandlePlace QuietNode
+    → HandlePlace QuietNode → Type 0
+SettlesAs listed code (Some (Some g)) new before after =
+    IfEmpty before (SettlesOne listed code g new before after) (Refused filled code (full g) new before after)
+SettlesAs listed code old new before after = Refused empty code old new before after
 
--- the node with the list of its pids is in the other handle; or there was no memory, and both are as they were
-abbrev pub ListsOne : ℕ → QuietState → HandlePlace QuietState → HandlePlace QuietState → HandlePlace QuietState → Type 0
-ListsOne code q new before after =
-    ((code ≡ 0) × (new ≡ None) × (after ≡ full q)) ⊎ ((code ≡ 2) × (new ≡ full q) × (after ≡ before))
-
-abbrev pub ListsAs : ℕ → HandlePlace QuietState → HandlePlace QuietState → HandlePlace QuietState → HandlePlace QuietState → Type 0
-ListsAs code (Some (Some q)) new before after =
-    IfEmpty before (ListsOne code q new before after) (Refused filled code (full q) new before after)
-ListsAs code old new before after = Refused empty code old new before after
+-- the node has the list of its pids; or it had none, and there was no memory for one
+abbrev pub ListsItsPids : ℕ → QuietNode → QuietNode → Type 0
+ListsItsPids code old new =
+    ((code ≡ 0) × (new ≡ Listed (node_of old))) ⊎ ((code ≡ 2) × (is_listed old ≡ false) × (new ≡ old))
 
 -- going on -----------------------------------------------------------------------------
 
 -- each handle has its desk, and that of the settled node is empty
-pub record Resumed (q : QuietState) (code : ℕ) (new : List (HandlePlace DeskState)) (node : HandlePlace QuietState) : Type 0 where
+pub record Resumed (q : QuietNode) (code : ℕ) (new : List (HandlePlace DeskState)) (node : HandlePlace QuietNode) : Type 0 where
   pub done : code ≡ 0
   pub desks : List DeskState
-  pub goes_on : Resumes q.gathered desks
+  pub goes_on : Resumes (node_of q).gathered desks
   pub are : new ≡ map full desks
   pub emptied : node ≡ None
 
 -- or there was no memory, and all handles are as they were
-abbrev pub NotResumed : QuietState → ℕ → List (HandlePlace DeskState) → List (HandlePlace DeskState) → HandlePlace QuietState → Type 0
+abbrev pub NotResumed : QuietNode → ℕ → List (HandlePlace DeskState) → List (HandlePlace DeskState) → HandlePlace QuietNode → Type 0
 NotResumed q code old new node = (code ≡ 2) × (new ≡ old) × (node ≡ full q)
 
 -- where there are as many handles as the node has desks; else the code says so
-pub record ResumesMany (q : QuietState) (code : ℕ) (old new : List (HandlePlace DeskState))
-    (node : HandlePlace QuietState) : Type 0 where
-  pub as_many : length old ≡ length q.gathered.shards → Resumed q code new node ⊎ NotResumed q code old new node
-  pub not_as_many : length old ≢ length q.gathered.shards
+pub record ResumesMany (q : QuietNode) (code : ℕ) (old new : List (HandlePlace DeskState))
+    (node : HandlePlace QuietNode) : Type 0 where
+  pub as_many : length old ≡ length (node_of q).gathered.shards → Resumed q code new node ⊎ NotResumed q code old new node
+  pub not_as_many : length old ≢ length (node_of q).gathered.shards
       → Refused (open_code (Bounds Desks)) code old new (full q) node
 
-abbrev pub ResumesAs : ℕ → HandlePlace QuietState → HandlePlace QuietState → List (HandlePlace DeskState) → List (HandlePlace DeskState)
+abbrev pub ResumesAs : ℕ → HandlePlace QuietNode → HandlePlace QuietNode → List (HandlePlace DeskState) → List (HandlePlace DeskState)
     → Type 0
 ResumesAs code (Some (Some q)) node old new =
     IfNone (values old) (ResumesMany q code old new node) (Refused filled code old new (full q) node)
@@ -223,6 +231,9 @@ pub record IsQuietHistoryOf (q : QuietState) (h : HistoryState) : Type 0 where
   pub legal : LegalWithLeftOver (begins q.gathered) (reverse h.events) (over q.gathered)
   pub quiet : IsQuiet (begins q.gathered) (events (reverse h.events))
   pub left : h.left ≡ []
+
+abbrev pub IsHistoryOfQuiet : QuietNode → HistoryState → Type 0
+IsHistoryOfQuiet q h = IsQuietHistoryOf (node_of q) h
 
 -- out gets a history of which P holds; or there was no memory, or out had one already
 abbrev pub Writes : ℕ → (HistoryState → Type 0) → HandlePlace HistoryState → HandlePlace HistoryState → Type 0

@@ -10,9 +10,9 @@ ghost use Rattle.pt_c_nodes.specs.FirstStages.{GathersFirst, SettlesFirst};
 
 use crate::gathered_handle::{GatheredHandle, is_full as has_gathered};
 use crate::node::gather_desks;
-use crate::settled::settle_unlisted;
-use crate::settled_handle::{SettledHandle, is_full as has_settled};
+use crate::settling::settle_unlisted;
 use pt_c_desks::desk_handle::DeskHandle;
+use pt_c_desks::quiet_handle::{QuietHandle, is_full as has_settled};
 use pt_c_desks::rows::count_full;
 use pt_c_values::codes::{DONE, FILLED};
 use std::alloc::Global;
@@ -22,7 +22,7 @@ pub fn gather_first(
     alloc: Global,
     desks: &mut [DeskHandle],
     gathered: &mut GatheredHandle,
-    settled: &mut SettledHandle,
+    settled: &mut QuietHandle,
 ) -> u32
     requires { IsWholeNode (map (λ h. h.state) desks.old) → AreDesks (values (map (λ h. h.state) desks.old)) }
     ensures gathers { GathersFirst result (map (λ h. h.state) desks.old) (map (λ h. h.state) desks.new)
@@ -52,11 +52,7 @@ fn passed_over(alloc: Global, desks: &mut [DeskHandle]) -> u32
 }
 
 /// Settles the node, if it is not settled.
-pub fn settle_first(
-    alloc: Global,
-    gathered: &mut GatheredHandle,
-    settled: &mut SettledHandle,
-) -> u32
+pub fn settle_first(alloc: Global, gathered: &mut GatheredHandle, settled: &mut QuietHandle) -> u32
     ensures { SettlesFirst result gathered.old.state gathered.new.state settled.old.state settled.new.state }
 {
     let is_settled = has_settled(alloc, settled);

@@ -8,8 +8,8 @@ ghost use Rattle.pt_c_values.specs.Places.{value_behind, full};
 ghost use Rattle.pt_c_values.specs.Held.{held_on_heap};
 
 use crate::held::HeldGathered;
-use crate::keeping::GatheredNode;
 use pt_c_values::loose::{Loose, Opaque};
+use pt_node::Gathered;
 use std::alloc::{AllocError, Global};
 use std::marker::Model;
 use std::mem;
@@ -96,7 +96,7 @@ pub fn is_full(alloc: Global, h: &mut GatheredHandle) -> bool
 pub fn take_out(
     alloc: Global,
     h: &mut GatheredHandle,
-) -> Option<(Box<HeldGathered, Global>, GatheredNode)>
+) -> Option<(Box<HeldGathered, Global>, Gathered)>
     ensures value { option_map (λ r. r.1) result ≡ value_behind h.old.state }
     ensures empty { h.new.state ≡ None }
 {
@@ -116,7 +116,7 @@ pub fn spare(alloc: Global) -> Result<Box<HeldGathered, Global>, AllocError>
 }
 
 /// The handle with this place, and with the value in it.
-pub fn filled(place: Box<HeldGathered, Global>, value: GatheredNode) -> GatheredHandle
+pub fn filled(place: Box<HeldGathered, Global>, value: Gathered) -> GatheredHandle
     ensures { result.state ≡ full value }
 {
     let mut place = place;

@@ -1,34 +1,30 @@
-//! Opening a node, gathering its desks, and settling it.
+//! Opening a node, gathering its desks, and giving up what a handle has.
 
 ghost use Rattle.std.specs.Prelude.{◌≡◌, ◌≤◌, [], map, length, IfOk};
 ghost use Rattle.std.specs.Vec.{vec_capacity};
 ghost use Rattle.pt_workers.specs.Desks.{AreDesks};
 ghost use Rattle.pt_c_values.specs.Places.{value_behind, values};
-ghost use Rattle.pt_c_nodes.specs.Nodes.{OpensAs, OpensMany, AreAllFull, IsWholeNode, GathersAs, GathersWhole, Joins, SettlesAs, HandleTells, Writes};
+ghost use Rattle.pt_c_nodes.specs.Nodes.{OpensAs, OpensMany, AreAllFull, IsWholeNode, GathersAs, GathersWhole, Joins, HandleTells, Writes};
 ghost use Rattle.pt_c_values.specs.Filling.{GivesUp};
-ghost use Rattle.pt_c_nodes.specs.Nodes.{IsHistoryOf, IsQuietHistoryOf};
+ghost use Rattle.pt_c_nodes.specs.Nodes.{IsHistoryOf, IsHistoryOfQuiet, IsQuietHistoryOf};
 
 use crate::gathered_handle::{
     GatheredHandle, claim as claim_gathered, filled as filled_gathered, hold as hold_gathered,
-    is_full as has_gathered, spare as spare_gathered, take_out as take_gathered,
+    is_full as has_gathered, spare as spare_gathered,
 };
 use crate::held::HeldGathered;
-use crate::keeping::GatheredNode;
 use pt_c_desks::desk_handle::{DeskHandle, claim as claim_desk};
 use pt_c_desks::held::{HeldDesk, History};
 use pt_c_desks::history_handle::{
     HistoryHandle, claim as claim_history, filled as filled_history, is_full as has_history,
     spare as spare_history,
 };
-use pt_c_desks::quiet_handle::{
-    QuietHandle, claim as claim_quiet, filled as filled_quiet, hold as hold_quiet,
-    is_full as has_quiet, spare as spare_quiet,
-};
+use pt_c_desks::quiet_handle::{QuietHandle, claim as claim_quiet, hold as hold_quiet};
 use pt_c_desks::rows::{are_in_order, count_full, empty_all, fill_all, spare_places};
-use pt_c_values::codes::{DONE, EMPTY, FILLED, MEMORY, open_code, stop_code};
+use pt_c_values::codes::{DONE, EMPTY, FILLED, MEMORY, open_code};
 use pt_c_values::ending::end_code;
 use pt_c_values::types::PtConfig;
-use pt_node::{Config, Desk, Gathered, OpenError, Quiet, Setting, abandon, gather_keeping, open};
+use pt_node::{Config, Desk, Gathered, OpenError, Setting, Settled, abandon, gather, open};
 use std::alloc::{AllocError, Global};
 
 /// Opens a node: each handle gets one of its desks, in order, as `open` makes them.
@@ -72,8 +68,8 @@ fn open_many(alloc: Global, count: usize, config: PtConfig) -> Result<Vec<Desk>,
     )
 }
 
-/// Brings the desks of a node together, as `gather` does. `out` has the node then, with its directory of exited
-/// processes, and the handles of the desks are empty.
+/// Brings the desks of a node together, as `gather` does. `out` has the node then, and the handles of the desks are
+/// empty.
 ///
 /// All handles must have a desk: it returns 9 if one has none, or there is no handle. They must be all desks of one
 /// `open_desks` or of one resumption, each once and in order: it returns 11 if there are more or fewer than their node has, or
@@ -135,45 +131,14 @@ fn gather_all(
     let mut places = places;
     let mut list = list;
     empty_all(alloc, desks, &mut places, &mut list);
-    match gather_keeping(alloc, list) {
-        Ok((gathered, kept)) => {
-            *out = filled_gathered(place, GatheredNode::of(gathered, kept));
+    match gather(alloc, list) {
+        Ok(gathered) => {
+            *out = filled_gathered(place, gathered);
             DONE
         }
         Err(back) => {
             fill_all(desks, places, back.into_desks());
             MEMORY
-        }
-    }
-}
-
-/// Settles the node, as `Gathered::settle` does. `out` has the settled node then, and the handle of the gathered one is
-/// empty. The directory of exited processes is not kept.
-///
-/// `out` must be empty: it returns 10 if it is not. If it returns 2 or 3, the handle has the node with what was handled
-/// so far and with its directory, and the node may be settled again.
-pub fn settle_gathered(alloc: Global, g: &mut GatheredHandle, out: &mut QuietHandle) -> u32
-    ensures { SettlesAs result g.old.state g.new.state out.old.state out.new.state }
-{
-    if !has_gathered(alloc, g) {
-        return EMPTY;
-    }
-    if has_quiet(alloc, out) {
-        return FILLED;
-    }
-    let Ok(empty) = spare_quiet(alloc) else {
-        return MEMORY;
-    };
-    let (place, node) = take_gathered(alloc, g).unwrap();
-    let (gathered, kept) = node.apart();
-    match gathered.settle() {
-        Ok(quiet) => {
-            *out = filled_quiet(empty, quiet);
-            DONE
-        }
-        Err(back) => {
-            *g = filled_gathered(place, GatheredNode::of(back.gathered, kept));
-            stop_code(Some(back.fault))
         }
     }
 }
@@ -231,7 +196,7 @@ pub fn gathered_history(alloc: Global, g: &mut GatheredHandle, out: &mut History
     };
     let code = match &place.gathered {
         Some(_) if has_history(alloc, out) => FILLED,
-        Some(node) => match history_of(node.gathered()) {
+        Some(gathered) => match history_of(gathered) {
             Ok(history) => match spare_history(alloc) {
                 Ok(empty) => {
                     *out = filled_history(empty, history);
@@ -256,31 +221,31 @@ fn history_of(gathered: &Gathered) -> Result<History, AllocError>
     })
 }
 
-/// The history of a settled node, as `Quiet::history` returns it. `out` has it then, with no letter left over.
+/// The history of a settled node, as `Settled::history` returns it. `out` has it then, with no letter left over.
 ///
 /// `out` must be empty: it returns 10 if it is not.
 pub fn quiet_history(alloc: Global, q: &mut QuietHandle, out: &mut HistoryHandle) -> u32
-    ensures tells { HandleTells result (value_behind q.old.state) IsQuietHistoryOf out.old.state out.new.state }
+    ensures tells { HandleTells result (value_behind q.old.state) IsHistoryOfQuiet out.old.state out.new.state }
     ensures same { q.new.state ≡ q.old.state }
 {
     let Some(place) = claim_quiet(alloc, q) else {
         return EMPTY;
     };
     let code = match &place.quiet {
-        Some(quiet) => tell_quiet(alloc, quiet, out),
+        Some(node) => tell_settled(alloc, node.settled(), out),
         None => EMPTY,
     };
     *q = hold_quiet(place);
     code
 }
 
-fn tell_quiet(alloc: Global, quiet: &Quiet, out: &mut HistoryHandle) -> u32
-    ensures { Writes result (IsQuietHistoryOf quiet.now) out.old.state out.new.state }
+fn tell_settled(alloc: Global, settled: &Settled, out: &mut HistoryHandle) -> u32
+    ensures { Writes result (IsQuietHistoryOf settled.now) out.old.state out.new.state }
 {
     if has_history(alloc, out) {
         return FILLED;
     }
-    match quiet.history() {
+    match settled.history() {
         Ok(events) => match spare_history(alloc) {
             Ok(place) => {
                 let left = Vec::new(alloc);

@@ -4,14 +4,16 @@
 
 ghost use Rattle.std.specs.Prelude.{◌≡◌, length, slice_get};
 ghost use Rattle.pt_c_values.specs.Places.{ReadsThrough, ShowsCode};
-ghost use Rattle.pt_c_desks.specs.Reading.{TellsCount, TellsPid, TellsAccount, TellsLinked, TellsKept, TellsWatching};
+ghost use Rattle.pt_c_desks.specs.Reading.{TellsCount, ShowsPid, TellsPid, TellsAccount, TellsLinked, TellsKept, TellsWatching};
+ghost use Rattle.pt_c_desks.specs.QuietNodes.{node_of};
 ghost use Rattle.pt_c_values.specs.Crossing.{pid_crossed, pid_out, ref_in, event_out, left_out};
 
 use crate::gathered_handle::{GatheredHandle, claim as claim_gathered, hold as hold_gathered};
 use pt_c_desks::history_handle::{HistoryHandle, claim as claim_history, hold as hold_history};
 use pt_c_desks::looking::{show_event, show_ids};
 use pt_c_desks::quiet_handle::{QuietHandle, claim as claim_quiet, hold as hold_quiet};
-use pt_c_values::codes::{DONE, EMPTY, NOTHING};
+use pt_c_desks::quiet_node::QuietNode;
+use pt_c_values::codes::{DONE, EMPTY, NOTHING, UNLISTED};
 use pt_c_values::crossing::{account_out, left_out, pid_in, pid_out, ref_in};
 use pt_c_values::types::{PtAccount, PtEvent, PtIds, PtLeftOver, PtPid, PtRef};
 use pt_node::{Pid, Quiet};
@@ -26,8 +28,8 @@ pub fn gathered_desks(alloc: Global, g: &mut GatheredHandle, out: &mut u8) -> u3
         return EMPTY;
     };
     let code = match &held.gathered {
-        Some(node) => {
-            *out = node.gathered().desks();
+        Some(gathered) => {
+            *out = gathered.desks();
             DONE
         }
         None => EMPTY,
@@ -39,14 +41,14 @@ pub fn gathered_desks(alloc: Global, g: &mut GatheredHandle, out: &mut u8) -> u3
 /// The number of desks of the settled node.
 pub fn quiet_desks(alloc: Global, q: &mut QuietHandle, out: &mut u8) -> u32
     ensures { ReadsThrough q.old.state q.new.state result (out.new ≡ out.old)
-        (λ d. (result ≡ 0) × (out.new ≡ length d.gathered.shards)) }
+        (λ d. (result ≡ 0) × (out.new ≡ length (node_of d).gathered.shards)) }
 {
     let Some(held) = claim_quiet(alloc, q) else {
         return EMPTY;
     };
     let code = match &held.quiet {
-        Some(quiet) => {
-            *out = quiet.desks();
+        Some(node) => {
+            *out = node.settled().desks();
             DONE
         }
         None => EMPTY,
@@ -57,14 +59,15 @@ pub fn quiet_desks(alloc: Global, q: &mut QuietHandle, out: &mut u8) -> u32
 
 /// The number of letters that settling handled.
 pub fn quiet_handled(alloc: Global, q: &mut QuietHandle, out: &mut u64) -> u32
-    ensures { ReadsThrough q.old.state q.new.state result (out.new ≡ out.old) (λ d. (result ≡ 0) × (out.new ≡ d.handled)) }
+    ensures { ReadsThrough q.old.state q.new.state result (out.new ≡ out.old)
+        (λ d. (result ≡ 0) × (out.new ≡ (node_of d).handled)) }
 {
     let Some(held) = claim_quiet(alloc, q) else {
         return EMPTY;
     };
     let code = match &held.quiet {
-        Some(quiet) => {
-            *out = quiet.handled();
+        Some(node) => {
+            *out = node.settled().handled();
             DONE
         }
         None => EMPTY,
@@ -73,25 +76,36 @@ pub fn quiet_handled(alloc: Global, q: &mut QuietHandle, out: &mut u64) -> u32
     code
 }
 
-/// The number of processes ever spawned.
+/// The number of processes ever spawned; 26 if the node has no list of its pids.
 pub fn quiet_pid_count(alloc: Global, q: &mut QuietHandle, out: &mut usize) -> u32
-    ensures { ReadsThrough q.old.state q.new.state result (out.new ≡ out.old) (λ d. TellsCount d result out.new) }
+    ensures { ReadsThrough q.old.state q.new.state result (out.new ≡ out.old) (λ d. TellsCount d result out.old out.new) }
 {
     let Some(held) = claim_quiet(alloc, q) else {
         return EMPTY;
     };
     let code = match &held.quiet {
-        Some(quiet) => {
+        Some(node) => pid_count(node, out),
+        None => EMPTY,
+    };
+    *q = hold_quiet(held);
+    code
+}
+
+/// The same of the node itself.
+fn pid_count(node: &QuietNode, out: &mut usize) -> u32
+    ensures { TellsCount node.now result out.old out.new }
+{
+    match node {
+        QuietNode::Listed(quiet) => {
             *out = quiet.pids().len();
             DONE
         }
-        None => EMPTY,
-    };
-    *q = hold_quiet(held);
-    code
+        QuietNode::Unlisted(_) => UNLISTED,
+    }
 }
 
-/// The pid at this place among all ever spawned, by shard, slot and version; 8 if there is none.
+/// The pid at this place among all ever spawned, by shard, slot and version; 26 if the node has no list of its pids, and
+/// else 8 if there is none at the place.
 pub fn quiet_pid_at(alloc: Global, q: &mut QuietHandle, place: usize, out: &mut PtPid) -> u32
     ensures { ReadsThrough q.old.state q.new.state result (out.new ≡ out.old) (λ d. TellsPid d place result out.old out.new) }
 {
@@ -99,16 +113,26 @@ pub fn quiet_pid_at(alloc: Global, q: &mut QuietHandle, place: usize, out: &mut 
         return EMPTY;
     };
     let code = match &held.quiet {
-        Some(quiet) => pid_at(quiet, place, out),
+        Some(node) => pid_at(node, place, out),
         None => EMPTY,
     };
     *q = hold_quiet(held);
     code
 }
 
-/// The same of the node itself. (Beside the handle the prover does not find the list of pids.)
-fn pid_at(quiet: &Quiet, place: usize, out: &mut PtPid) -> u32
-    ensures { TellsPid quiet.now place result out.old out.new }
+/// The same of the node itself.
+fn pid_at(node: &QuietNode, place: usize, out: &mut PtPid) -> u32
+    ensures { TellsPid node.now place result out.old out.new }
+{
+    match node {
+        QuietNode::Listed(quiet) => show_pid(quiet, place, out),
+        QuietNode::Unlisted(_) => UNLISTED,
+    }
+}
+
+/// The same of a node that has the list. (Beside the handle the prover does not find it.)
+fn show_pid(quiet: &Quiet, place: usize, out: &mut PtPid) -> u32
+    ensures { ShowsPid quiet.now place result out.old out.new }
 {
     show_pid_at(quiet.pids(), place, out)
 }
@@ -125,16 +149,16 @@ fn show_pid_at(pids: &[Pid], place: usize, out: &mut PtPid) -> u32
     }
 }
 
-/// What became of p, as `Quiet::account` returns it; 8 if it was never spawned.
+/// What became of p, as `Settled::account` returns it; 8 if it was never spawned.
 pub fn quiet_account(alloc: Global, q: &mut QuietHandle, p: PtPid, out: &mut PtAccount) -> u32
     ensures { ReadsThrough q.old.state q.new.state result (out.new ≡ out.old)
-        (λ d. TellsAccount d (pid_crossed p) result out.old out.new) }
+        (λ d. TellsAccount (node_of d) (pid_crossed p) result out.old out.new) }
 {
     let Some(held) = claim_quiet(alloc, q) else {
         return EMPTY;
     };
     let code = match &held.quiet {
-        Some(quiet) => match quiet.account(pid_in(p)) {
+        Some(node) => match node.settled().account(pid_in(p)) {
             Some(account) => {
                 *out = account_out(account);
                 DONE
@@ -156,13 +180,13 @@ pub fn quiet_linked(
     out: &mut PtIds,
 ) -> u32
     ensures { ReadsThrough q.old.state q.new.state result (out.new ≡ out.old)
-        (λ d. TellsLinked d (pid_crossed p) (pid_crossed peer) result out.old out.new) }
+        (λ d. TellsLinked (node_of d) (pid_crossed p) (pid_crossed peer) result out.old out.new) }
 {
     let Some(held) = claim_quiet(alloc, q) else {
         return EMPTY;
     };
     let code = match &held.quiet {
-        Some(quiet) => show_ids(quiet.linked(pid_in(p), pid_in(peer)), out),
+        Some(node) => show_ids(node.settled().linked(pid_in(p), pid_in(peer)), out),
         None => EMPTY,
     };
     *q = hold_quiet(held);
@@ -178,14 +202,14 @@ pub fn quiet_kept(
     out: &mut bool,
 ) -> u32
     ensures { ReadsThrough q.old.state q.new.state result (out.new ≡ out.old)
-        (λ d. TellsKept d (pid_crossed target) (ref_in monitor) result out.new) }
+        (λ d. TellsKept (node_of d) (pid_crossed target) (ref_in monitor) result out.new) }
 {
     let Some(held) = claim_quiet(alloc, q) else {
         return EMPTY;
     };
     let code = match &held.quiet {
-        Some(quiet) => {
-            *out = quiet.kept(pid_in(target), ref_in(monitor));
+        Some(node) => {
+            *out = node.settled().kept(pid_in(target), ref_in(monitor));
             DONE
         }
         None => EMPTY,
@@ -203,14 +227,14 @@ pub fn quiet_watching(
     out: &mut bool,
 ) -> u32
     ensures { ReadsThrough q.old.state q.new.state result (out.new ≡ out.old)
-        (λ d. TellsWatching d (pid_crossed watcher) (ref_in monitor) result out.new) }
+        (λ d. TellsWatching (node_of d) (pid_crossed watcher) (ref_in monitor) result out.new) }
 {
     let Some(held) = claim_quiet(alloc, q) else {
         return EMPTY;
     };
     let code = match &held.quiet {
-        Some(quiet) => {
-            *out = quiet.watching(pid_in(watcher), ref_in(monitor));
+        Some(node) => {
+            *out = node.settled().watching(pid_in(watcher), ref_in(monitor));
             DONE
         }
         None => EMPTY,

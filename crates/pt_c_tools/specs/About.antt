@@ -32,6 +32,7 @@ all_codes = record {
   taken = 20;
   has_name = 21;
   bad_places = 22;
+  unlisted = 26;
   reason_normal = 0;
   reason_kill = 1;
   reason_killed = 2;
@@ -103,6 +104,7 @@ with_answers c = record c {
   taken = 20;
   has_name = 21;
   bad_places = 22;
+  unlisted = 26;
 }
 
 -- of which these are of reasons, of items and of picks
@@ -200,7 +202,7 @@ all_sizes = record {
   fired = 24;
   name = 32;
   holder = 32;
-  codes = 264;
+  codes = 268;
 }
 
 abbrev pub sample_fired : PtFired

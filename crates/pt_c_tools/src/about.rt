@@ -10,7 +10,8 @@ use crate::through::BAD_PLACES;
 use crate::types::{PtFired, PtTimer};
 use pt_behaviour::Next;
 use pt_c_values::codes::{
-    BAD_CODE, DONE, EMPTY, FILLED, NOT_RUNNING, NOTHING, UNKNOWN, WRONG_DESK, code_of, open_code,
+    BAD_CODE, DONE, EMPTY, FILLED, NOT_RUNNING, NOTHING, UNKNOWN, UNLISTED, WRONG_DESK, code_of,
+    open_code,
 };
 use pt_c_values::crossing::{event_out, item_out, pick_out, reason_out, signal_out};
 use pt_c_values::samples::{sample_pid, sample_ref};
@@ -51,6 +52,7 @@ pub struct PtCodes {
     pub taken: u32,
     pub has_name: u32,
     pub bad_places: u32,
+    pub unlisted: u32,
     pub reason_normal: u32,
     pub reason_kill: u32,
     pub reason_killed: u32,
@@ -176,6 +178,7 @@ fn with_answers(codes: PtCodes) -> PtCodes
         taken: TAKEN,
         has_name: HAS_NAME,
         bad_places: BAD_PLACES,
+        unlisted: UNLISTED,
         ..codes
     }
 }

@@ -53,6 +53,10 @@ abbrev pub IfOwn : Bool → ℕ → Type 0 → Type 0 → Type 0
 IfOwn true code kept P = P
 IfOwn false code kept P = (code ≡ wrong_desk) × kept
 
+-- a settled node has no list of its pids
+abbrev pub unlisted : ℕ
+unlisted = 26
+
 -- a setting is out of its range
 abbrev pub open_code : OpenError → ℕ
 open_code NoMemory = 2

@@ -42,6 +42,9 @@ pub const CHILD_RESTARTING: u32 = 24;
 /// The supervisor has a child with this tag, which is not running.
 pub const CHILD_PRESENT: u32 = 25;
 
+/// The settled node has no list of its pids.
+pub const UNLISTED: u32 = 26;
+
 pub fn code_of(fault: Fault) -> u32
     ensures { result ≡ code_of fault }
 {

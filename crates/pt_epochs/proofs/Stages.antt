@@ -1,13 +1,11 @@
 -- The end of an epoch, stage by stage.
-use Rattle.std.proofs.Common.{◌≡◌, List, Option, Some, None, Result, Ok, Err, sym, subst}
-use Rattle.std.specs.Prelude.{IfSome}
+use Rattle.std.proofs.Common.{◌≡◌, List, Result, Ok, Err, sym, subst}
 use Rattle.pt_events.specs.declared.event.Stamped.{Stamped}
 use Rattle.pt_gathered.specs.Gathered.{GatheredState, IsGathered}
 use Rattle.pt_gathered.specs.Quiet.{QuietState}
 use Rattle.pt_gathered.specs.Settling.{Settles, NothingLeft}
 use Rattle.pt_desk.specs.DeskState.{DeskState}
 use Rattle.pt_node.specs.Gathering.{Gathers}
-use Rattle.pt_node.specs.Keeping.{KeptState, IsKeptFor, IsKeptOf}
 use Rattle.pt_node.specs.Resuming.{Resumes}
 use Rattle.pt_node.proofs.Pasts.{one_history}
 use Rattle.pt_crew.specs.declared.crew.Crew.{Crew}
@@ -71,8 +69,3 @@ module _ {B : Type 0} where
     ended_as old g crews sink (Err (Taking a)) later after gathers h = (g, gathers, h)
     ended_as old g crews sink (Err (Resuming a)) later after gathers h = (g, gathers, h)
     ended_as old g crews sink (Err (Beginning a)) later after gathers h = (g, gathers, h)
-
--- what was kept when the node was gathered is kept for it after it was settled
-pub kept_settled : (kept : Option KeptState) (old new : GatheredState) → Settles old new → IfSome kept (λ k. IsKeptOf old k) → IfSome kept (λ k. IsKeptFor new k)
-kept_settled None old new settles h = h
-kept_settled (Some k) old new settles h = record { gathered = old; kept = h; settles = settles }

@@ -79,7 +79,7 @@ HaltsBeginning desks crews _ later = ⊥
 
 -- where the node was not resumed, or else there
 abbrev pub HaltsResuming : {B : Type 0} → QuietState → List (Crew B) → Halted → List (Crew B) → Type 0
-HaltsResuming q crews (Resuming back) later = (back.settled ≡ q) × (later ≡ crews)
+HaltsResuming q crews (Resuming back) later = (back ≡ q) × (later ≡ crews)
 HaltsResuming q crews halted later =
     (desks : List DeskState) × Resumes q.gathered desks × HaltsBeginning desks crews halted later
 
@@ -180,6 +180,5 @@ module _ {B S : Type 0} (Takes Refuses : S → List Stamped → S → Type 0) wh
   GoesOnAs (Settling back) crews sink result later after = SettlesAs back.gathered crews sink result later after
   GoesOnAs (Reading q) crews sink result later after = HandsAs q crews sink result later after
   GoesOnAs (Taking q) crews sink result later after = HandsAs q crews sink result later after
-  GoesOnAs (Resuming back) crews sink result later after =
-      ResumesAllAs back.settled crews result later × (after ≡ sink)
+  GoesOnAs (Resuming q) crews sink result later after = ResumesAllAs q crews result later × (after ≡ sink)
   GoesOnAs (Beginning node) crews sink result later after = AllBeginAs node crews result later × (after ≡ sink)

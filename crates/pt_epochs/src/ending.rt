@@ -1,8 +1,6 @@
 //! The end of an epoch: the node is gathered and settled, its history goes to the sink, and it is resumed.
 
-ghost use Rattle.std.specs.Prelude.{◌≡◌, IfErr, IfOk, IfSome, IsOk, OnErr, OnOk};
-ghost use Rattle.pt_node.specs.Keeping.{IsKeptFor, IsKeptOf};
-ghost use Rattle.pt_node.specs.Resuming.{Resumes};
+ghost use Rattle.std.specs.Prelude.{◌≡◌, IsOk, OnErr, OnOk};
 ghost use Rattle.pt_epochs.specs.Epochs.{AllHaveRoom, CrewBegins, AllBeginAs, EachCrew, EndsAs, GoesOnAs, Hands, HandsAs};
 ghost use Rattle.pt_epochs.specs.Epochs.{CrewMayBegin, ResumesAllAs, SettlesAs};
 
@@ -11,7 +9,7 @@ use crate::sink::Sink;
 use pt_behaviour::Behaviour;
 use pt_crew::Crew;
 use pt_gathered::{Gathered, Settled};
-use pt_node::{Kept, Node, RestingSettled};
+use pt_node::Node;
 use std::alloc::{AllocError, Global};
 
 /// Ends an epoch: gathers and settles the node, hands its history to the sink, resumes it with empty journals, and lets
@@ -25,8 +23,8 @@ use std::alloc::{AllocError, Global};
 /// was opened or resumed, the desks, and a visit to each process of the crews, which begin again. A slot that did not
 /// change since then costs nothing else.
 ///
-/// Fails as [`Halted`] says. What was done until then stays, and [`Halted::go_on`] does the rest; it makes the directory
-/// anew.
+/// Fails as [`Halted`] says. What was done until then stays, and [`Halted::go_on`] does the rest. If it was resuming that
+/// failed, the directory is then made anew.
 pub fn end_epoch<B: Behaviour + Drop, S: Sink>(
     alloc: Global,
     node: Node,
@@ -35,21 +33,19 @@ pub fn end_epoch<B: Behaviour + Drop, S: Sink>(
 ) -> Result<Node, Halted>
     ensures { EndsAs S.takes S.refuses node crews.old.items sink.old result crews.new.items sink.new }
 {
-    match node.gather_keeping() {
-        Ok((gathered, kept)) => settle_over(alloc, gathered, Some(kept), crews, sink),
+    match node.gather() {
+        Ok(gathered) => settle_over(alloc, gathered, crews, sink),
         Err(back) => Err(Halted::Gathering(back)),
     }
 }
 
-/// Settles a gathered node, and does the rest, in the directory that was kept when it was gathered, if there is one.
+/// Settles a gathered node, and does the rest.
 pub(crate) fn settle_over<B: Behaviour + Drop, S: Sink>(
     alloc: Global,
     gathered: Gathered,
-    kept: Option<Kept>,
     crews: &mut Vec<Crew<B>>,
     sink: &mut S,
 ) -> Result<Node, Halted>
-    requires kept { IfSome kept (λ k. IsKeptOf gathered k) }
     ensures { SettlesAs S.takes S.refuses gathered crews.old.items sink.old result crews.new.items sink.new }
 {
     // read for the proof alone, here and below: it says what holds of every gathered node
@@ -57,7 +53,7 @@ pub(crate) fn settle_over<B: Behaviour + Drop, S: Sink>(
     match gathered.settle_unlisted() {
         Ok(settled) => {
             let _settled = settled.desks();
-            hand_over(alloc, settled, kept, crews, sink)
+            hand_over(alloc, settled, crews, sink)
         },
         Err(unsettled) => {
             let _unsettled = unsettled.gathered.desks();
@@ -70,17 +66,15 @@ pub(crate) fn settle_over<B: Behaviour + Drop, S: Sink>(
 pub(crate) fn hand_over<B: Behaviour + Drop, S: Sink>(
     alloc: Global,
     settled: Settled,
-    kept: Option<Kept>,
     crews: &mut Vec<Crew<B>>,
     sink: &mut S,
 ) -> Result<Node, Halted>
-    requires kept { IfSome kept (λ k. IsKeptFor settled.gathered k) }
     ensures { HandsAs S.takes S.refuses settled crews.old.items sink.old result crews.new.items sink.new }
 {
     // read for the proof alone, as above
     let _desks = settled.desks();
     match hand(&settled, sink) {
-        Ok(()) => resume_over(alloc, settled, kept, crews),
+        Ok(()) => resume_over(alloc, settled, crews),
         Err(Unhanded::Unread) => Err(Halted::Reading(settled)),
         Err(Unhanded::Refused) => Err(Halted::Taking(settled)),
     }
@@ -112,27 +106,13 @@ fn hand<S: Sink>(settled: &Settled, sink: &mut S) -> Result<(), Unhanded>
 pub(crate) fn resume_over<B: Behaviour + Drop>(
     alloc: Global,
     settled: Settled,
-    kept: Option<Kept>,
     crews: &mut Vec<Crew<B>>,
 ) -> Result<Node, Halted>
-    requires kept { IfSome kept (λ k. IsKeptFor settled.gathered k) }
     ensures { ResumesAllAs settled crews.old.items result crews.new.items }
 {
-    match resume_node(alloc, settled, kept) {
+    match Node::resume_settled(alloc, settled) {
         Ok(node) => begin_over(node, crews),
-        Err(resting) => Err(Halted::Resuming(resting)),
-    }
-}
-
-/// Resumes a settled node, in the directory that was kept, if there is one.
-fn resume_node(alloc: Global, settled: Settled, kept: Option<Kept>) -> Result<Node, RestingSettled>
-    requires kept { IfSome kept (λ k. IsKeptFor settled.gathered k) }
-    ensures resumes { IfOk result (λ desks. Resumes settled.gathered desks) }
-    ensures resting { IfErr result (λ back. back.settled ≡ settled) }
-{
-    match kept {
-        Some(kept) => Node::resume_kept(alloc, settled, kept),
-        None => Node::resume_settled(alloc, settled),
+        Err(settled) => Err(Halted::Resuming(settled)),
     }
 }
 
@@ -177,11 +157,11 @@ impl Halted {
         match self {
             Halted::Running(node, _) | Halted::Turning(node, _) => Ok(node),
             Halted::Gathering(back) => end_epoch(alloc, back.node, crews, sink),
-            Halted::Settling(back) => settle_over(alloc, back.gathered, None, crews, sink),
+            Halted::Settling(back) => settle_over(alloc, back.gathered, crews, sink),
             Halted::Reading(settled) | Halted::Taking(settled) => {
-                hand_over(alloc, settled, None, crews, sink)
+                hand_over(alloc, settled, crews, sink)
             },
-            Halted::Resuming(back) => resume_over(alloc, back.settled, None, crews),
+            Halted::Resuming(settled) => resume_over(alloc, settled, crews),
             Halted::Beginning(node) => begin_over(node, crews),
         }
     }

@@ -1,7 +1,7 @@
 //! Why epochs stop before they are to, and the node as it is then.
 
 use pt_gathered::{Settled, Unsettled};
-use pt_node::{Node, NodeBack, RestingSettled, RunFault, Stopped};
+use pt_node::{Node, NodeBack, RunFault, Stopped};
 use std::fmt;
 
 /// Why epochs stopped, and the node as it is then. Nothing is lost: see [`Halted::go_on`].
@@ -20,7 +20,7 @@ pub enum Halted {
     /// The sink did not take the history.
     Taking(Settled),
     /// There was no memory to resume the node, whose history the sink took.
-    Resuming(RestingSettled),
+    Resuming(Settled),
     /// There was no memory for a crew to begin again, on the node that was resumed. A crew that attends its desk has it.
     Beginning(Node),
 }
@@ -37,7 +37,7 @@ impl fmt::Display for Halted {
             Halted::Settling(unsettled) => write!(f, "{unsettled}"),
             Halted::Reading(_) => write!(f, "there was no memory for the history"),
             Halted::Taking(_) => write!(f, "the sink did not take the history"),
-            Halted::Resuming(resting) => write!(f, "{resting}"),
+            Halted::Resuming(_) => write!(f, "there was no memory to go on from the settled node"),
             Halted::Beginning(_) => write!(f, "there was no memory for a crew to begin again"),
         }
     }

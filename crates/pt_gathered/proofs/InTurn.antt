@@ -1,7 +1,6 @@
 -- Whoever was born on a desk of a gathered node was born at a stamp that is not 0.
-use Rattle.std.proofs.Common.{◌≡◌, ℕ, ◌<◌, ◌≤◌, false, length, get_or, sym, ap, ◌∙◌, subst}
-use Rattle.pt_signal.specs.declared.pid.Pid.{Pid}
-use Rattle.pt_events.specs.History.{at_start, is_unborn}
+use Rattle.std.proofs.Common.{◌≤◌, get_or, sym, ap, ◌∙◌, subst}
+use Rattle.pt_events.specs.History.{is_unborn}
 use Rattle.pt_events.specs.Journal.{clock}
 use Rattle.pt_shard.specs.ShardState.{ShardState}
 use Rattle.pt_gathered.specs.Gathered.{GatheredState, IsGathered}

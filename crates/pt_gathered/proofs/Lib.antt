@@ -25,3 +25,4 @@ pub mod Shards
 pub mod StartStates
 pub mod Forgetting
 pub mod Late
+pub mod Keeping

@@ -10,3 +10,4 @@ pub mod History
 pub mod Waits
 pub mod Taking
 pub mod Late
+pub mod Keeping

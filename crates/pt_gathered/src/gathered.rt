@@ -6,11 +6,13 @@ ghost use Rattle.pt_events.specs.History.{IsLegal, Past};
 ghost use Rattle.pt_events.specs.Journal.{IsMerge, events};
 ghost use Rattle.pt_laws.specs.Laws.{LegalWithLeftOver, LanesFly};
 ghost use Rattle.pt_gathered.specs.Gathered.{IsGathered, begins, over, journals};
+ghost use Rattle.pt_gathered.specs.Keeping.{IsKeptOf, IsKeptFor};
 ghost use Rattle.pt_gathered.specs.LeftOvers.{all_left};
 ghost use Rattle.pt_gathered.specs.Pasts.{GoesOnFrom};
 ghost use Rattle.pt_gathered.specs.Tables.{AreTables};
 
 use crate::at_rest::{AtRest, Lane};
+use crate::kept::Kept;
 use crate::node_laws::laws_of_node;
 use pt_accounts::DeskLives;
 use pt_events::{Journal, Stamped};
@@ -24,56 +26,70 @@ use std::marker::Model;
 /// For any two desks, the letters that one posted to the other are those that arrived there, followed by those left
 /// over between the two. Each receipt is stamped above its letter.
 ///
-/// For each desk it also keeps what became of the processes that were there before the desk's journal.
+/// For each desk it also keeps what became of the processes that were there before the desk's journal. It keeps the
+/// directory of exited processes too, so that resuming makes none anew.
 #[derive(Drop)]
 pub struct Gathered {
     node: AtRest,
     lives: Vec<DeskLives>,
+    directory: Option<Kept>,
 }
 
 impl Model for Gathered {
     ghost use Rattle.pt_gathered.specs.Gathered.{GatheredState};
     ghost use Rattle.pt_gathered.specs.Tables.{AreTables};
+    ghost use Rattle.pt_gathered.specs.Keeping.{IsKeptFor};
+    ghost use Rattle.std.specs.Prelude.{IfSome};
 
     ghost Value = { GatheredState };
 
     ghost view = { λ a. a.node };
 
-    ghost invariant = { λ a. AreTables a.node.shards a.lives.items };
+    ghost invariant = { λ a. AreTables a.node.shards a.lives.items × IfSome a.directory (λ k. IsKeptFor a.node k) };
 }
 
 impl Gathered {
     /// The node with these desks and these letters left over, the lane from desk d to desk e at d * desks + e. The
-    /// table of each desk has what was before its journal, or some of the journal's first events too.
+    /// table of each desk has what was before its journal, or some of the journal's first events too. What is kept is
+    /// that of these desks.
     pub fn of(
         alloc: Global,
         config: Config,
         shards: Vec<Shard>,
         lanes: Vec<Lane>,
         lives: Vec<DeskLives>,
+        kept: Kept,
     ) -> Gathered
         requires gathered { IsGathered (record { config = config; shards = shards.items; lanes = lanes.items }) }
         requires tables { AreTables shards.items lives.items }
+        requires kept { IsKeptOf (record { config = config; shards = shards.items; lanes = lanes.items }) kept }
         ensures { result ≡ record { config = config; shards = shards.items; lanes = lanes.items } }
     {
         Gathered {
             node: AtRest::of(alloc, config, shards, lanes),
             lives,
+            directory: Some(kept),
         }
     }
 
-    pub(crate) fn with(node: AtRest, lives: Vec<DeskLives>) -> Gathered
-        requires { AreTables node.shards lives.items }
+    pub(crate) fn with(node: AtRest, lives: Vec<DeskLives>, directory: Option<Kept>) -> Gathered
+        requires tables { AreTables node.shards lives.items }
+        requires kept { IfSome directory (λ k. IsKeptFor node k) }
         ensures { result ≡ node }
     {
-        Gathered { node, lives }
+        Gathered {
+            node,
+            lives,
+            directory,
+        }
     }
 
-    pub(crate) fn apart(self) -> (AtRest, Vec<DeskLives>)
+    pub(crate) fn apart(self) -> (AtRest, Vec<DeskLives>, Option<Kept>)
         ensures node { result.0 ≡ self }
         ensures tables { AreTables self.shards result.1.items }
+        ensures kept { IfSome result.2 (λ k. IsKeptFor self k) }
     {
-        (self.node, self.lives)
+        (self.node, self.lives, self.directory)
     }
 
     pub(crate) fn node(&self) -> &AtRest

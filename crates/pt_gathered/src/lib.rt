@@ -8,7 +8,7 @@
 //!     println!(rt; "{stamped}")?;                  // 1@0 born <0.0.1>
 //! }
 //! match gathered.settle() {
-//!     Ok(quiet) => ..                              // quiet.history(), handled(), pids(), account(pid)
+//!     Ok(quiet) => ..                              // quiet.history(), handled(), pids(), account(pid), settled()
 //!     Err(unsettled) => ..                         // unsettled.fault, and unsettled.gathered to go on from
 //! }
 //! ```
@@ -32,23 +32,26 @@
 //!
 //! Then links are at both ends or at neither. Each monitor of a live process was cancelled, had its one `DOWN`, or is
 //! open and kept. Each question of a live process whether another one is alive has its one answer, which is true.
-//! [`Quiet::laws`] says so for a quiet node at any time.
+//! [`Settled::laws`] says so for a settled node at any time.
 //!
-//! At its end settling reads each journal once. Then [`Quiet`] returns, without memory, which processes were spawned
-//! and why each exited, how many items arrived, were taken and wait, and its links, watchers and open monitors. For an
-//! exited process these are what it held at its exit.
+//! At its end settling reads each journal once. Then [`Settled`] returns, without memory, of each process why it exited,
+//! how many items arrived, were taken and wait, and its links, watchers and open monitors. For an exited process these
+//! are what it held at its exit.
 //!
-//! A quiet node has a list of all pids that ever were, which takes time and memory. [`Gathered::settle_unlisted`]
-//! settles without it: a [`Settled`] node has the history, and what resuming takes. [`Settled::into_quiet`] makes the
-//! quiet node of it, and [`Quiet::into_settled`] gives the list up.
+//! A [`Quiet`] node is a settled node and the list of all pids that ever were, which takes time and memory.
+//! [`Gathered::settle_unlisted`] settles without the list. [`Settled::into_quiet`] makes it, [`Quiet::settled`] lends the
+//! settled node, and [`Quiet::into_settled`] gives the list up.
 //!
 //! # Resuming
 //!
-//! A quiet node may continue with empty journals: what its desks leave is again a state as a node begins with, at the
-//! stamp [`Quiet::clock`] or a later one ([`Quiet::laws`]). [`Quiet::into_parts`] returns the desks, each with the
-//! table of what became of its processes. The next journal is read into that table. [`Quiet::latest_ends`] gives a new
-//! directory the exited processes. A settled node has the same calls. [`Settled::ends_since`] gives a directory that was
-//! kept those that exited since. [`Quiet::state`] is the start for a judge that judges the next history alone.
+//! A settled node may continue with empty journals: what its desks leave is again a state as a node begins with, at the
+//! stamp [`Settled::clock`] or a later one ([`Settled::laws`]). [`Settled::into_parts`] returns the desks, each with the
+//! table of what became of its processes. The next journal is read into that table.
+//!
+//! A gathered node keeps the directory of exited processes that its desks had, as a [`Kept`], and so does the settled
+//! node. [`Settled::take_kept`] takes it out, and [`Settled::ends_since`] gives it those that exited since. Without it,
+//! [`Settled::latest_ends`] gives a new directory all exited processes. [`Quiet::state`] is the start for a judge that
+//! judges the next history alone.
 //!
 //! # Cost
 //!
@@ -74,19 +77,23 @@
 //! - **Losses.** A desk that keeps its losses keeps what settling loses, too, behind those that it kept before.
 //!   (`KeepsLost`)
 //! - **Quiet.** Links are at both ends or at neither. Each monitor was cancelled, had its one `DOWN`, or is open and
-//!   kept. (`Quiet::laws`)
+//!   kept. (`Settled::laws`)
 //! - **Answers.** Once settled, each question of a live process has its one answer, which is true.
 //! - **Without a list.** `settle_unlisted` promises what `settle` does. `Settled::into_quiet` makes the quiet node of it,
 //!   or gives it back as it was.
+//! - **Kept.** What a settled node keeps of a directory was kept of that node when it was gathered, before it was settled.
+//!   `take_kept` takes it out, and changes nothing else. (`IsKeptFor`)
 //! - **Exits since.** `Settled::ends_since` returns only processes that have exited. Each process that has exited is among
 //!   them, or had exited by the events before the given places. (`AreEndsSince`)
-//! - **Accounts.** `Quiet` returns for each process what the definitions give for every merge of the journals.
+//! - **Accounts.** `Settled` and `Quiet` return for each process what the definitions give for every merge of the
+//!   journals. `Quiet::pids` lists all processes.
 //! - **Settling that fails.** It keeps all that holds for a gathered node, and its contract says where it stopped.
 //!   (`SettlingStops`)
 #![tactic(auto)]
 
 mod at_rest;
 mod gathered;
+mod kept;
 mod node_laws;
 mod quiet;
 mod resumed;
@@ -95,6 +102,7 @@ mod settling;
 
 pub use at_rest::Lane;
 pub use gathered::Gathered;
+pub use kept::Kept;
 pub use node_laws::laws_of;
 pub use pt_accounts::{Account, DeskLives};
 pub use pt_signal::LeftOver;

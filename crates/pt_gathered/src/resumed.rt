@@ -11,6 +11,7 @@ ghost use Rattle.pt_gathered.specs.Gathered.{begins, journals};
 ghost use Rattle.pt_beginning.specs.Beginning.{start_of};
 
 use crate::quiet::Quiet;
+use crate::settled::Settled;
 use pt_judge::{Holding, State};
 use pt_laws::laws;
 use pt_process::Process;
@@ -30,16 +31,19 @@ impl Quiet {
     {
         laws::journals_have_one_merge();
         laws::journals_tell_their_pids();
+        let settled = self.settled();
         // read for the proof alone: it says what holds of every gathered node
-        let _desks = self.desks();
-        let mut state = State::new(self.node().alloc());
+        let _desks = settled.desks();
+        let mut state = State::new(settled.node().alloc());
         let pids = self.pids();
         for which in 0..pids.len() {
-            state = self.with_process(state, pids[which])?;
+            state = settled.with_process(state, pids[which])?;
         }
         Ok(state)
     }
+}
 
+impl Settled {
     /// The state with this process added.
     fn with_process(&self, state: State, pid: Pid) -> Result<State, AllocError>
         requires desk { pid.shard < length self.now.gathered.shards }

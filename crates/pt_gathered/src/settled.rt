@@ -1,16 +1,22 @@
 //! A settled node without the list of its processes.
 
 ghost use Rattle.pt_signal.specs.declared.config.TheConstants.{MAX_DESKS, MAX_STAMP};
-ghost use Rattle.std.specs.Prelude.{◌≡◌, ◌<◌, ◌≤◌, ℕ, [], ◌++◌, length, slice_get, slice_index_or, reverse, IfOk, IfErr};
-ghost use Rattle.std.specs.Prelude.{OnOk};
-ghost use Rattle.pt_events.specs.History.{IsLegal, Past};
+ghost use Rattle.std.specs.Prelude.{◌≡◌, ◌<◌, ◌≤◌, ℕ, [], ◌++◌, length, slice_get, slice_index_or, reverse, is_some};
+ghost use Rattle.std.specs.Prelude.{IfOk, IfErr, IfSome, OnOk};
+ghost use Rattle.std.specs.Map.{lookup};
+ghost use Rattle.std.specs.List.{list_any};
+ghost use Rattle.pt_signal.specs.Values.{same_ref};
+ghost use Rattle.pt_signal.specs.Process.{held};
+ghost use Rattle.pt_events.specs.History.{IsLegal, Past, life, state, open_monitors};
 ghost use Rattle.pt_events.specs.Journal.{IsMerge, clock, events};
 ghost use Rattle.pt_laws.specs.Laws.{LegalWithLeftOver};
 ghost use Rattle.pt_laws.specs.Load.{IsQuiet};
 ghost use Rattle.pt_accounts.specs.DeskLives.{DeskTable};
+ghost use Rattle.pt_accounts.specs.LivesState.{AreAllPids, InEveryMerge, account_in};
 ghost use Rattle.pt_shard.specs.ShardState.{ShardState};
 ghost use Rattle.std.specs.Option.{option_copied};
 ghost use Rattle.pt_gathered.specs.Gathered.{IsGathered, begins, journals, lost_on, over};
+ghost use Rattle.pt_gathered.specs.Keeping.{IsKeptFor};
 ghost use Rattle.pt_gathered.specs.Tables.{IsTold};
 ghost use Rattle.pt_gathered.specs.Quiet.{AreBornLater, AreInTurn, IsSettled, latest_stamp, ends_of};
 ghost use Rattle.pt_gathered.specs.Late.{AreEndsSince, may_end, late_end, ends_in, ends_since};
@@ -23,44 +29,45 @@ ghost use Rattle.pt_gathered.specs.Pasts.{OutlinesAgainAfter};
 
 use crate::at_rest::AtRest;
 use crate::gathered::Gathered;
+use crate::kept::Kept;
 use crate::node_laws::laws_of_node;
 use crate::quiet::Quiet;
-use pt_accounts::{DeskLives, Lives};
+use pt_accounts::{Account, DeskLives, Lives};
 use pt_events::{Event, Journal, Stamped};
 use pt_shard::{Config, Loss, Shard};
-use pt_signal::{Pid, Signal};
+use pt_signal::{Ids, Pid, Ref, Signal};
 use std::alloc::{AllocError, Global};
 use std::marker::Model;
 
 /// A node in which no letter is left over, as [`Gathered::settle_unlisted`] leaves it: a [`Quiet`] node without the
 /// list of all its processes.
 ///
-/// It has what a program takes between two epochs: the history, the number of letters handled, and what resuming takes.
-/// [`into_quiet`](Settled::into_quiet) makes the quiet node of it. Only `history`, `latest_ends`, `ends_since` and
-/// `into_quiet` take memory.
+/// It has what a program takes between two epochs: the history, the number of letters handled, what became of each
+/// process, and what resuming takes. [`into_quiet`](Settled::into_quiet) makes the quiet node of it. What it returns of a
+/// process holds in every merge of the journals. Only `history`, `latest_ends`, `ends_since` and `into_quiet` take
+/// memory.
 #[derive(Drop)]
 pub struct Settled {
     node: AtRest,
     handled: u64,
-    tables: Vec<DeskLives>,
+    lives: Lives,
+    directory: Option<Kept>,
 }
 
 impl Model for Settled {
+    ghost use Rattle.std.specs.Prelude.{IfSome};
+    ghost use Rattle.pt_gathered.specs.Keeping.{IsKeptFor};
     ghost use Rattle.pt_gathered.specs.Quiet.{QuietState, IsSettled};
 
     ghost Value = { QuietState };
 
-    ghost view = { λ s. record { gathered = s.node; handled = s.handled; lives = s.tables.items } };
+    ghost view = { λ s. record { gathered = s.node; handled = s.handled; lives = s.lives } };
 
-    ghost invariant = { λ s. IsSettled s.node s.tables.items };
+    ghost invariant = { λ s. IsSettled s.node s.lives × IfSome s.directory (λ k. IsKeptFor s.node k) };
 }
 
 /// For each desk the processes whose exit is the latest of their slot, by slot, each with this stamp.
-pub(crate) fn ends_of(
-    alloc: Global,
-    desks: &[DeskLives],
-    stamp: u64,
-) -> Result<Vec<(Pid, u64)>, AllocError>
+fn ends_of(alloc: Global, desks: &[DeskLives], stamp: u64) -> Result<Vec<(Pid, u64)>, AllocError>
     ensures { IfOk result (λ ends. ends.items ≡ ends_of stamp desks.now) }
 {
     let mut ends = Vec::new(alloc);
@@ -129,14 +136,21 @@ fn place_of(places: &[usize], desk: usize) -> usize
 }
 
 impl Settled {
-    pub(crate) fn of(node: AtRest, handled: u64, tables: Vec<DeskLives>) -> Settled
-        requires { IsSettled node tables.items }
+    pub(crate) fn of(
+        node: AtRest,
+        handled: u64,
+        tables: Vec<DeskLives>,
+        directory: Option<Kept>,
+    ) -> Settled
+        requires settled { IsSettled node tables.items }
+        requires kept { IfSome directory (λ k. IsKeptFor node k) }
         ensures { result ≡ record { gathered = node; handled = handled; lives = tables.items } }
     {
         Settled {
             node,
             handled,
-            tables,
+            lives: Lives::of(tables),
+            directory,
         }
     }
 
@@ -146,24 +160,47 @@ impl Settled {
         ensures quiet { IfOk result (λ quiet. quiet ≡ self) }
         ensures back { IfErr result (λ back. back ≡ self) }
     {
-        let alloc = self.node.alloc();
-        let Settled {
-            node,
-            handled,
-            tables,
-        } = self;
-        match Lives::of(alloc, tables) {
-            Ok(lives) => Ok(Quiet::of(node, handled, lives)),
-            Err(tables) => Err(Settled::of(node, handled, tables)),
+        match self.list() {
+            Ok(pids) => Ok(Quiet::of(self, pids)),
+            Err(_) => Err(self),
         }
+    }
+
+    /// The pids of all processes ever spawned.
+    fn list(&self) -> Result<Vec<Pid>, AllocError>
+        ensures { IfOk result
+            (λ pids. InEveryMerge (journals self.now.gathered)
+            (λ past. AreAllPids (begins self.now.gathered) past pids.items)) }
+    {
+        self.lives.list(self.node.alloc())
+    }
+
+    pub(crate) fn node(&self) -> &AtRest
+        ensures { result.now ≡ self.now.gathered }
+    {
+        &self.node
     }
 
     /// The gathered node, as settling left it.
     pub(crate) fn into_gathered(self) -> Gathered
         ensures { result ≡ self.gathered }
     {
-        let Settled { node, tables, .. } = self;
-        Gathered::with(node, tables)
+        let Settled {
+            node,
+            lives,
+            directory,
+            ..
+        } = self;
+        Gathered::with(node, lives.into_desks(), directory)
+    }
+
+    /// Takes out what was kept of the node's directory, if it is still there, so that resuming makes no directory anew.
+    /// The node stays as it was.
+    pub fn take_kept(&mut self) -> Option<Kept>
+        ensures same { self.new ≡ self.old }
+        ensures kept { IfSome result (λ k. IsKeptFor self.old.gathered k) }
+    {
+        self.directory.take()
     }
 
     /// The number of letters handled, staying at `u64::MAX` once it is reached.
@@ -229,7 +266,7 @@ impl Settled {
     pub fn latest_ends(&self, stamp: u64) -> Result<Vec<(Pid, u64)>, AllocError>
         ensures { IfOk result (λ ends. ends.items ≡ ends_of stamp self.now.lives) }
     {
-        ends_of(self.node.alloc(), self.tables.as_slice(), stamp)
+        ends_of(self.node.alloc(), self.lives.desks(), stamp)
     }
 
     /// The processes that exited since these places in the journals, each with this stamp. A desk's place is how many of
@@ -251,7 +288,7 @@ impl Settled {
         for which in 0..self.node.shards().len() {
             let journal = self.node.shards()[which].journal();
             let place = place_of(places, which);
-            add_ends(&self.tables[which], journal, place, stamp, &mut ends)?;
+            add_ends(&self.lives.desks()[which], journal, place, stamp, &mut ends)?;
         }
         Ok(ends)
     }
@@ -267,12 +304,13 @@ impl Settled {
     {
         // read for the proof alone: it says what holds of every gathered node
         let _desks = self.node.desks();
-        let Settled { node, tables, .. } = self;
+        let Settled { node, lives, .. } = self;
         let (config, shards) = node.into_parts();
-        (config, shards, tables)
+        (config, shards, lives.into_desks())
     }
 
-    /// What holds for each process spawned on a desk, as [`Quiet::versions`] says. The function does nothing: its
+    /// What holds for each process spawned on a desk: it is of one of its slots, and those before it in that slot have
+    /// exited. The latest stamp is not 0. Each table has what the desk's journal says. The function does nothing: its
     /// contract is the promise.
     pub fn versions(&self)
         ensures turns { AreInTurn self.now.gathered.shards }
@@ -306,5 +344,45 @@ impl Settled {
         ensures outline_after { OutlinesAgainAfter self.now.gathered }
     {
         laws_of_node(&self.node);
+    }
+
+    /// Why the process exited, if it has, and how many items arrived in its mailbox, were taken, and wait or were left
+    /// at its exit. `None` exactly if it was never spawned. In a node that was resumed the counts begin with what
+    /// waited then. They are 0 for a process that had exited before.
+    pub fn account(&self, pid: Pid) -> Option<Account>
+        ensures { InEveryMerge (journals self.now.gathered)
+            (λ past. result ≡ account_in (begins self.now.gathered) past pid) }
+    {
+        self.lives.account(pid)
+    }
+
+    /// The ids under which a process is linked with another one, or was just after its own exit. None if it had exited
+    /// before the node was resumed.
+    pub fn linked(&self, pid: Pid, peer: Pid) -> Option<Ids>
+        ensures { InEveryMerge (journals self.now.gathered)
+            (λ past. result ≡ held (state (begins self.now.gathered) past pid).links peer) }
+    {
+        self.lives.linked(pid, peer)
+    }
+
+    /// Whether a process is watched under this reference: Erlang's `monitored_by` of `process_info`, of one monitor. For
+    /// an exited process, whether it was at its exit. False if it had exited before the node was resumed.
+    pub fn kept(&self, target: Pid, monitor: Ref) -> bool
+        ensures { InEveryMerge (journals self.now.gathered)
+            (λ past.
+            result ≡ list_any (λ k. same_ref monitor k.0) (state (begins self.now.gathered) past target).kept) }
+    {
+        self.lives.kept(target, monitor)
+    }
+
+    /// Whether a process's monitor of this reference is open: Erlang's `monitors` of `process_info`, of one monitor. False
+    /// once the process has exited.
+    pub fn watching(&self, watcher: Pid, monitor: Ref) -> bool
+        ensures { InEveryMerge (journals self.now.gathered)
+            (λ past.
+            result
+            ≡ is_some (lookup (same_ref monitor) (open_monitors (life (begins self.now.gathered) past watcher)))) }
+    {
+        self.lives.watching(watcher, monitor)
     }
 }

@@ -1,8 +1,9 @@
 //! Delivering the letters left over.
 
-ghost use Rattle.std.specs.Prelude.{◌≡◌, ℕ, ◌<◌, ◌≤◌, length, [], OnOk, IfOk, IfErr};
+ghost use Rattle.std.specs.Prelude.{◌≡◌, ℕ, ◌<◌, ◌≤◌, length, [], OnOk, IfOk, IfErr, IfSome};
 ghost use Rattle.pt_shard.specs.declared.stop.Stop.TheVariants.{Memory};
 ghost use Rattle.pt_gathered.specs.Gathered.{over_in};
+ghost use Rattle.pt_gathered.specs.Keeping.{IsKeptFor};
 ghost use Rattle.pt_gathered.specs.Settling.{Runs, Moves, Settles, NothingLeft, NothingTo, NothingBelow};
 ghost use Rattle.pt_gathered.specs.Order.{Passes, SettlingStops, Pass, PassStops, DeskComes, DeskStops, LaneComes};
 ghost use Rattle.pt_gathered.specs.Order.{LaneStops, PassesStop};
@@ -14,6 +15,7 @@ ghost use Rattle.pt_gathered.specs.Tables.{AreTables, TablesAreTold};
 
 use crate::at_rest::AtRest;
 use crate::gathered::Gathered;
+use crate::kept::Kept;
 use crate::node_laws::laws_of;
 use crate::quiet::Quiet;
 use crate::settled::Settled;
@@ -147,7 +149,7 @@ impl Gathered {
         ensures refused_again { NothingLeft self → IfErr result (λ u. (u.gathered ≡ self) × (u.fault ≡ Memory)) }
     {
         laws_of(&self);
-        let (mut settling, mut tables) = Settling::of(self);
+        let (mut settling, mut tables, kept) = Settling::of(self);
         // read for the proof alone, here and below: it says what holds of every gathered node
         let _before = settling.node.desks();
         match settling.run_passes() {
@@ -155,7 +157,7 @@ impl Gathered {
             Err(fault) => {
                 let Settling { node, .. } = settling;
                 let _after = node.desks();
-                let gathered = Gathered::with(node, tables);
+                let gathered = Gathered::with(node, tables, kept);
                 laws_of(&gathered);
                 return Err(Unsettled { fault, gathered });
             }
@@ -164,12 +166,12 @@ impl Gathered {
         let _after = node.desks();
         match read_journals(&node, &mut tables) {
             Ok(()) => {
-                let settled = Settled::of(node, handled, tables);
+                let settled = Settled::of(node, handled, tables, kept);
                 settled.laws();
                 Ok(settled)
             }
             Err(_) => {
-                let gathered = Gathered::with(node, tables);
+                let gathered = Gathered::with(node, tables, kept);
                 laws_of(&gathered);
                 let fault = Stop::Memory;
                 Err(Unsettled { fault, gathered })
@@ -195,22 +197,23 @@ struct Settling {
 }
 
 impl Settling {
-    /// The settling of a node, at its start, and the tables beside the node's desks.
-    fn of(gathered: Gathered) -> (Settling, Vec<DeskLives>)
+    /// The settling of a node, at its start, the tables beside the node's desks, and what is kept.
+    fn of(gathered: Gathered) -> (Settling, Vec<DeskLives>, Option<Kept>)
         ensures node { result.0.node ≡ gathered }
         ensures waits { Waits result.0.waits result.0.node }
         ensures least { AreLeast result.0.least result.0.node }
         ensures handled { result.0.handled ≡ 0 }
         ensures tables { AreTables gathered.shards result.1.items }
+        ensures kept { IfSome result.2 (λ k. IsKeptFor gathered k) }
     {
-        let (node, lives) = gathered.apart();
+        let (node, lives, kept) = gathered.apart();
         let settling = Settling {
             node,
             waits: [true; PLACES],
             least: [0; PLACES],
             handled: 0,
         };
-        (settling, lives)
+        (settling, lives, kept)
     }
 
     /// Makes one pass after the other, until no letter is left over.

@@ -37,7 +37,7 @@ use Rattle.pt_gathered.proofs.Starts.{start_same}
 use Rattle.pt_gathered.proofs.Owned.{life_same}
 use Rattle.pt_desk.specs.Sight.{AreToldBefore}
 use Rattle.pt_node.specs.declared.resuming.Room.{Room}
-use Rattle.pt_node.specs.Keeping.{KeptState, IsEndOn, IsKeptFor}
+use Rattle.pt_gathered.specs.Keeping.{KeptState, IsEndOn, IsKeptFor}
 use Rattle.pt_node.specs.Seating.{Seated, IsSeatOf, AreReady}
 use Rattle.pt_node.proofs.Prepared.{born}
 use Rattle.pt_node.proofs.Resumed.{outcome_ended, turns_again}

@@ -39,7 +39,7 @@ use Rattle.pt_directory.specs.Seats.{DirectoryState, SeatState, HasToldOf}
 use Rattle.pt_desk.proofs.Before.{old_ends}
 use Rattle.pt_desk.proofs.Deaths.{told, own_death}
 use Rattle.pt_events.proofs.Refusals.{ended_below}
-use Rattle.pt_node.specs.Keeping.{KeptState, IsEndOn, IsKeptOf}
+use Rattle.pt_gathered.specs.Keeping.{KeptState, IsEndOn, IsKeptOf}
 use Rattle.pt_node.specs.Seating.{Seated, all_seats, seat_in, together, AreAudited}
 use Rattle.pt_node.proofs.TrueReads.{death_from, death_in, number_at, true_read}
 

@@ -6,4 +6,3 @@ pub mod Seating
 pub mod Node
 pub mod Lending
 pub mod Load
-pub mod Keeping

@@ -8,11 +8,10 @@ ghost use Rattle.pt_gathered.specs.Lawful.{LanesKeep, KeepsHeadline, IsLegalNode
 ghost use Rattle.pt_desk.specs.DeskState.{DeskState};
 ghost use Rattle.pt_workers.specs.Desks.{AreDesks, desk_kept};
 ghost use Rattle.pt_node.specs.Gathering.{Gathers, HasJournalsOf, ReadsAreTrue};
-ghost use Rattle.pt_node.specs.Keeping.{IsKeptOf};
 ghost use Rattle.pt_node.specs.Pasts.{GathersPast, GathersOutline};
 
 use crate::making::{look, make_whole, take_apart};
-use crate::seating::{Kept, Seated, audit_all};
+use crate::seating::{Seated, audit_all};
 use pt_accounts::DeskLives;
 use pt_carrier::{Cause, Ins, Outs, reunite};
 use pt_desk::Desk;
@@ -143,8 +142,14 @@ fn take_room(alloc: Global, number: u8, desks: &[Desk]) -> Result<Room, AllocErr
 ///   arrived first.
 /// - If a call failed because a desk saw that its target had exited, the target had exited.
 ///
-/// Fails only if there is no memory: all desks then come back in order, as they were. Only what the two ends of a lane
-/// know of each other may be more, which no call shows. It waits for no thread.
+/// The node also keeps the directory of exited processes, which takes its memory until the node is resumed or dropped. So
+/// [`resume`](crate::resume) and its variants go on in that directory, and need not make a new one.
+///
+/// Time and memory grow with the number of lanes and with the letters left over in them. Processes, slots and events cost
+/// nothing. It waits for no thread.
+///
+/// Fails only if there is no memory: all desks then come back in order, as they were, each with its place in the
+/// directory. Only what the two ends of a lane know of each other may be more, which no call shows.
 pub fn gather(alloc: Global, desks: Vec<Desk>) -> Result<Gathered, DesksBack>
     requires { AreDesks desks.items }
     ensures gathers { IfOk result (λ g. Gathers desks.items g) }
@@ -156,28 +161,6 @@ pub fn gather(alloc: Global, desks: Vec<Desk>) -> Result<Gathered, DesksBack>
     ensures reads { IfOk result (λ g. ReadsAreTrue desks.items g) }
     ensures past { IfOk result (λ g. GathersPast desks.items g) }
     ensures outline { IfOk result (λ g. GathersOutline desks.items g) }
-    ensures back { IfErr result (λ b. map desk_kept b ≡ map desk_kept desks.items) }
-{
-    match gather_keeping(alloc, desks) {
-        Ok((gathered, _kept)) => Ok(gathered),
-        Err(back) => Err(back),
-    }
-}
-
-/// Brings the desks of a node together, as [`gather`] does, and returns what is kept of their directory too. So once the
-/// node is settled, [`resume_kept`](crate::resume_kept) resumes it and makes no directory anew.
-pub fn gather_keeping(alloc: Global, desks: Vec<Desk>) -> Result<(Gathered, Kept), DesksBack>
-    requires { AreDesks desks.items }
-    ensures gathers { IfOk result (λ r. Gathers desks.items r.0) }
-    ensures journals { IfOk result (λ r. HasJournalsOf desks.items r.0) }
-    ensures lanes { IfOk result (λ r. LanesKeep r.0) }
-    ensures headline { IfOk result (λ r. KeepsHeadline r.0) }
-    ensures legal { IfOk result (λ r. IsLegalNode r.0) }
-    ensures answers { IfOk result (λ r. AnswersHold r.0) }
-    ensures reads { IfOk result (λ r. ReadsAreTrue desks.items r.0) }
-    ensures past { IfOk result (λ r. GathersPast desks.items r.0) }
-    ensures outline { IfOk result (λ r. GathersOutline desks.items r.0) }
-    ensures kept { IfOk result (λ r. IsKeptOf r.0 r.1) }
     ensures back { IfErr result (λ b. map desk_kept b ≡ map desk_kept desks.items) }
 {
     look(desks.as_slice());
@@ -200,9 +183,9 @@ pub fn gather_keeping(alloc: Global, desks: Vec<Desk>) -> Result<(Gathered, Kept
             desks.destroy_empty();
             fill(left.lanes, &mut lanes);
             let kept = audit_all(seats, written);
-            let gathered = Gathered::of(alloc, config, shards, lanes, tables);
+            let gathered = Gathered::of(alloc, config, shards, lanes, tables, kept);
             laws_of(&gathered);
-            Ok((gathered, kept))
+            Ok(gathered)
         }
         Err(back) => {
             make_whole(back.into_ends(), shards, seats, tables, &mut desks);

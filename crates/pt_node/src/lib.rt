@@ -51,10 +51,13 @@
 //! behind. Exited processes stay exited, and the versions and the clocks continue. What holds for an opened node holds
 //! for this one, over that start. A node may be resumed any number of times.
 //!
-//! [`Gathered::settle_unlisted`] and [`resume_settled`] do the same without a list of all pids that ever were. So a
-//! pause costs what happened since the last one, the live processes and the slots. [`gather_keeping`] and
-//! [`resume_kept`] keep the directory of exited processes too. It is told only of the exits that settling brought, so a
-//! slot that did not change since the last pause costs nothing.
+//! A node keeps its directory of exited processes while it is gathered, settled and resumed. The directory is told only of
+//! the exits that settling brought. So [`resume`] costs what happened since the last pause, and a slot that did not change
+//! since then costs nothing. [`Gathered::settle_unlisted`] and [`resume_settled`] do the same without a list of all pids
+//! that ever were, so the whole pause costs no more.
+//!
+//! If there is no memory to resume the node, it comes back as it was, without that directory. The next call then makes a
+//! new one, and costs the live processes and the slots too.
 //!
 //! [`resume_forgetting`] also forgets why processes exited. So a program whose exit reasons never repeat keeps no more
 //! of its exited processes than one whose reasons do.
@@ -68,8 +71,8 @@
 //! - **Gathering.** `gather` returns the node with the journals as they were, or gives all desks back as they were.
 //! - **Resuming.** `resume` continues from a quiet node with empty journals, or gives it back as it was. Pids, versions
 //!   and clocks continue. `resume_settled` does the same from a settled node without a list of its pids. (`AreResumed`)
-//! - **Keeping.** `resume_kept` promises what `resume_settled` does, for what was kept when the node was gathered: its
-//!   directory, which has the exit of each process that had exited by then. (`IsKeptFor`)
+//! - **Keeping.** `gather` keeps the node's directory, which has the exit of each process that had exited by then
+//!   (`IsKeptOf`). Both go on in it if it is there, and promise the same if it is not.
 //! - **Forgetting reasons.** `resume_forgetting` makes the same desks, but each exited process has the reason `noproc`.
 //!   The laws of a quiet node hold over them, and its history goes on. (`ResumesForgetful`)
 //! - **The node's calls.** Each call of `Node` does what the call of the pid's desk does, and the other desks stay. It
@@ -88,7 +91,7 @@ mod opening;
 mod resuming;
 mod seating;
 
-pub use gathering::{DesksBack, abandon, gather, gather_keeping};
+pub use gathering::{DesksBack, abandon, gather};
 pub use node::{Node, NodeBack};
 pub use node_fault::NodeFault;
 pub use opening::open;
@@ -105,7 +108,4 @@ pub use pt_workers::{
     FreeGate, Gate, Ran, Rested, RunFault, Standing, Stopped, Takes, Task, Work, assign,
     next_woken, release, run, run_single, take_each,
 };
-pub use resuming::{
-    Resting, RestingSettled, resume, resume_forgetting, resume_kept, resume_settled,
-};
-pub use seating::Kept;
+pub use resuming::{Resting, resume, resume_forgetting, resume_settled};

@@ -16,7 +16,6 @@ ghost use Rattle.pt_gathered.specs.Settling.{NothingLeft};
 ghost use Rattle.pt_desk.specs.Reaching.{Reaches, has_link_to_make, has_monitor_to_make};
 ghost use Rattle.pt_workers.specs.Desks.{AreDesks, AreDesksOf, desk_kept};
 ghost use Rattle.pt_node.specs.Gathering.{Gathers, HasJournalsOf, ReadsAreTrue};
-ghost use Rattle.pt_node.specs.Keeping.{IsKeptFor, IsKeptOf};
 ghost use Rattle.pt_node.specs.Pasts.{GathersPast, GathersOutline};
 ghost use Rattle.pt_workers.specs.NodeRunning.{RunsNode};
 ghost use Rattle.pt_workers.specs.Running.{AllWork, InRounds, begins_by};
@@ -28,15 +27,12 @@ ghost use Rattle.pt_node.specs.declared.node_fault.NodeFault.TheVariants.{NoDesk
 ghost use Rattle.pt_node.specs.Resuming.{Resumes, ResumesForgetful};
 ghost use Rattle.pt_workers.specs.Stillness.{AllDesksGoOn, AreStill, RunsRounds, StoppedAt, count_events};
 
-use crate::gathering::{abandon, gather_keeping};
+use crate::gathering::{abandon, gather};
 use crate::making::look;
 use crate::node_fault::NodeFault;
 use crate::node_running::{run_desks, run_desks_single};
 use crate::opening::open;
-use crate::resuming::{
-    Resting, RestingSettled, resume, resume_forgetting, resume_kept, resume_settled,
-};
-use crate::seating::Kept;
+use crate::resuming::{Resting, resume, resume_forgetting, resume_settled};
 use pt_desk::{Desk, Turned};
 use pt_gathered::{Gathered, Quiet, Settled};
 use pt_process::Process;
@@ -116,7 +112,11 @@ impl Node {
         }
     }
 
-    /// Continues from a quiet node, as [`resume`](crate::resume) does. Fails only if there is no memory.
+    /// Continues from a quiet node, as [`resume`](crate::resume) does. In the directory that gathering kept, time and
+    /// memory grow with what happened since the node was opened or resumed last, and with the number of desks.
+    ///
+    /// Fails only if there is no memory. The quiet node then comes back, without that directory: the next call makes a
+    /// new one, and costs time and memory for the live processes and the slots too.
     pub fn resume(alloc: Global, quiet: Quiet) -> Result<Node, Resting>
         ensures resumes { IfOk result (λ desks. Resumes quiet.gathered desks) }
         ensures resting { IfErr result (λ back. back.quiet ≡ quiet) }
@@ -128,10 +128,13 @@ impl Node {
     }
 
     /// Continues from a settled node without the list of its processes, as [`resume_settled`](crate::resume_settled)
-    /// does. Fails only if there is no memory.
-    pub fn resume_settled(alloc: Global, settled: Settled) -> Result<Node, RestingSettled>
+    /// does. Its cost is that of [`Node::resume`].
+    ///
+    /// Fails only if there is no memory. The settled node then comes back, without the directory that gathering kept, as
+    /// after a `Node::resume` that failed.
+    pub fn resume_settled(alloc: Global, settled: Settled) -> Result<Node, Settled>
         ensures resumes { IfOk result (λ desks. Resumes settled.gathered desks) }
-        ensures resting { IfErr result (λ back. back.settled ≡ settled) }
+        ensures resting { IfErr result (λ back. back ≡ settled) }
     {
         match resume_settled(alloc, settled) {
             Ok(desks) => Ok(Node { alloc, desks }),
@@ -139,24 +142,15 @@ impl Node {
         }
     }
 
-    /// Continues from a settled node in the directory that was kept when it was gathered, as
-    /// [`resume_kept`](crate::resume_kept) does. Fails only if there is no memory.
-    pub fn resume_kept(alloc: Global, settled: Settled, kept: Kept) -> Result<Node, RestingSettled>
-        requires kept { IsKeptFor settled.gathered kept }
-        ensures resumes { IfOk result (λ desks. Resumes settled.gathered desks) }
-        ensures resting { IfErr result (λ back. back.settled ≡ settled) }
-    {
-        match resume_kept(alloc, settled, kept) {
-            Ok(desks) => Ok(Node { alloc, desks }),
-            Err(back) => Err(back),
-        }
-    }
-
     /// Continues from a settled node and forgets why its processes exited, as
-    /// [`resume_forgetting`](crate::resume_forgetting) does. Fails only if there is no memory.
-    pub fn resume_forgetting(alloc: Global, settled: Settled) -> Result<Node, RestingSettled>
+    /// [`resume_forgetting`](crate::resume_forgetting) does. Its cost is that of [`Node::resume`], and a look at each slot
+    /// that was ever used.
+    ///
+    /// Fails only if there is no memory. The settled node then comes back, without the directory that gathering kept, as
+    /// after a `Node::resume` that failed, and has forgotten nothing.
+    pub fn resume_forgetting(alloc: Global, settled: Settled) -> Result<Node, Settled>
         ensures resumes { IfOk result (λ desks. ResumesForgetful settled.gathered desks) }
-        ensures resting { IfErr result (λ back. back.settled ≡ settled) }
+        ensures resting { IfErr result (λ back. back ≡ settled) }
     {
         match resume_forgetting(alloc, settled) {
             Ok(desks) => Ok(Node { alloc, desks }),
@@ -260,8 +254,10 @@ impl Node {
     /// messages and the letters left over. If the node is still, as [`turn_until_still`](Node::turn_until_still) leaves
     /// it, no letter is left over.
     ///
-    /// Fails only if there is no memory: the node then comes back as it was. Only what the two ends of a lane know of
-    /// each other may be more, which no call shows.
+    /// The gathered node keeps the directory of exited processes, in which [`Node::resume`] and its variants go on.
+    ///
+    /// Fails only if there is no memory: the node then comes back as it was, with its directory. Only what the two ends of
+    /// a lane know of each other may be more, which no call shows.
     #[tactic(auto, using(pt_workers::proofs::StillDesks::kept_desks))]
     pub fn gather(self) -> Result<Gathered, NodeBack>
         ensures gathers { IfOk result (λ g. Gathers self g) }
@@ -276,32 +272,9 @@ impl Node {
         ensures still { AreStill self → IfOk result (λ g. NothingLeft g) }
         ensures back { IfErr result (λ b. map desk_kept b.node ≡ map desk_kept self) }
     {
-        match self.gather_keeping() {
-            Ok((gathered, _kept)) => Ok(gathered),
-            Err(back) => Err(back),
-        }
-    }
-
-    /// Brings the desks of the node together, as [`gather`](Node::gather) does, and returns what is kept of their
-    /// directory too, for [`resume_kept`](Node::resume_kept).
-    #[tactic(auto, using(pt_workers::proofs::StillDesks::kept_desks))]
-    pub fn gather_keeping(self) -> Result<(Gathered, Kept), NodeBack>
-        ensures gathers { IfOk result (λ r. Gathers self r.0) }
-        ensures journals { IfOk result (λ r. HasJournalsOf self r.0) }
-        ensures lanes { IfOk result (λ r. LanesKeep r.0) }
-        ensures headline { IfOk result (λ r. KeepsHeadline r.0) }
-        ensures legal { IfOk result (λ r. IsLegalNode r.0) }
-        ensures answers { IfOk result (λ r. AnswersHold r.0) }
-        ensures reads { IfOk result (λ r. ReadsAreTrue self r.0) }
-        ensures past { IfOk result (λ r. GathersPast self r.0) }
-        ensures outline { IfOk result (λ r. GathersOutline self r.0) }
-        ensures kept { IfOk result (λ r. IsKeptOf r.0 r.1) }
-        ensures still { AreStill self → IfOk result (λ r. NothingLeft r.0) }
-        ensures back { IfErr result (λ b. map desk_kept b.node ≡ map desk_kept self) }
-    {
         let Node { alloc, desks } = self;
-        match gather_keeping(alloc, desks) {
-            Ok(both) => Ok(both),
+        match gather(alloc, desks) {
+            Ok(gathered) => Ok(gathered),
             Err(back) => Err(NodeBack {
                 node: Node {
                     alloc,

@@ -1,6 +1,6 @@
 //! Resuming a quiet node, or one that is settled and has no list of its processes.
 
-ghost use Rattle.std.specs.Prelude.{◌≡◌, ◌≤◌, ◌<◌, ℕ, List, [], length, map, slice_index_or, IfErr, IfOk, vec_len};
+ghost use Rattle.std.specs.Prelude.{◌≡◌, ◌≤◌, ◌<◌, ℕ, List, [], length, map, slice_index_or, IfErr, IfOk, IfSome, vec_len};
 ghost use Rattle.std.specs.Arc.{arc_value};
 ghost use Rattle.std.specs.Vec.{vec_capacity};
 ghost use Rattle.pt_signal.specs.declared.config.TheConstants.{MAX_STAMP};
@@ -9,19 +9,19 @@ ghost use Rattle.pt_directory.specs.Seats.{AreEnded};
 ghost use Rattle.pt_shard.specs.Begun.{Every};
 ghost use Rattle.pt_shard.specs.Restart.{restarted};
 ghost use Rattle.pt_accounts.specs.DeskLives.{all_forgotten};
+ghost use Rattle.pt_gathered.specs.Keeping.{IsKeptFor};
 ghost use Rattle.pt_gathered.specs.Quiet.{latest_stamp};
 ghost use Rattle.pt_desk.specs.DeskState.{DeskState};
 ghost use Rattle.pt_desk.specs.Forgetting.{forgetful_desk};
 ghost use Rattle.pt_node.specs.Seating.{Seated, AreFreshSeats, AreReady};
-ghost use Rattle.pt_node.specs.Keeping.{IsKeptFor};
 ghost use Rattle.pt_node.specs.Resuming.{AreNewPairs, AreResumed, Resumes, ResumesForgetful};
 
 use crate::making::make_whole;
-use crate::seating::{Kept, Seated, fresh_seats, kept_seats};
+use crate::seating::{Seated, fresh_seats, kept_seats};
 use pt_accounts::DeskLives;
 use pt_carrier::{Ins, Outs};
 use pt_desk::Desk;
-use pt_gathered::{Quiet, Settled};
+use pt_gathered::{Kept, Quiet, Settled};
 use pt_shard::{Config, Shard};
 use pt_signal::Pid;
 use std::alloc::{AllocError, Global};
@@ -49,27 +49,6 @@ impl fmt::Display for Resting {
 
 impl Error for Resting {}
 
-/// The settled node of a call of [`resume_settled`] that failed, since there was no memory.
-#[derive(Drop)]
-pub struct RestingSettled {
-    /// The node, as it was.
-    pub settled: Settled,
-}
-
-impl fmt::Debug for RestingSettled {
-    fn fmt<W: fmt::Write>(&self, f: &mut fmt::Formatter<W>) -> fmt::Result {
-        write!(f, "RestingSettled {{ .. }}")
-    }
-}
-
-impl fmt::Display for RestingSettled {
-    fn fmt<W: fmt::Write>(&self, f: &mut fmt::Formatter<W>) -> fmt::Result {
-        write!(f, "there was no memory to go on from the settled node")
-    }
-}
-
-impl Error for RestingSettled {}
-
 /// The memory that resuming takes: the lanes, the seats in a directory of exited processes, and the lists of shards and
 /// of desks, which are empty.
 struct Room {
@@ -85,59 +64,111 @@ struct Room {
 /// exited process stays exited for ever: its exit and its reason are known, and nothing is left of what it held. The
 /// versions of each slot continue from its last one, and a retired slot stays retired. The clocks of all desks begin at
 /// the greatest stamp of the history. If it has no event, they begin as they did before. So all that is made from here
-/// on is new. The lanes are new, and so is the directory, which has the latest exit of each slot.
+/// on is new. The lanes are new.
 ///
 /// What holds for an opened node holds for this one, with what was before as its start: it may be gathered, settled and
 /// resumed again. All that happened on the node since its first opening, over any number of resumptions, is one legal
 /// history, and the desks continue from it. The quiet node is used up with its journals: take its
 /// [`history`](Quiet::history) before, if it is to be kept.
 ///
-/// Fails only if there is no memory: the quiet node then comes back, as it was.
+/// The directory of exited processes is the one that [`gather`](crate::gather) kept. It has the exits that came before
+/// gathering, and is told only of those that settling brought, which are found by the receipts that settling wrote. So
+/// time and memory grow with what happened since the desks were opened or resumed last, and with the number of desks. A
+/// slot that did not change since then costs nothing, whether a process lives there or not.
+///
+/// Fails only if there is no memory: the quiet node then comes back, as it was. The directory that was kept is dropped,
+/// so the next call makes a new one with the latest exit of each slot. Time and memory of that call grow with the live
+/// processes and the slots too, but never with all processes that ever were.
 pub fn resume(alloc: Global, quiet: Quiet) -> Result<Vec<Desk>, Resting>
     ensures resumes { IfOk result (λ desks. Resumes quiet.gathered desks.items) }
     ensures resting { IfErr result (λ back. back.quiet ≡ quiet) }
 {
-    let start = quiet.clock();
-    match prepare(alloc, &quiet, start) {
+    let mut quiet = quiet;
+    let kept = quiet.take_kept();
+    let start = quiet.settled().clock();
+    match prepare(alloc, quiet.settled(), start, kept) {
         Ok(room) => Ok(go_on(quiet.into_settled(), start, room)),
         Err(_) => Err(Resting { quiet }),
     }
 }
 
-/// Continues from a settled node that has no list of its processes, as [`resume`] does from a quiet node: the desks are
-/// those that `resume` makes of the quiet node with the same history. Time and memory grow with what happened since the
-/// desks were opened or resumed last, with the live processes and the slots, and not with all processes that ever were.
+/// Continues from a settled node, which needs no list of its processes, as [`resume`] does from a quiet node: the desks
+/// are those that `resume` makes of the quiet node with the same history.
 ///
-/// Fails only if there is no memory: the settled node then comes back, as it was.
-pub fn resume_settled(alloc: Global, settled: Settled) -> Result<Vec<Desk>, RestingSettled>
+/// Time and memory are those of `resume`: in the directory that [`gather`](crate::gather) kept they grow with what
+/// happened since the desks were opened or resumed last, and with the number of desks.
+///
+/// Fails only if there is no memory: the settled node then comes back, as it was. The directory that was kept is dropped,
+/// so the next call makes a new one, and its time and memory grow with the live processes and the slots too.
+pub fn resume_settled(alloc: Global, settled: Settled) -> Result<Vec<Desk>, Settled>
     ensures resumes { IfOk result (λ desks. Resumes settled.gathered desks.items) }
-    ensures resting { IfErr result (λ back. back.settled ≡ settled) }
+    ensures resting { IfErr result (λ back. back ≡ settled) }
 {
+    let mut settled = settled;
+    let kept = settled.take_kept();
     let start = settled.clock();
-    match prepare_settled(alloc, &settled, start) {
+    match prepare(alloc, &settled, start, kept) {
         Ok(room) => Ok(go_on(settled, start, room)),
-        Err(_) => Err(RestingSettled { settled }),
+        Err(_) => Err(settled),
     }
 }
 
-/// Continues from a settled node as [`resume_settled`] does, in the directory that was kept when it was gathered. The
-/// directory has the exits that came before. It is told only of those that settling brought, which are found by the
-/// receipts that settling wrote.
+/// Continues from a settled node as [`resume_settled`] does, and forgets why its processes exited: each exited process
+/// stays exited for ever, but its reason is [`Reason::Noproc`](pt_signal::Reason::Noproc) from now on. That is what a
+/// monitor of it is told anyway. So of all processes that a slot ever had only their number is kept, in one entry of 12
+/// bytes beside the room for a second, also if each exited for a reason of its own.
 ///
-/// So time and memory grow with what happened since the desks were opened or resumed last, and with the number of desks.
-/// A slot that did not change since then costs nothing, whether a process lives there or not.
+/// Nothing else is forgotten: what lives, what it holds, whether a process was ever spawned, and whether it exited. All
+/// laws of quiet nodes hold as before. The desks continue from the same history, but for the reasons in it
+/// (`ResumesForgetful`).
 ///
-/// Fails only if there is no memory: the settled node then comes back, as it was. What was kept is dropped, and
-/// `resume_settled` resumes the node.
-pub fn resume_kept(alloc: Global, settled: Settled, kept: Kept) -> Result<Vec<Desk>, RestingSettled>
-    requires kept { IsKeptFor settled.gathered kept }
-    ensures resumes { IfOk result (λ desks. Resumes settled.gathered desks.items) }
-    ensures resting { IfErr result (λ back. back.settled ≡ settled) }
+/// It takes the memory of `resume_settled`, and its time with a look at each slot that was ever used.
+///
+/// Fails only if there is no memory: the settled node then comes back, as it was, and has forgotten nothing. The
+/// directory that was kept is dropped, so the next call makes a new one, as after a `resume_settled` that failed.
+pub fn resume_forgetting(alloc: Global, settled: Settled) -> Result<Vec<Desk>, Settled>
+    ensures resumes { IfOk result (λ desks. ResumesForgetful settled.gathered desks.items) }
+    ensures resting { IfErr result (λ back. back ≡ settled) }
 {
-    let latest = settled.clock();
-    match prepare_kept(alloc, &settled, latest, kept) {
-        Ok(room) => Ok(go_on(settled, latest, room)),
-        Err(_) => Err(RestingSettled { settled }),
+    let mut desks = resume_settled(alloc, settled)?;
+    forget_reasons(desks.as_mut_slice());
+    Ok(desks)
+}
+
+/// Makes each desk forget why processes exited before its journal, which is empty.
+fn forget_reasons(desks: &mut [Desk])
+    requires { (d : ℕ) (x : DeskState) → d < length desks.old → (slice_index_or desks.old d x).shard.journal ≡ [] }
+    ensures { desks.new ≡ map forgetful_desk desks.old }
+{
+    for which in 0..desks.len() {
+        desks[which].forget_reasons();
+    }
+}
+
+/// Takes all memory that it needs to resume a settled node at this stamp, its latest: in the directory that was kept, or
+/// in a new one if none was.
+fn prepare(
+    alloc: Global,
+    settled: &Settled,
+    start: u64,
+    kept: Option<Kept>,
+) -> Result<Room, AllocError>
+    requires latest { start ≡ latest_stamp settled.now.gathered }
+    requires within { start ≤ MAX_STAMP }
+    requires kept { IfSome kept (λ k. IsKeptFor settled.now.gathered k) }
+    ensures pairs { IfOk result (λ room. AreNewPairs settled.now.gathered.config.desks settled.now.gathered.config.lane
+        room.pairs.items) }
+    ensures seats { IfOk result
+        (λ room. AreReady (map (restarted start) settled.now.gathered.shards) (map all_forgotten settled.now.lives)
+        (map (λ p. (arc_value p.0, p.1)) room.seats.items)) }
+    ensures shards { IfOk result (λ room. (room.shards.items ≡ [])
+        × (length settled.now.gathered.shards ≤ vec_capacity room.shards)) }
+    ensures desks { IfOk result (λ room. (room.desks.items ≡ [])
+        × (length settled.now.gathered.shards ≤ vec_capacity room.desks)) }
+{
+    match kept {
+        Some(kept) => prepare_kept(alloc, settled, start, kept),
+        None => prepare_anew(alloc, settled, start),
     }
 }
 
@@ -174,61 +205,9 @@ fn prepare_kept(
     take_rest(alloc, config, settled.desks(), seats)
 }
 
-/// Continues from a settled node as [`resume_settled`] does, and forgets why its processes exited: each exited process
-/// stays exited for ever, but its reason is [`Reason::Noproc`](pt_signal::Reason::Noproc) from now on. That is what a
-/// monitor of it is told anyway. So of all processes that a slot ever had only their number is kept, in one entry of 12
-/// bytes beside the room for a second, also if each exited for a reason of its own.
-///
-/// Nothing else is forgotten: what lives, what it holds, whether a process was ever spawned, and whether it exited. All
-/// laws of quiet nodes hold as before. The desks continue from the same history, but for the reasons in it
-/// (`ResumesForgetful`).
-///
-/// Fails only if there is no memory: the settled node then comes back, as it was, and has forgotten nothing.
-pub fn resume_forgetting(alloc: Global, settled: Settled) -> Result<Vec<Desk>, RestingSettled>
-    ensures resumes { IfOk result (λ desks. ResumesForgetful settled.gathered desks.items) }
-    ensures resting { IfErr result (λ back. back.settled ≡ settled) }
-{
-    let mut desks = resume_settled(alloc, settled)?;
-    forget_reasons(desks.as_mut_slice());
-    Ok(desks)
-}
-
-/// Makes each desk forget why processes exited before its journal, which is empty.
-fn forget_reasons(desks: &mut [Desk])
-    requires { (d : ℕ) (x : DeskState) → d < length desks.old → (slice_index_or desks.old d x).shard.journal ≡ [] }
-    ensures { desks.new ≡ map forgetful_desk desks.old }
-{
-    for which in 0..desks.len() {
-        desks[which].forget_reasons();
-    }
-}
-
-/// Takes all memory that it needs to resume a quiet node at this stamp, its latest.
-fn prepare(alloc: Global, quiet: &Quiet, start: u64) -> Result<Room, AllocError>
-    requires latest { start ≡ latest_stamp quiet.now.gathered }
-    requires within { start ≤ MAX_STAMP }
-    ensures pairs { IfOk result (λ room. AreNewPairs quiet.now.gathered.config.desks quiet.now.gathered.config.lane
-        room.pairs.items) }
-    ensures seats { IfOk result
-        (λ room. AreReady (map (restarted start) quiet.now.gathered.shards) (map all_forgotten quiet.now.lives)
-        (map (λ p. (arc_value p.0, p.1)) room.seats.items)) }
-    ensures shards { IfOk result (λ room. (room.shards.items ≡ [])
-        × (length quiet.now.gathered.shards ≤ vec_capacity room.shards)) }
-    ensures desks { IfOk result (λ room. (room.desks.items ≡ [])
-        × (length quiet.now.gathered.shards ≤ vec_capacity room.desks)) }
-{
-    // read for the proof alone: whose processes the desks had
-    quiet.versions();
-    let config = Config {
-        start,
-        ..quiet.config()
-    };
-    let ended = quiet.latest_ends(start)?;
-    take_room(alloc, config, quiet.desks(), ended.as_slice())
-}
-
-/// Takes all memory that it needs to resume a settled node at this stamp, its latest.
-fn prepare_settled(alloc: Global, settled: &Settled, start: u64) -> Result<Room, AllocError>
+/// Takes all memory that it needs to resume a settled node at this stamp, its latest, in a new directory. The directory is
+/// told of the latest exit of each slot.
+fn prepare_anew(alloc: Global, settled: &Settled, start: u64) -> Result<Room, AllocError>
     requires latest { start ≡ latest_stamp settled.now.gathered }
     requires within { start ≤ MAX_STAMP }
     ensures pairs { IfOk result (λ room. AreNewPairs settled.now.gathered.config.desks settled.now.gathered.config.lane

@@ -9,45 +9,11 @@ ghost use Rattle.pt_signal.specs.Settings.{IsInRange};
 ghost use Rattle.pt_node.specs.Seating.{Seated, AreFreshSeats, AreOf, AreAudited, together};
 
 use pt_directory::{Directory, Seat};
+use pt_gathered::Kept;
 use pt_shard::Config;
 use pt_signal::Pid;
 use std::alloc::{AllocError, Global};
-use std::marker::Model;
 use std::sync::Arc;
-
-/// What is kept of the directory of a node that was gathered, until the node is resumed: the directory itself, and what
-/// its desks knew together. With it goes how many events each desk's journal had, so that resuming finds the exits that
-/// came later.
-///
-/// It takes the memory of the directory. It may be dropped: the node is then resumed with a new directory.
-#[derive(Drop)]
-pub struct Kept {
-    directory: Arc<Directory, Global>,
-    seat: Seat,
-    written: Vec<usize>,
-}
-
-impl Model for Kept {
-    ghost use Rattle.std.specs.Arc.{arc_value};
-    ghost use Rattle.pt_node.specs.Keeping.{KeptState};
-
-    ghost Value = { KeptState };
-
-    ghost view = { λ k. record {
-      directory = arc_value k.directory;
-      seat = k.seat;
-      written = k.written.items;
-    } };
-}
-
-impl Kept {
-    /// How many events each desk's journal had.
-    pub(crate) fn written(&self) -> &[usize]
-        ensures { result.now ≡ self.now.written }
-    {
-        self.written.as_slice()
-    }
-}
 
 /// A desk's seat, beside the directory of its node.
 pub(crate) type Seated = (Arc<Directory, Global>, Seat);
@@ -87,11 +53,7 @@ pub(crate) fn kept_seats(
         (map (λ n. (kept.directory, late_seat kept.directory.name kept.seat.deaths ended.now n)) (up_from 0 desks))) }
 {
     let mut seated = Vec::with_capacity(alloc, usize::from(desks))?;
-    let Kept {
-        directory,
-        seat,
-        ..
-    } = kept;
+    let (directory, seat, _written) = kept.into_parts();
     let mut seats = directory.go_on(alloc, seat, ended)?;
     seats.reverse();
     while let Some(seat) = seats.pop() {
@@ -117,9 +79,5 @@ pub(crate) fn audit_all(seats: Vec<Seated>, written: Vec<usize>) -> Kept
         directory.join(&mut seat, other);
     }
     directory.audit(&mut seat);
-    Kept {
-        directory,
-        seat,
-        written,
-    }
+    Kept::of(directory, seat, written)
 }

@@ -6,7 +6,6 @@ ghost use Rattle.pt_events.specs.declared.event.Stamped.{Stamped};
 ghost use Rattle.pt_gathered.specs.Gathered.{GatheredState};
 ghost use Rattle.pt_gathered.specs.Settling.{NothingLeft, Settles};
 ghost use Rattle.pt_node.specs.Gathering.{Gathers};
-ghost use Rattle.pt_node.specs.Keeping.{IsKeptOf};
 ghost use Rattle.pt_report.specs.Epochs as spec;
 ghost use Rattle.pt_report.specs.Epochs.{BeginAgain, CanBegin, EndsEpoch, HasWritten, IsOfEnd, IsOfEpoch, IsOfEpochs, PassEpochs};
 ghost use Rattle.pt_report.specs.Epochs.{PassesEpoch};
@@ -18,7 +17,7 @@ use crate::fault::ReportFault;
 use crate::form::Form;
 use crate::history::write_events;
 use crate::running::run_epoch;
-use pt_node::{Kept, Node, Settled, Stamped};
+use pt_node::{Node, Settled, Stamped};
 use pt_render::{Options, Show};
 use pt_runner::Runner;
 use std::alloc::Global;
@@ -120,26 +119,26 @@ fn end_epoch(alloc: Global, node: Node) -> Result<(Node, Vec<Stamped>), ReportFa
     ensures ends { IfOk result (λ r. EndsEpoch node r.1.items r.0) }
     ensures fault { IfErr result (IsOfEnd node) }
 {
-    let (settled, kept) = settle(node)?;
+    let settled = settle(node)?;
     let history = settled.history()?;
-    match Node::resume_kept(alloc, settled, kept) {
+    match Node::resume_settled(alloc, settled) {
         Ok(next) => Ok((next, history)),
-        Err(_resting) => Err(ReportFault::Memory),
+        Err(_settled) => Err(ReportFault::Memory),
     }
 }
 
-/// Gathers and settles the node, and returns what is kept of its directory too.
-fn settle(node: Node) -> Result<(Settled, Kept), ReportFault>
-    ensures settles { IfOk result (λ r. (gathered : GatheredState) × Gathers node gathered
-        × Settles gathered r.0.gathered × IsKeptOf gathered r.1) }
-    ensures nothing_left { IfOk result (λ r. NothingLeft r.0.gathered) }
+/// Gathers and settles the node.
+fn settle(node: Node) -> Result<Settled, ReportFault>
+    ensures settles { IfOk result (λ settled. (gathered : GatheredState) × Gathers node gathered
+        × Settles gathered settled.gathered) }
+    ensures nothing_left { IfOk result (λ settled. NothingLeft settled.gathered) }
     ensures fault { IfErr result (IsOfEnd node) }
 {
-    let Ok((gathered, kept)) = node.gather_keeping() else {
+    let Ok(gathered) = node.gather() else {
         return Err(ReportFault::Memory);
     };
     match gathered.settle_unlisted() {
-        Ok(settled) => Ok((settled, kept)),
+        Ok(settled) => Ok(settled),
         Err(unsettled) => Err(ReportFault::from(unsettled.fault)),
     }
 }

@@ -66,7 +66,7 @@ pub(crate) fn look_at_quiet(
     match look {
         Look::History => Some(quiet_history(alloc, quiet, earlier, look)),
         Look::Event(desk, _) => {
-            if desk < quiet.desks() {
+            if desk < quiet.settled().desks() {
                 Some(quiet_history(alloc, quiet, earlier, look))
             } else {
                 Some(Answer::Unknown)

@@ -4,7 +4,6 @@ use Rattle.std.proofs.lemmas.List.{reverse-reverse}
 use Rattle.std.specs.Arc.{arc_value}
 use Rattle.pt_directory.specs.Views.{up_from}
 use Rattle.pt_directory.specs.Seats.{late_seat}
-use Rattle.pt_node.specs.Keeping.{KeptState}
 use Rattle.pt_node.specs.Seating.{Seated}
 use Rattle.pt_node.proofs.SeatsOf.{count_from, late_beside}
 use Rattle.pt_node.proofs.seating.kept_seats.Goals as goal
@@ -12,8 +11,8 @@ use Rattle.pt_node.proofs.seating.kept_seats.Goals as goal
 pub loop-seat-init : goal.loop-seat-init
 loop-seat-init c =
     let k = c.args.kept in
-    let same = ap (λ (z : KeptState). z.directory) c.kept.view_is in
-    let seat = ap (λ (z : KeptState). z.seat) c.kept.view_is in
+    let same = c.into_parts-directory.ensures.directory in
+    let seat = c.into_parts-directory.ensures.seat in
     let f = late_seat k.directory.name k.seat.deaths c.args.ended.now in
     let made : c.in_ok-seats.seats.items ≡ map f (up_from 0 c.args.desks)
     = c.in_ok-seats.ensures ∙ (λ i. map (late_seat ((c.deref.ensures ∙ same) i).name (seat i).deaths c.args.ended.now) (up_from 0 ((c.deref.ensures ∙ same) i).desks)) ∙ ap (λ n. map f (up_from 0 n)) (sym c.requires.desks) in

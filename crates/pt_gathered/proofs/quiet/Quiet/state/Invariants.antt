@@ -6,4 +6,4 @@ use Rattle.pt_gathered.proofs.StartStates.{begun}
 use Rattle.pt_gathered.proofs.quiet.Quiet.state.Given as goal
 
 abbrev pub invariant-loop-which : goal.invariant-loop-which
-invariant-loop-which l = InEveryMerge (journals l.self.gathered) (λ before. l.state ≡ begun (begins l.self.gathered) before (take l.which l.pids))
+invariant-loop-which l = InEveryMerge (journals l.settled.gathered) (λ before. l.state ≡ begun (begins l.settled.gathered) before (take l.which l.pids))

@@ -9,7 +9,7 @@ pub returns-clause-since : goal.returns-clause-since
 returns-clause-since c =
     let n = c.args.stamp in
     let places = c.args.places.now in
-    let q : QuietState = record { gathered = c.self.inside.node; handled = c.self.inside.handled; lives = c.self.inside.tables.items } in
+    let q : QuietState = record { gathered = c.self.inside.node; handled = c.self.inside.handled; lives = c.self.inside.lives } in
     let last : c.loop-which.which ≡ length q.gathered.shards = omega (arith, c.loop-which-test.false, c.loop-which.auto.which-end, ap length c.shards-which-end.ensures) in
     subst (λ (q : QuietState). AreEndsSince q.gathered places n c.loop-which.ends.items) c.self.view_is
-    (subst (AreEndsSince q.gathered places n) (sym (c.loop-which.invariant ∙ ap (ends_below q places n) last)) (are_ends_since q c.desks-desks.ensures.gathered c.self.invariant places n))
+    (subst (AreEndsSince q.gathered places n) (sym (c.loop-which.invariant ∙ ap (ends_below q places n) last)) (are_ends_since q c.desks-desks.ensures.gathered c.self.invariant.0 places n))

@@ -5,4 +5,4 @@ use Rattle.pt_gathered.proofs.settled.Settled.ends_since.Given as goal
 
 abbrev pub invariant-loop-which : goal.invariant-loop-which
 invariant-loop-which l =
-    l.ends.items ≡ ends_below (record { gathered = l.self-inside.node; handled = l.self-inside.handled; lives = l.self-inside.tables.items }) l.places l.stamp l.which
+    l.ends.items ≡ ends_below (record { gathered = l.self-inside.node; handled = l.self-inside.handled; lives = l.self-inside.lives }) l.places l.stamp l.which

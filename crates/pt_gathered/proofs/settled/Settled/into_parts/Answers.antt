@@ -10,6 +10,6 @@ use Rattle.pt_gathered.proofs.settled.Settled.into_parts.Goals as goal
 pub returns-clause-told : goal.returns-clause-told
 returns-clause-told c =
     let g = c.self.inside.node in
-    let settled = c.self.invariant in
+    let settled = c.self.invariant.0 in
     subst (λ (q : QuietState). (d : ℕ) (x : ShardState) (t : DeskTable) → d < length q.gathered.shards → IsTold (get_or q.gathered.shards d x) (get_or q.lives d t)) c.self.view_is
-    (λ d x t h. told_in_own g c.desks-desks.ensures.gathered d x (get_or c.self.inside.tables.items d t) h (settled.lives_are.told d t (omega (arith, h, settled.count))))
+    (λ d x t h. told_in_own g c.desks-desks.ensures.gathered d x (get_or c.self.inside.lives d t) h (settled.lives_are.told d t (omega (arith, h, settled.count))))

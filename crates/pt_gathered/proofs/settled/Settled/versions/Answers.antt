@@ -19,11 +19,11 @@ pub returns-clause-gathered : goal.returns-clause-gathered
 returns-clause-gathered c = subst (λ (q : QuietState). IsGathered q.gathered) c.self.view_is c.desks-desks.ensures.gathered
 
 pub returns-clause-count : goal.returns-clause-count
-returns-clause-count c = subst (λ (q : QuietState). length q.lives ≡ length q.gathered.shards) c.self.view_is c.self.invariant.count
+returns-clause-count c = subst (λ (q : QuietState). length q.lives ≡ length q.gathered.shards) c.self.view_is c.self.invariant.0.count
 
 pub returns-clause-told : goal.returns-clause-told
 returns-clause-told c =
     let g = c.self.inside.node in
-    let settled = c.self.invariant in
+    let settled = c.self.invariant.0 in
     subst (λ (q : QuietState). (d : ℕ) (x : ShardState) (t : DeskTable) → d < length q.gathered.shards → IsTold (get_or q.gathered.shards d x) (get_or q.lives d t)) c.self.view_is
-    (λ d x t h. told_in_own g c.desks-desks.ensures.gathered d x (get_or c.self.inside.tables.items d t) h (settled.lives_are.told d t (omega (arith, h, settled.count))))
+    (λ d x t h. told_in_own g c.desks-desks.ensures.gathered d x (get_or c.self.inside.lives d t) h (settled.lives_are.told d t (omega (arith, h, settled.count))))

@@ -1,6 +1,0 @@
--- `Quiet::pids`: its contract.
-use Rattle.pt_gathered.specs.Gathered.{begins, journals}
-use Rattle.pt_gathered.proofs.quiet.Quiet.pids.Goals as goal
-
-pub returns : goal.returns
-returns c = rw (← c.self.view_is) (c.pids.ensures (begins c.self.inside.node) (journals c.self.inside.node) c.self.invariant.lives_are)

@@ -1,6 +1,0 @@
--- `Quiet::watching`: its contract.
-use Rattle.pt_gathered.specs.Gathered.{begins, journals}
-use Rattle.pt_gathered.proofs.quiet.Quiet.watching.Goals as goal
-
-pub returns : goal.returns
-returns c = rw (← c.self.view_is) (c.watching.ensures (begins c.self.inside.node) (journals c.self.inside.node) c.self.invariant.lives_are)
