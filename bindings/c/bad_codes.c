@@ -191,7 +191,7 @@ static int wrong_desks(void) {
     pt_desk desks[2] = {PT_NO_DESK, PT_NO_DESK};
     pt_crew crews[2] = {PT_NO_CREW, PT_NO_CREW}, free_one = PT_NO_CREW;
     pt_gathered gathered = PT_NO_GATHERED;
-    pt_settled settled = PT_NO_SETTLED;
+    pt_quiet settled = PT_NO_QUIET;
     pt_history history = PT_NO_HISTORY;
     pt_job jobs[4];
     pt_turned turned;
@@ -235,7 +235,7 @@ static int going_on(void) {
     pt_desk desks[2] = {PT_NO_DESK, PT_NO_DESK}, others[2] = {PT_NO_DESK, PT_NO_DESK}, missing[2] = {PT_NO_DESK, PT_NO_DESK};
     pt_crew crews[2] = {PT_NO_CREW, PT_NO_CREW}, strangers[2] = {PT_NO_CREW, PT_NO_CREW}, nobody = PT_NO_CREW;
     pt_gathered gathered = PT_NO_GATHERED, another = PT_NO_GATHERED;
-    pt_settled settled = PT_NO_SETTLED, rest = PT_NO_SETTLED;
+    pt_quiet settled = PT_NO_QUIET, rest = PT_NO_QUIET;
     pt_history history = PT_NO_HISTORY, told = PT_NO_HISTORY;
     pt_pid pids[2], other_pids[2];
     int tried = 0;

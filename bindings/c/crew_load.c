@@ -193,7 +193,7 @@ static void count_history(pt_history *history) {
 /* The whole node goes on, and each desk has an empty journal. */
 static void go_on(void) {
     pt_gathered gathered = PT_NO_GATHERED;
-    pt_settled settled = PT_NO_SETTLED;
+    pt_quiet settled = PT_NO_QUIET;
     pt_history history = PT_NO_HISTORY;
     assert(pt_crews_go_on(crews, DESKS, desks, DESKS, &gathered, &settled, &history) == PT_OK);
     assert(gathered.at == NULL && settled.at == NULL);

@@ -88,10 +88,10 @@ static void tell(world *w, pt_pid to, uint32_t kind) {
 /* The node is gathered, settled and resumed, and the crew goes on with its history. */
 static void pause(world *w) {
     pt_gathered gathered = PT_NO_GATHERED;
-    pt_settled settled = PT_NO_SETTLED;
+    pt_quiet settled = PT_NO_QUIET;
     pt_history history = PT_NO_HISTORY;
     assert(pt_gather(&w->desk, 1, &gathered) == PT_OK && pt_settle_unlisted(&gathered, &settled) == PT_OK);
-    assert(pt_settled_history(&settled, &history) == PT_OK && pt_resume_settled(&settled, &w->desk, 1) == PT_OK);
+    assert(pt_quiet_history(&settled, &history) == PT_OK && pt_resume(&settled, &w->desk, 1) == PT_OK);
     assert(pt_crew_go_on(&w->crew, &history) == PT_OK && pt_history_give_up(&history) == PT_OK);
 }
 

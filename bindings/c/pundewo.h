@@ -72,7 +72,6 @@ const char *pt_code_name(uint32_t code);
 typedef struct pt_desk { void *at; } pt_desk;
 typedef struct pt_gathered { void *at; } pt_gathered;
 typedef struct pt_quiet { void *at; } pt_quiet;
-typedef struct pt_settled { void *at; } pt_settled;
 typedef struct pt_history { void *at; } pt_history;
 typedef struct pt_crew { void *at; } pt_crew;
 typedef struct pt_timers { void *at; } pt_timers;
@@ -84,7 +83,6 @@ typedef struct pt_way_in { void *at; } pt_way_in;
 #define PT_DESK_INIT {NULL}
 #define PT_GATHERED_INIT {NULL}
 #define PT_QUIET_INIT {NULL}
-#define PT_SETTLED_INIT {NULL}
 #define PT_HISTORY_INIT {NULL}
 #define PT_CREW_INIT {NULL}
 #define PT_TIMERS_INIT {NULL}
@@ -97,7 +95,6 @@ typedef struct pt_way_in { void *at; } pt_way_in;
 #define PT_NO_DESK pt_desk{nullptr}
 #define PT_NO_GATHERED pt_gathered{nullptr}
 #define PT_NO_QUIET pt_quiet{nullptr}
-#define PT_NO_SETTLED pt_settled{nullptr}
 #define PT_NO_HISTORY pt_history{nullptr}
 #define PT_NO_CREW pt_crew{nullptr}
 #define PT_NO_TIMERS pt_timers{nullptr}
@@ -108,7 +105,6 @@ typedef struct pt_way_in { void *at; } pt_way_in;
 #define PT_NO_DESK ((pt_desk){0})
 #define PT_NO_GATHERED ((pt_gathered){0})
 #define PT_NO_QUIET ((pt_quiet){0})
-#define PT_NO_SETTLED ((pt_settled){0})
 #define PT_NO_HISTORY ((pt_history){0})
 #define PT_NO_CREW ((pt_crew){0})
 #define PT_NO_TIMERS ((pt_timers){0})
@@ -146,7 +142,8 @@ enum pt_code {
     PT_BAD_PLACES = 22,       /* a way in needs at least one place */
     PT_CHILD_RUNNING = 23,    /* the child is running, by all that its supervisor has heard */
     PT_CHILD_RESTARTING = 24, /* the child is not running, and its supervisor is to start it */
-    PT_CHILD_PRESENT = 25     /* the supervisor has a child with this tag, which is not running */
+    PT_CHILD_PRESENT = 25,    /* the supervisor has a child with this tag, which is not running */
+    PT_UNLISTED = 26          /* the settled node has no list of its pids */
 };
 
 /* The name of a process. No two processes have the same. */
@@ -474,30 +471,28 @@ uint32_t pt_open(pt_desk *desks, size_t count, pt_config config);
 uint32_t pt_gather(pt_desk *desks, size_t count, pt_gathered *out);
 
 /* Delivers the letters that are left over. `node` is empty afterwards, and `out` has the settled node. PT_EMPTY,
- * PT_FILLED. PT_MEMORY, PT_WORN: `node` has what was handled so far, and may be settled again. */
+ * PT_FILLED. PT_MEMORY, PT_WORN: `node` has what was handled so far, and may be settled again.
+ *
+ * pt_settle lists the pids of all processes that ever were. pt_settle_unlisted is for a program that pauses often: without
+ * the list, a pause costs what happened since the last one. */
 uint32_t pt_settle(pt_gathered *node, pt_quiet *out);
+uint32_t pt_settle_unlisted(pt_gathered *node, pt_quiet *out);
 
-/* Resumes a settled node. `node` is empty afterwards, and the `count` handles, all empty before, have its desks in
- * order, with empty journals. A live process has its links, monitors, flag and waiting items. An exited process stays
- * exited. Clocks and the versions of slots go on. The history of the node is gone: take it before, if you want to
- * keep it. PT_EMPTY. PT_FILLED: the handle of a desk is not empty. PT_BAD_DESKS: the node has another number of
- * desks. PT_MEMORY: `node` is as it was. */
+/* Makes that list, if the settled node has none. No other call but pt_quiet_pid_count and pt_quiet_pid_at needs it.
+ * PT_EMPTY. PT_MEMORY: the node is as it was, without a list. */
+uint32_t pt_quiet_list(pt_quiet *node);
+
+/* Resumes a settled node, with its list or without. `node` is empty afterwards, and the `count` handles, all empty
+ * before, have its desks in order, with empty journals. A live process has its links, monitors, flag and waiting items.
+ * An exited process stays exited. Clocks and the versions of slots go on. The history of the node is gone: take it
+ * before, if you want to keep it. PT_EMPTY. PT_FILLED: the handle of a desk is not empty. PT_BAD_DESKS: the node has
+ * another number of desks. PT_MEMORY: `node` is as it was. */
 uint32_t pt_resume(pt_quiet *node, pt_desk *desks, size_t count);
-
-/* The same for a program that pauses often: pt_settle and pt_resume without the list of all pids that ever were. So a
- * pause costs what happened since the last one. The codes are those of pt_settle and pt_resume. */
-uint32_t pt_settle_unlisted(pt_gathered *node, pt_settled *out);
-uint32_t pt_resume_settled(pt_settled *node, pt_desk *desks, size_t count);
-
-/* Makes that list. `node` is empty afterwards, and `out`, empty before, has the settled node. PT_EMPTY, PT_FILLED.
- * PT_MEMORY: `node` is as it was. */
-uint32_t pt_settled_into_quiet(pt_settled *node, pt_quiet *out);
 
 /* Free the value of a handle. The handle is empty afterwards. PT_EMPTY: it was empty already. */
 uint32_t pt_give_up(pt_desk *desk);
 uint32_t pt_gathered_give_up(pt_gathered *node);
 uint32_t pt_quiet_give_up(pt_quiet *node);
-uint32_t pt_settled_give_up(pt_settled *node);
 uint32_t pt_history_give_up(pt_history *history);
 uint32_t pt_crew_give_up(pt_crew *crew);         /* its processes stay on their desk */
 uint32_t pt_timers_give_up(pt_timers *timers);
@@ -705,12 +700,12 @@ uint32_t pt_crew_set_time(pt_crew *crew, uint64_t now);
  * settled yourself (pt_gather, pt_settle_unlisted) is resumed in the same way. PT_FILLED: both handles have a node.
  * PT_BAD_DESKS, with the node in `settled`: it has another number of desks. */
 uint32_t pt_crews_go_on(pt_crew *crews, size_t crew_count, pt_desk *desks, size_t desk_count, pt_gathered *gathered,
-    pt_settled *settled, pt_history *history);
+    pt_quiet *settled, pt_history *history);
 
 /* The same for one crew of a node that you gather, settle and resume by calls of your own: pt_gather,
- * pt_settle_unlisted, pt_settled_history, pt_resume_settled, and this for each crew. The crew resumes over the desk of
- * the same number, with the history of the node before. Exits need not have been reported before: their reasons are
- * kept from the history. */
+ * pt_settle_unlisted, pt_quiet_history, pt_resume, and this for each crew. The crew resumes over the desk of the same
+ * number, with the history of the node before. Exits need not have been reported before: their reasons are kept from the
+ * history. */
 uint32_t pt_crew_go_on(pt_crew *crew, pt_history *history);
 
 /* The same without the history. If a process exited while the node was settled, the next steps report it. Before the
@@ -870,23 +865,18 @@ uint32_t pt_gathered_desks(pt_gathered *node, uint8_t *out);
  * PT_MEMORY. */
 uint32_t pt_gathered_history(pt_gathered *node, pt_history *out);
 
-/* ---- reading a settled node. Each call may return PT_EMPTY */
+/* ---- reading a settled node. Each call may return PT_EMPTY. PT_UNLISTED: the node was settled by pt_settle_unlisted or
+ * pt_crews_go_on, and pt_quiet_list was not called */
 
 uint32_t pt_quiet_history(pt_quiet *node, pt_history *out);                       /* PT_FILLED, PT_MEMORY */
 uint32_t pt_quiet_desks(pt_quiet *node, uint8_t *out);
 uint32_t pt_quiet_handled(pt_quiet *node, uint64_t *out);
-uint32_t pt_quiet_pid_count(pt_quiet *node, size_t *out);
-uint32_t pt_quiet_pid_at(pt_quiet *node, size_t place, pt_pid *out);              /* PT_NOTHING */
+uint32_t pt_quiet_pid_count(pt_quiet *node, size_t *out);                         /* PT_UNLISTED */
+uint32_t pt_quiet_pid_at(pt_quiet *node, size_t place, pt_pid *out);              /* PT_UNLISTED, PT_NOTHING */
 uint32_t pt_quiet_account(pt_quiet *node, pt_pid p, pt_account *out);             /* PT_NOTHING: never spawned */
 uint32_t pt_quiet_linked(pt_quiet *node, pt_pid p, pt_pid peer, pt_ids *out);     /* PT_NOTHING */
 uint32_t pt_quiet_kept(pt_quiet *node, pt_pid target, pt_ref monitor, bool *out);
 uint32_t pt_quiet_watching(pt_quiet *node, pt_pid watcher, pt_ref monitor, bool *out);
-
-/* ---- reading a settled node without the list. Each call may return PT_EMPTY */
-
-uint32_t pt_settled_history(pt_settled *node, pt_history *out);                   /* PT_FILLED, PT_MEMORY */
-uint32_t pt_settled_desks(pt_settled *node, uint8_t *out);
-uint32_t pt_settled_handled(pt_settled *node, uint64_t *out);
 
 /* ---- reading a history. Each call may return PT_EMPTY */
 
@@ -902,8 +892,8 @@ uint32_t pt_history_left_at(pt_history *history, size_t place, pt_left_over *out
 typedef struct pt_codes {
     uint32_t done, full, memory, worn, gone, myself, noproc, unknown, nothing, empty, filled, bad_desks, bad_slots,
         bad_top_version, bad_lane, bad_start, bad_code, not_running, wrong_desk, bad_name, taken, has_name, bad_places,
-        reason_normal, reason_kill, reason_killed, reason_noproc, reason_shutdown, reason_other, item_user, item_exit,
-        item_down, item_alive, pick_kind, pick_from, pick_exit_of, pick_down_of, pick_alive_of, pick_any,
+        unlisted, reason_normal, reason_kill, reason_killed, reason_noproc, reason_shutdown, reason_other, item_user,
+        item_exit, item_down, item_alive, pick_kind, pick_from, pick_exit_of, pick_down_of, pick_alive_of, pick_any,
         signal_message, signal_link, signal_unlink, signal_exit, signal_link_exit, signal_monitor, signal_demonitor,
         signal_down, signal_alive_ask, signal_alive_say, event_born, event_said, event_came, event_took, event_flag,
         event_left, event_refused, next_wait, next_wait_until, next_proceed, next_stop, next_running, job_start,
@@ -1014,7 +1004,7 @@ PT_SIZE_IS(pt_call, 56);
 PT_SIZE_IS(pt_request, 24);
 PT_SIZE_IS(pt_heard, 16);
 PT_SIZE_IS(pt_post, 48);
-PT_SIZE_IS(pt_codes, 264);
+PT_SIZE_IS(pt_codes, 268);
 PT_SIZE_IS(pt_sizes, 176);
 PT_SIZE_IS(pt_asking_about, 120);
 PT_SIZE_IS(pt_supervisor_codes, 96);

@@ -16,7 +16,7 @@ typedef struct {
     pt_desk desks[DESKS];
     pt_crew crews[DESKS];
     pt_gathered gathered;
-    pt_settled settled;
+    pt_quiet settled;
     pt_history history;
     pt_pid runs, gone, killed, waits;
 } node;
@@ -98,6 +98,38 @@ static void give_up(node *n) {
     assert(pt_history_give_up(&n->history) == PT_OK);
 }
 
+/* A settled node lists its pids on request and is resumed, and each piece of memory that these take is refused once. The node
+ * is as it was then, with its list or without. */
+static void list_and_resume(void) {
+    long pieces = 0, lists = 0, resumptions = 0;
+    size_t count;
+    for (was_refused = true; was_refused; pieces++) {
+        node n;
+        long before = taken;
+        begin(&n);
+        assert(pt_gather(n.desks, DESKS, &n.gathered) == PT_OK && pt_settle_unlisted(&n.gathered, &n.settled) == PT_OK);
+        was_refused = false;
+        refuse_in = pieces;
+        uint32_t code = pt_quiet_list(&n.settled);
+        bool listed = code == PT_OK;
+        if (listed) code = pt_resume(&n.settled, n.desks, DESKS);
+        refuse_in = -1;
+        assert(code == (was_refused ? PT_MEMORY : PT_OK));
+        if (was_refused) {
+            assert(n.settled.at != NULL && n.desks[0].at == NULL && n.desks[1].at == NULL);
+            assert(pt_quiet_pid_count(&n.settled, &count) == (listed ? PT_OK : PT_UNLISTED));
+            assert(pt_quiet_list(&n.settled) == PT_OK && pt_quiet_pid_count(&n.settled, &count) == PT_OK && count == 4);
+            assert(pt_resume(&n.settled, n.desks, DESKS) == PT_OK);
+            *(listed ? &resumptions : &lists) += 1;
+        }
+        assert(n.settled.at == NULL);
+        for (int d = 0; d < DESKS; d++) assert(pt_crew_give_up(&n.crews[d]) == PT_OK && pt_give_up(&n.desks[d]) == PT_OK);
+        assert(taken == before);
+    }
+    assert(lists > 0 && resumptions > 0);
+    printf("c: memory was refused %ld times to a list of pids, and %ld times to a resumption\n", lists, resumptions);
+}
+
 int main(void) {
     static char buffer[BUFSIZ];
     int refused[3] = {0};
@@ -123,5 +155,6 @@ int main(void) {
     assert(refused[0] > 0 && refused[1] > 0 && refused[2] > 0 && refused[0] + refused[1] + refused[2] == pieces - 1);
     printf("c: going on was refused memory %ld times: %d before the node was gathered, %d before it was settled, %d before it"
         " was resumed\n", pieces - 1, refused[0], refused[1], refused[2]);
+    list_and_resume();
     return 0;
 }

@@ -202,7 +202,7 @@ static int going_on(void) {
     pt_desk desks[2] = {PT_NO_DESK, PT_NO_DESK};
     pt_crew crews[2] = {PT_NO_CREW, PT_NO_CREW};
     pt_gathered gathered = PT_NO_GATHERED;
-    pt_settled settled = PT_NO_SETTLED;
+    pt_quiet settled = PT_NO_QUIET;
     pt_history history = PT_NO_HISTORY, told = PT_NO_HISTORY;
     pt_pid p[2], boss[2];
     state before[2];
@@ -219,7 +219,7 @@ static int going_on(void) {
     pt_desk other = PT_NO_DESK;
     assert(pt_open(&other, 1, (pt_config){.slots = 8, .top_version = 9, .lane = 8}) == PT_OK);
     assert(pt_gather(&other, 1, &gathered) == PT_OK && pt_settle_unlisted(&gathered, &settled) == PT_OK);
-    assert(pt_settled_history(&settled, &told) == PT_OK && pt_settled_give_up(&settled) == PT_OK);
+    assert(pt_quiet_history(&settled, &told) == PT_OK && pt_quiet_give_up(&settled) == PT_OK);
     pt_crew second = crews[1];
     crews[1] = (pt_crew)PT_NO_CREW;
     REFUSED(2, 1, &told, PT_EMPTY);
@@ -260,7 +260,7 @@ static void play(pt_crew *crew, pt_desk *desk) {
     size_t count, taken, starts = 0, again = 0;
     bool is_idle = false, broke = false;
     pt_gathered gathered = PT_NO_GATHERED;
-    pt_settled settled = PT_NO_SETTLED;
+    pt_quiet settled = PT_NO_QUIET;
     pt_history history = PT_NO_HISTORY;
     const pt_child_spec more = {.tag = 10};
     AGAIN(pt_crew_open(crew));

@@ -9,13 +9,13 @@
 /* Gathers and settles the node, prints its history, and goes on from it. */
 static void epoch(pt_desk *desks, size_t count) {
     pt_gathered node = PT_NO_GATHERED;
-    pt_settled settled = PT_NO_SETTLED;
+    pt_quiet settled = PT_NO_QUIET;
     pt_history history = PT_NO_HISTORY;
     pt_event event;
     uint8_t number;
     assert(pt_gather(desks, count, &node) == PT_OK && pt_settle_unlisted(&node, &settled) == PT_OK && node.at == NULL);
-    assert(pt_settled_desks(&settled, &number) == PT_OK && number == count);
-    assert(pt_settled_history(&settled, &history) == PT_OK);
+    assert(pt_quiet_desks(&settled, &number) == PT_OK && number == count);
+    assert(pt_quiet_history(&settled, &history) == PT_OK);
     for (size_t k = 0; pt_history_at(&history, k, &event) == PT_OK; k++) {
         pt_print_event(stdout, event);
         puts("");
@@ -23,25 +23,36 @@ static void epoch(pt_desk *desks, size_t count) {
     puts("--");
     assert(pt_history_give_up(&history) == PT_OK);
     /* a wrong number of handles is refused, and nothing is lost */
-    assert(pt_resume_settled(&settled, desks, count - 1) == PT_BAD_DESKS);
-    assert(pt_resume_settled(&settled, desks, count) == PT_OK && settled.at == NULL);
-    assert(pt_resume_settled(&settled, desks, count) == PT_EMPTY);
+    assert(pt_resume(&settled, desks, count - 1) == PT_BAD_DESKS);
+    assert(pt_resume(&settled, desks, count) == PT_OK && settled.at == NULL);
+    assert(pt_resume(&settled, desks, count) == PT_EMPTY);
 }
 
-/* Settles the node, and lists its pids afterwards. */
-static void last(pt_desk *desks, size_t count, size_t wanted) {
+/* Settles the node, reads it without the list of its pids, and lists them. With the list or without, it may be resumed. */
+static void last(pt_desk *desks, size_t count, pt_pid worker, size_t wanted) {
     pt_gathered node = PT_NO_GATHERED;
-    pt_settled settled = PT_NO_SETTLED;
     pt_quiet quiet = PT_NO_QUIET;
+    pt_account account;
+    pt_pid pid = {9, 9, 9};
     uint64_t handled;
-    size_t pids;
-    assert(pt_settled_into_quiet(&settled, &quiet) == PT_EMPTY && pt_settled_give_up(&settled) == PT_EMPTY);
-    assert(pt_gather(desks, count, &node) == PT_OK && pt_settle_unlisted(&node, &settled) == PT_OK);
-    assert(pt_settled_handled(&settled, &handled) == PT_OK && handled == 0);
-    assert(pt_settled_into_quiet(&settled, &quiet) == PT_OK && settled.at == NULL);
-    assert(pt_quiet_pid_count(&quiet, &pids) == PT_OK && pids == wanted);
-    assert(pt_resume(&quiet, desks, count) == PT_OK && pt_gather(desks, count, &node) == PT_OK);
-    assert(pt_settle_unlisted(&node, &settled) == PT_OK && pt_settled_give_up(&settled) == PT_OK);
+    size_t pids = 99;
+    assert(pt_quiet_list(&quiet) == PT_EMPTY && pt_quiet_give_up(&quiet) == PT_EMPTY);
+    assert(pt_quiet_pid_count(&quiet, &pids) == PT_EMPTY && pt_quiet_pid_at(&quiet, 0, &pid) == PT_EMPTY);
+    assert(pt_gather(desks, count, &node) == PT_OK && pt_settle_unlisted(&node, &quiet) == PT_OK);
+    assert(pt_quiet_handled(&quiet, &handled) == PT_OK && handled == 0);
+    assert(pt_quiet_account(&quiet, worker, &account) == PT_OK && !account.has_ended);
+    /* what needs the list is refused, at each place, and writes nothing */
+    assert(pt_quiet_pid_count(&quiet, &pids) == PT_UNLISTED && pids == 99);
+    assert(pt_quiet_pid_at(&quiet, 0, &pid) == PT_UNLISTED && pt_quiet_pid_at(&quiet, SIZE_MAX, &pid) == PT_UNLISTED);
+    assert(pid.shard == 9 && pid.slot == 9 && pid.version == 9);
+    for (int k = 0; k < 2; k++) {
+        assert(pt_quiet_list(&quiet) == PT_OK && pt_quiet_pid_count(&quiet, &pids) == PT_OK && pids == wanted);
+        assert(pt_quiet_pid_at(&quiet, 0, &pid) == PT_OK && pt_quiet_pid_at(&quiet, wanted, &pid) == PT_NOTHING);
+    }
+    assert(pt_quiet_account(&quiet, worker, &account) == PT_OK && !account.has_ended);
+    assert(pt_resume(&quiet, desks, count) == PT_OK && quiet.at == NULL && pt_gather(desks, count, &node) == PT_OK);
+    assert(pt_settle_unlisted(&node, &quiet) == PT_OK && pt_quiet_pid_count(&quiet, &pids) == PT_UNLISTED);
+    assert(pt_quiet_give_up(&quiet) == PT_OK);
 }
 
 /* Steps the crew until it is idle, and prints its jobs. A process that starts is answered that it waits. */
@@ -75,7 +86,7 @@ static void crews(void) {
     pt_desk desks[2] = {PT_NO_DESK, PT_NO_DESK};
     pt_crew both[2] = {PT_NO_CREW, PT_NO_CREW};
     pt_gathered gathered = PT_NO_GATHERED;
-    pt_settled settled = PT_NO_SETTLED;
+    pt_quiet settled = PT_NO_QUIET;
     pt_history history = PT_NO_HISTORY;
     const pt_supervisor_spec spec = {.strategy = PT_ONE_FOR_ONE, .most = 3, .span = 100};
     const pt_child_spec kid = {.tag = 1};
@@ -133,7 +144,7 @@ int main(void) {
     assert(pt_send(&desks[1], worker, boss, (pt_body){.kind = 1}) == PT_GONE);
     assert(pt_spawn(&desks[1], &worker) == PT_OK && worker.version == 2);
     epoch(desks, 2);
-    last(desks, 2, 3);
+    last(desks, 2, worker, 3);
     crews();
     return 0;
 }

@@ -18,7 +18,6 @@ typedef struct {
     bool is_running;
     pt_gathered gathered;
     pt_quiet quiet;
-    pt_settled settled;
     pt_crew crews[MOST_HANDLES];
 } node;
 
@@ -776,7 +775,7 @@ static void call_crews_go_on(FILE *to, node *n, char **w) {
     size_t events = 0;
     (void)w;
     uint32_t code = pt_crews_go_on(
-        n->crews, n->count, n->desks[n->place], n->count, &n->gathered, &n->settled, &history);
+        n->crews, n->count, n->desks[n->place], n->count, &n->gathered, &n->quiet, &history);
     n->is_running = n->desks[n->place][0].at != NULL;
     if (code != PT_OK) {
         print_code(to, code);
@@ -784,7 +783,7 @@ static void call_crews_go_on(FILE *to, node *n, char **w) {
     }
     pt_history_count(&history, &events);
     fprintf(to, "events %zu", events);
-    if (pt_history_give_up(&history) != PT_OK || n->gathered.at || n->settled.at) fputs(" wrong", to);
+    if (pt_history_give_up(&history) != PT_OK || n->gathered.at || n->quiet.at) fputs(" wrong", to);
 }
 
 /* ---- the table */

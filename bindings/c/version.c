@@ -16,6 +16,6 @@ const char *pt_code_name(unsigned code) {
     static const char *const names[] = {"ok", "Full", "Memory", "Worn", "Gone", "Myself", "NoProc", "unknown",
         "nothing", "empty", "filled", "bad desks", "bad slots", "bad top version", "bad lane", "bad start",
         "bad code", "not running", "wrong desk", "bad name", "taken", "has name", "bad places",
-        "child running", "child restarting", "child present"};
+        "child running", "child restarting", "child present", "unlisted"};
     return code < sizeof names / sizeof *names ? names[code] : "?";
 }

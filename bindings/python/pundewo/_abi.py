@@ -39,6 +39,7 @@ class Code(IntEnum):
     CHILD_RUNNING = 23
     CHILD_RESTARTING = 24
     CHILD_PRESENT = 25
+    UNLISTED = 26
 
 
 # The codes of structs, each in its place.
@@ -60,14 +61,14 @@ CODES = {
     "done": 0, "full": 1, "memory": 2, "worn": 3, "gone": 4, "myself": 5, "noproc": 6, "unknown": 7, "nothing": 8,
     "empty": 9, "filled": 10, "bad_desks": 11, "bad_slots": 12, "bad_top_version": 13, "bad_lane": 14,
     "bad_start": 15, "bad_code": 16, "not_running": 17, "wrong_desk": 18, "bad_name": 19, "taken": 20,
-    "has_name": 21, "bad_places": 22, "reason_normal": 0, "reason_kill": 1, "reason_killed": 2, "reason_noproc": 3,
-    "reason_shutdown": 4, "reason_other": 5, "item_user": 0, "item_exit": 1, "item_down": 2, "item_alive": 3,
-    "pick_kind": 0, "pick_from": 1, "pick_exit_of": 2, "pick_down_of": 3, "pick_alive_of": 4, "pick_any": 5,
-    "signal_message": 0, "signal_link": 1, "signal_unlink": 2, "signal_exit": 3, "signal_link_exit": 4,
-    "signal_monitor": 5, "signal_demonitor": 6, "signal_down": 7, "signal_alive_ask": 8, "signal_alive_say": 9,
-    "event_born": 0, "event_said": 1, "event_came": 2, "event_took": 3, "event_flag": 4, "event_left": 5,
-    "event_refused": 6, "next_wait": 0, "next_wait_until": 1, "next_proceed": 2, "next_stop": 3, "next_running": 4,
-    "job_start": 0, "job_proceed": 1, "job_item": 2, "job_timeout": 3, "job_exit": 4,
+    "has_name": 21, "bad_places": 22, "unlisted": 26, "reason_normal": 0, "reason_kill": 1, "reason_killed": 2,
+    "reason_noproc": 3, "reason_shutdown": 4, "reason_other": 5, "item_user": 0, "item_exit": 1, "item_down": 2,
+    "item_alive": 3, "pick_kind": 0, "pick_from": 1, "pick_exit_of": 2, "pick_down_of": 3, "pick_alive_of": 4,
+    "pick_any": 5, "signal_message": 0, "signal_link": 1, "signal_unlink": 2, "signal_exit": 3,
+    "signal_link_exit": 4, "signal_monitor": 5, "signal_demonitor": 6, "signal_down": 7, "signal_alive_ask": 8,
+    "signal_alive_say": 9, "event_born": 0, "event_said": 1, "event_came": 2, "event_took": 3, "event_flag": 4,
+    "event_left": 5, "event_refused": 6, "next_wait": 0, "next_wait_until": 1, "next_proceed": 2, "next_stop": 3,
+    "next_running": 4, "job_start": 0, "job_proceed": 1, "job_item": 2, "job_timeout": 3, "job_exit": 4,
 }
 SUPERVISOR_CODES = {
     "one_for_one": 0, "one_for_all": 1, "rest_for_one": 2, "permanent": 0, "transient": 1, "temporary": 2,
@@ -218,21 +219,21 @@ class CCodes(c.Structure):
                 ("bad_slots", c.c_uint32), ("bad_top_version", c.c_uint32), ("bad_lane", c.c_uint32),
                 ("bad_start", c.c_uint32), ("bad_code", c.c_uint32), ("not_running", c.c_uint32),
                 ("wrong_desk", c.c_uint32), ("bad_name", c.c_uint32), ("taken", c.c_uint32), ("has_name", c.c_uint32),
-                ("bad_places", c.c_uint32), ("reason_normal", c.c_uint32), ("reason_kill", c.c_uint32),
-                ("reason_killed", c.c_uint32), ("reason_noproc", c.c_uint32), ("reason_shutdown", c.c_uint32),
-                ("reason_other", c.c_uint32), ("item_user", c.c_uint32), ("item_exit", c.c_uint32),
-                ("item_down", c.c_uint32), ("item_alive", c.c_uint32), ("pick_kind", c.c_uint32),
-                ("pick_from", c.c_uint32), ("pick_exit_of", c.c_uint32), ("pick_down_of", c.c_uint32),
-                ("pick_alive_of", c.c_uint32), ("pick_any", c.c_uint32), ("signal_message", c.c_uint32),
-                ("signal_link", c.c_uint32), ("signal_unlink", c.c_uint32), ("signal_exit", c.c_uint32),
-                ("signal_link_exit", c.c_uint32), ("signal_monitor", c.c_uint32), ("signal_demonitor", c.c_uint32),
-                ("signal_down", c.c_uint32), ("signal_alive_ask", c.c_uint32), ("signal_alive_say", c.c_uint32),
-                ("event_born", c.c_uint32), ("event_said", c.c_uint32), ("event_came", c.c_uint32),
-                ("event_took", c.c_uint32), ("event_flag", c.c_uint32), ("event_left", c.c_uint32),
-                ("event_refused", c.c_uint32), ("next_wait", c.c_uint32), ("next_wait_until", c.c_uint32),
-                ("next_proceed", c.c_uint32), ("next_stop", c.c_uint32), ("next_running", c.c_uint32),
-                ("job_start", c.c_uint32), ("job_proceed", c.c_uint32), ("job_item", c.c_uint32),
-                ("job_timeout", c.c_uint32), ("job_exit", c.c_uint32)]
+                ("bad_places", c.c_uint32), ("unlisted", c.c_uint32), ("reason_normal", c.c_uint32),
+                ("reason_kill", c.c_uint32), ("reason_killed", c.c_uint32), ("reason_noproc", c.c_uint32),
+                ("reason_shutdown", c.c_uint32), ("reason_other", c.c_uint32), ("item_user", c.c_uint32),
+                ("item_exit", c.c_uint32), ("item_down", c.c_uint32), ("item_alive", c.c_uint32),
+                ("pick_kind", c.c_uint32), ("pick_from", c.c_uint32), ("pick_exit_of", c.c_uint32),
+                ("pick_down_of", c.c_uint32), ("pick_alive_of", c.c_uint32), ("pick_any", c.c_uint32),
+                ("signal_message", c.c_uint32), ("signal_link", c.c_uint32), ("signal_unlink", c.c_uint32),
+                ("signal_exit", c.c_uint32), ("signal_link_exit", c.c_uint32), ("signal_monitor", c.c_uint32),
+                ("signal_demonitor", c.c_uint32), ("signal_down", c.c_uint32), ("signal_alive_ask", c.c_uint32),
+                ("signal_alive_say", c.c_uint32), ("event_born", c.c_uint32), ("event_said", c.c_uint32),
+                ("event_came", c.c_uint32), ("event_took", c.c_uint32), ("event_flag", c.c_uint32),
+                ("event_left", c.c_uint32), ("event_refused", c.c_uint32), ("next_wait", c.c_uint32),
+                ("next_wait_until", c.c_uint32), ("next_proceed", c.c_uint32), ("next_stop", c.c_uint32),
+                ("next_running", c.c_uint32), ("job_start", c.c_uint32), ("job_proceed", c.c_uint32),
+                ("job_item", c.c_uint32), ("job_timeout", c.c_uint32), ("job_exit", c.c_uint32)]
 
 
 class CSizes(c.Structure):
@@ -265,14 +266,12 @@ CALLS: dict[str, list[Any]] = {
     "pt_open": [_P(CHandle), c.c_size_t, CConfig],
     "pt_gather": [_P(CHandle), c.c_size_t, _P(CHandle)],
     "pt_settle": [_P(CHandle), _P(CHandle)],
-    "pt_resume": [_P(CHandle), _P(CHandle), c.c_size_t],
     "pt_settle_unlisted": [_P(CHandle), _P(CHandle)],
-    "pt_resume_settled": [_P(CHandle), _P(CHandle), c.c_size_t],
-    "pt_settled_into_quiet": [_P(CHandle), _P(CHandle)],
+    "pt_quiet_list": [_P(CHandle)],
+    "pt_resume": [_P(CHandle), _P(CHandle), c.c_size_t],
     "pt_give_up": [_P(CHandle)],
     "pt_gathered_give_up": [_P(CHandle)],
     "pt_quiet_give_up": [_P(CHandle)],
-    "pt_settled_give_up": [_P(CHandle)],
     "pt_history_give_up": [_P(CHandle)],
     "pt_crew_give_up": [_P(CHandle)],
     "pt_timers_give_up": [_P(CHandle)],
@@ -384,9 +383,6 @@ CALLS: dict[str, list[Any]] = {
     "pt_quiet_linked": [_P(CHandle), CPid, CPid, _P(CIds)],
     "pt_quiet_kept": [_P(CHandle), CPid, CRef, _P(c.c_bool)],
     "pt_quiet_watching": [_P(CHandle), CPid, CRef, _P(c.c_bool)],
-    "pt_settled_history": [_P(CHandle), _P(CHandle)],
-    "pt_settled_desks": [_P(CHandle), _P(c.c_uint8)],
-    "pt_settled_handled": [_P(CHandle), _P(c.c_uint64)],
     "pt_history_count": [_P(CHandle), _P(c.c_size_t)],
     "pt_history_at": [_P(CHandle), c.c_size_t, _P(CEvent)],
     "pt_history_left_count": [_P(CHandle), _P(c.c_size_t)],

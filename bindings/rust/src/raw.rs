@@ -40,6 +40,7 @@ pub const PT_BAD_PLACES: u32 = 22;
 pub const PT_CHILD_RUNNING: u32 = 23;
 pub const PT_CHILD_RESTARTING: u32 = 24;
 pub const PT_CHILD_PRESENT: u32 = 25;
+pub const PT_UNLISTED: u32 = 26;
 
 pub const PT_NORMAL: u32 = 0;
 pub const PT_KILL: u32 = 1;
@@ -394,6 +395,7 @@ pub struct RawCodes {
     pub taken: u32,
     pub has_name: u32,
     pub bad_places: u32,
+    pub unlisted: u32,
     pub reason_normal: u32,
     pub reason_kill: u32,
     pub reason_killed: u32,
@@ -526,6 +528,7 @@ pub const CODES: RawCodes = RawCodes {
     taken: PT_TAKEN,
     has_name: PT_HAS_NAME,
     bad_places: PT_BAD_PLACES,
+    unlisted: PT_UNLISTED,
     reason_normal: PT_NORMAL,
     reason_kill: PT_KILL,
     reason_killed: PT_KILLED,
@@ -655,7 +658,7 @@ const _: () = assert!(size_of::<RawCall>() == 56);
 const _: () = assert!(size_of::<RawRequest>() == 24);
 const _: () = assert!(size_of::<RawHeard>() == 16);
 const _: () = assert!(size_of::<RawPost>() == 48);
-const _: () = assert!(size_of::<RawCodes>() == 264);
+const _: () = assert!(size_of::<RawCodes>() == 268);
 const _: () = assert!(size_of::<RawSizes>() == 176);
 const _: () = assert!(size_of::<RawAskingAbout>() == 120);
 const _: () = assert!(size_of::<RawSupervisorCodes>() == 96);
@@ -667,14 +670,12 @@ unsafe extern "C" {
     pub fn pt_open(desks: *mut Handle, count: usize, config: Config) -> u32;
     pub fn pt_gather(desks: *mut Handle, count: usize, out: &mut Handle) -> u32;
     pub fn pt_settle(node: &mut Handle, out: &mut Handle) -> u32;
-    pub fn pt_resume(node: &mut Handle, desks: *mut Handle, count: usize) -> u32;
     pub fn pt_settle_unlisted(node: &mut Handle, out: &mut Handle) -> u32;
-    pub fn pt_resume_settled(node: &mut Handle, desks: *mut Handle, count: usize) -> u32;
-    pub fn pt_settled_into_quiet(node: &mut Handle, out: &mut Handle) -> u32;
+    pub fn pt_quiet_list(node: &mut Handle) -> u32;
+    pub fn pt_resume(node: &mut Handle, desks: *mut Handle, count: usize) -> u32;
     pub fn pt_give_up(desk: &mut Handle) -> u32;
     pub fn pt_gathered_give_up(node: &mut Handle) -> u32;
     pub fn pt_quiet_give_up(node: &mut Handle) -> u32;
-    pub fn pt_settled_give_up(node: &mut Handle) -> u32;
     pub fn pt_history_give_up(history: &mut Handle) -> u32;
     pub fn pt_crew_give_up(crew: &mut Handle) -> u32;
     pub fn pt_timers_give_up(timers: &mut Handle) -> u32;
@@ -823,9 +824,6 @@ unsafe extern "C" {
     pub fn pt_quiet_linked(node: &mut Handle, p: Pid, peer: Pid, out: &mut RawIds) -> u32;
     pub fn pt_quiet_kept(node: &mut Handle, target: Pid, monitor: RawRef, out: &mut bool) -> u32;
     pub fn pt_quiet_watching(node: &mut Handle, watcher: Pid, monitor: RawRef, out: &mut bool) -> u32;
-    pub fn pt_settled_history(node: &mut Handle, out: &mut Handle) -> u32;
-    pub fn pt_settled_desks(node: &mut Handle, out: &mut u8) -> u32;
-    pub fn pt_settled_handled(node: &mut Handle, out: &mut u64) -> u32;
     pub fn pt_history_count(history: &mut Handle, out: &mut usize) -> u32;
     pub fn pt_history_at(history: &mut Handle, place: usize, out: &mut RawEvent) -> u32;
     pub fn pt_history_left_count(history: &mut Handle, out: &mut usize) -> u32;
