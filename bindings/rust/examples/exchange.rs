@@ -2,10 +2,11 @@
 //! caller has waited for long enough. At a noise in a call the line's process panics: its partner gets the `DOWN`, and calls
 //! the same name again, which another process has soon.
 //!
-//!     cargo run --release --example exchange -- HISTORY CALLERS
+//!     cargo run --release --example exchange -- HISTORY CALLERS [BYTES]
 //!
 //! It prints what came of the calls: for 400 callers it takes a second or two. Its status is 1 if a call or a word is lost, or
-//! if a partner does not hear of a crash. `pt_audit` judges the file HISTORY.
+//! if a partner does not hear of a crash. `pt_audit` judges the file HISTORY. With
+//! BYTES the history goes to files of so many bytes, HISTORY.000001.000001 and so on.
 
 use pundewo::runtime::{
     Address, Behaviour, Call, CallFault, Child, Context, Event, HistoryFile, Name, Next, Pid, Ref, Reply, Runtime,
@@ -179,10 +180,13 @@ fn exchange(names: &[Name<ToLine>], tally: &Arc<Tally>) -> Supervisor {
 
 fn main() -> Result<(), Box<dyn std::error::Error>> {
     let words: Vec<String> = std::env::args().collect();
-    let [_, history, callers] = &words[..] else { return Err("exchange HISTORY CALLERS".into()) };
+    let (callers, sink) = match &words[..] {
+        [_, history, callers] => (callers, HistoryFile::create(history)?),
+        [_, history, callers, bytes] => (callers, HistoryFile::rotating(history, bytes.parse()?)?),
+        _ => return Err("exchange HISTORY CALLERS [BYTES]".into()),
+    };
     let (callers, tally) = (callers.parse()?, Arc::new(Tally::default()));
     let names: Vec<_> = (0..DESKS as usize * LINES).map(|number| Name::new(format!("line {number}"))).collect();
-    let sink = HistoryFile::create(history)?;
     let runtime = Runtime::builder().desks(DESKS.into()).going_on_every(1_000).archive(sink).start()?;
     let lines = (0..DESKS).zip(names.chunks(LINES));
     let lines = lines.map(|(desk, names)| runtime.spawn_on(desk, exchange(names, &tally)));

@@ -5,7 +5,7 @@ use crate::raw::{
 };
 use crate::supervisors::{Child, ChildCounts, ChildFault, ChildSpec, GaveUp, Origin, SupervisorSpec, asked};
 use crate::{
-    Desk, Fault, Gathered, Held, History, Item, Lineage, Loss, NONE, OK, Pick, Pid, Reason, Settled, Turned, desks_of,
+    Desk, Fault, Gathered, Held, History, Item, Lineage, Loss, NONE, OK, Pick, Pid, Quiet, Reason, Turned, desks_of,
     fault_of, found, is_whole, told,
 };
 use std::fmt;
@@ -291,8 +291,8 @@ impl Crew {
     }
 
     /// Goes on over a desk of the resumed node, with the history of the node before: [`gather`](crate::gather),
-    /// [`settle_unlisted`](crate::Gathered::settle_unlisted), its [`history`](crate::Settled::history),
-    /// [`resume`](crate::Settled::resume), and this for the crew of each desk. The reason of each exit in the history is
+    /// [`settle_unlisted`](crate::Gathered::settle_unlisted), its [`history`](crate::Quiet::history),
+    /// [`resume`](crate::Quiet::resume), and this for the crew of each desk. The reason of each exit in the history is
     /// told once the exit is. The function [`go_on`] does all of that in one call.
     ///
     /// # Errors
@@ -469,7 +469,7 @@ pub enum Node {
     /// The gathered node, with what was handled so far.
     Gathered(Gathered),
     /// The settled node.
-    Settled(Settled),
+    Settled(Quiet),
 }
 
 impl From<Vec<Desk>> for Node {
@@ -592,7 +592,7 @@ impl Node {
             let node = if !gathered.at.is_null() {
                 Node::Gathered(Gathered { handle: Held::new(gathered), origin })
             } else if !settled.at.is_null() {
-                Node::Settled(Settled { handle: Held::new(settled), origin })
+                Node::Settled(Quiet { handle: Held::new(settled), origin })
             } else {
                 Node::Desks(desks_again(desks, origin, node))
             };

@@ -702,7 +702,7 @@ impl Gathered {
         Ok(History { handle: Held::new(handle) })
     }
 
-    /// Delivers the letters left over, until there are none.
+    /// Delivers the letters left over, until there are none. The settled node has the list of its pids.
     ///
     /// # Errors
     ///
@@ -717,129 +717,16 @@ impl Gathered {
     }
 
     /// The same without the list of all pids that ever were, for a program that pauses often: it costs what happened
-    /// since the last pause.
+    /// since the last pause. [`Quiet::pids`] makes the list if it is asked for.
     ///
     /// # Errors
     ///
     /// As [`settle`](Gathered::settle).
-    pub fn settle_unlisted(mut self) -> Result<Settled, Unsettled> {
+    pub fn settle_unlisted(mut self) -> Result<Quiet, Unsettled> {
         let mut handle = NONE;
         match unsafe { raw::pt_settle_unlisted(self.handle.own(), &mut handle) } {
-            OK => Ok(Settled { handle: Held::new(handle), origin: self.origin }),
-            code => Err(Unsettled { fault: fault_of(code), gathered: self }),
-        }
-    }
-}
-
-/// A settled node without the list of its pids. Dropped, it is given up.
-pub struct Settled {
-    handle: Held,
-    origin: Lineage,
-}
-
-impl fmt::Debug for Settled {
-    fn fmt(&self, f: &mut fmt::Formatter<'_>) -> fmt::Result {
-        f.write_str("Settled { .. }")
-    }
-}
-
-impl Drop for Settled {
-    fn drop(&mut self) {
-        unsafe { raw::pt_settled_give_up(self.handle.own()) };
-    }
-}
-
-/// A settled node that comes back as it was, and why.
-#[derive(Debug)]
-pub struct SettledBack {
-    /// Why it comes back.
-    pub fault: Fault,
-    /// The node, as it was.
-    pub settled: Settled,
-}
-
-impl fmt::Display for SettledBack {
-    fn fmt(&self, f: &mut fmt::Formatter<'_>) -> fmt::Result {
-        write!(f, "the settled node comes back: {}", self.fault)
-    }
-}
-
-impl std::error::Error for SettledBack {}
-
-/// So that `?` passes it on where a [`Fault`] is returned: the node is given up then.
-impl From<SettledBack> for Fault {
-    fn from(back: SettledBack) -> Fault {
-        back.fault
-    }
-}
-
-impl Settled {
-    /// The events of all desks in one legal order.
-    ///
-    /// # Errors
-    ///
-    /// [`Fault::Memory`], if there is none.
-    pub fn history(&self) -> Result<History, Fault> {
-        let mut handle = NONE;
-        told(unsafe { raw::pt_settled_history(&mut self.handle.lent(), &mut handle) })?;
-        Ok(History { handle: Held::new(handle) })
-    }
-
-    /// How many desks the node has.
-    #[inline]
-    pub fn desks(&self) -> u8 {
-        let mut out = 0;
-        unsafe { raw::pt_settled_desks(&mut self.handle.lent(), &mut out) };
-        out
-    }
-
-    /// How many letters settling handled.
-    #[inline]
-    pub fn handled(&self) -> u64 {
-        let mut out = 0;
-        unsafe { raw::pt_settled_handled(&mut self.handle.lent(), &mut out) };
-        out
-    }
-
-    /// Goes on from the node, as [`Quiet::resume`] does.
-    ///
-    /// ```
-    /// use pundewo::{Config, Reason, gather, open};
-    ///
-    /// let mut desks = open(1, Config { slots: 8, top_version: 100, lane: 16, start: 0 })?;
-    /// let first = desks[0].spawn()?;
-    /// desks[0].exit(first, Reason::Normal)?;
-    /// let settled = gather(desks).map_err(|back| back.fault)?.settle_unlisted().map_err(|back| back.fault)?;
-    /// assert_eq!(settled.history()?.count(), 2);
-    /// let mut desks = settled.resume().map_err(|back| back.fault)?;
-    /// assert_eq!((desks[0].event_count(), desks[0].clock()), (0, 2));
-    /// assert_eq!(desks[0].spawn()?.version, 2);
-    /// # Ok::<(), pundewo::Fault>(())
-    /// ```
-    ///
-    /// # Errors
-    ///
-    /// The settled node comes back as it was: with [`Fault::Worn`] if no stamp is left, or with [`Fault::Memory`].
-    pub fn resume(mut self) -> Result<Vec<Desk>, SettledBack> {
-        let count = usize::from(self.desks());
-        let mut handles: Vec<Handle> = (0..count).map(|_| NONE).collect();
-        // SAFETY: the handles are empty, and as many as are told.
-        match unsafe { raw::pt_resume_settled(self.handle.own(), handles.as_mut_ptr(), count) } {
-            OK => Ok(desks_of(handles, self.origin)),
-            code => Err(SettledBack { fault: fault_of(code), settled: self }),
-        }
-    }
-
-    /// The settled node with the list of all pids that ever were.
-    ///
-    /// # Errors
-    ///
-    /// The settled node comes back as it was, with [`Fault::Memory`].
-    pub fn into_quiet(mut self) -> Result<Quiet, SettledBack> {
-        let mut handle = NONE;
-        match unsafe { raw::pt_settled_into_quiet(self.handle.own(), &mut handle) } {
             OK => Ok(Quiet { handle: Held::new(handle), origin: self.origin }),
-            code => Err(SettledBack { fault: fault_of(code), settled: self }),
+            code => Err(Unsettled { fault: fault_of(code), gathered: self }),
         }
     }
 }
@@ -946,12 +833,27 @@ impl Quiet {
         out
     }
 
-    /// The pids of all processes that were ever spawned, by shard, slot and version.
-    #[inline]
-    pub fn pids(&self) -> Pids<'_> {
+    /// The pids of all processes that were ever spawned, by shard, slot and version. The list of them is made if the node has
+    /// none ([`settle_unlisted`](Gathered::settle_unlisted)); nothing else here needs it.
+    ///
+    /// ```
+    /// use pundewo::{Config, gather, open};
+    ///
+    /// let mut desks = open(1, Config::default())?;
+    /// let first = desks[0].spawn()?;
+    /// let quiet = gather(desks)?.settle_unlisted()?;
+    /// assert_eq!(quiet.pids()?.collect::<Vec<_>>(), [first]);
+    /// # Ok::<(), pundewo::Fault>(())
+    /// ```
+    ///
+    /// # Errors
+    ///
+    /// [`Fault::Memory`], if there is none for the list. The node is as it was.
+    pub fn pids(&self) -> Result<Pids<'_>, Fault> {
         let mut count = 0;
+        told(unsafe { raw::pt_quiet_list(&mut self.handle.lent()) })?;
         unsafe { raw::pt_quiet_pid_count(&mut self.handle.lent(), &mut count) };
-        Pids::new(&self.handle, (), 0..count)
+        Ok(Pids::new(&self.handle, (), 0..count))
     }
 
     /// What became of p, or `None` if it was never spawned.

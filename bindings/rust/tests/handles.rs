@@ -42,14 +42,19 @@ fn a_node_goes_on_without_a_list_of_its_pids() {
     let mut desks = open(2, CONFIG).unwrap();
     let pids: Vec<_> = desks.iter_mut().map(|desk| desk.spawn().unwrap()).collect();
     desks[0].exit(pids[0], Reason::Normal).unwrap();
-    let settled = gather(desks).ok().unwrap().settle_unlisted().unwrap();
-    assert_eq!((settled.desks(), settled.handled()), (2, 0));
-    assert_eq!(settled.history().unwrap().count(), 3);
-    let mut desks = settled.resume().unwrap();
+    let quiet = gather(desks).ok().unwrap().settle_unlisted().unwrap();
+    assert_eq!((quiet.desks(), quiet.handled()), (2, 0));
+    assert_eq!(quiet.history().unwrap().count(), 3);
+    assert_eq!(quiet.account(pids[0]).unwrap().ended, Some(Reason::Normal));
+    let mut desks = quiet.resume().unwrap();
     assert!(!desks[0].alive(pids[0]) && desks[1].alive(pids[1]));
     let third = desks[0].spawn().unwrap();
-    let quiet = gather(desks).ok().unwrap().settle_unlisted().unwrap().into_quiet().unwrap();
-    assert_eq!(quiet.pids().collect::<Vec<_>>(), [pids[0], third, pids[1]]);
+    let quiet = gather(desks).ok().unwrap().settle_unlisted().unwrap();
+    // made on request, once
+    for _ in 0..2 {
+        assert_eq!(quiet.pids().unwrap().collect::<Vec<_>>(), [pids[0], third, pids[1]]);
+    }
+    assert!(quiet.resume().unwrap()[0].alive(third));
 }
 
 #[test]
@@ -80,7 +85,7 @@ fn desks_go_to_threads() {
         .collect();
     let desks = threads.into_iter().map(|thread| thread.join().unwrap()).collect();
     let quiet = gather(desks).ok().unwrap().settle().ok().unwrap();
-    assert_eq!(quiet.pids().collect::<Vec<_>>(), pids);
+    assert_eq!(quiet.pids().unwrap().collect::<Vec<_>>(), pids);
     assert_eq!(quiet.account(pids[1]).unwrap().ended, Some(Reason::Other(7)));
 }
 

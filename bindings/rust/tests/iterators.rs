@@ -127,7 +127,7 @@ fn a_history_and_a_settled_node() {
     let read: Vec<Event> = texts.iter().map(|text| text.parse().unwrap()).collect();
     assert!(history.events().eq(read));
     let quiet = gathered.settle().unwrap();
-    is_whole(|| quiet.pids(), 2);
+    is_whole(|| quiet.pids().unwrap(), 2);
     let settled = quiet.history().unwrap();
     is_whole(|| settled.left_over(), 0);
     assert_eq!(settled.events().count(), history.count() + 2);

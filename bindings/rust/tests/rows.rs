@@ -195,7 +195,7 @@ fn on_history(history: History, name: &str, w: &[&str]) -> String {
 /// Looks at a settled node.
 fn on_quiet(quiet: &Quiet, name: &str, w: &[&str]) -> String {
     match name {
-        "pids" => joined(quiet.pids(), " "),
+        "pids" => joined(quiet.pids().unwrap(), " "),
         "account" => or_none(quiet.account(pid(w[0])).map(account_text)),
         "ended" => or_none(quiet.account(pid(w[0])).and_then(|account| account.ended)),
         "alive" => quiet.account(pid(w[0])).is_some_and(|account| account.ended.is_none()).to_string(),

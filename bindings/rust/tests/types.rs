@@ -44,6 +44,7 @@ fn types_go_to_other_threads_and_are_printed() {
     goes::<runtime::Address<Vec<u8>>>();
     goes::<runtime::Call<u8>>();
     goes::<runtime::Timer>();
+    goes::<runtime::HistoryFile>();
     goes::<runtime::Halted>();
     goes::<runtime::Name<Vec<u8>>>();
     goes::<runtime::ChildInfo>();
@@ -76,6 +77,8 @@ fn values_are_keys() {
     key::<Next>();
     key::<Job>();
     key::<NotTaken>();
+    key::<runtime::Next>();
+    key::<runtime::Selection>();
     key::<runtime::Restart>();
     key::<runtime::Shutdown>();
     key::<runtime::Target>();

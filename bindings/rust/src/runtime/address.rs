@@ -1,6 +1,5 @@
 //! Where messages of one type are sent.
 
-use super::MESSAGE;
 use super::asked::Asking;
 use super::behaviour::Bound;
 use super::calls::Reply;
@@ -25,8 +24,8 @@ pub struct Address<M> {
 }
 
 impl<M: Send + 'static> Address<M> {
-    pub(crate) fn new(pid: Pid, name: &'static str, bound: Bound, hub: &Arc<Hub>) -> Address<M> {
-        Address { mailbox: Arc::new(Values::new(pid, name, bound)), hub: hub.clone() }
+    pub(crate) fn new(values: Values<M>, hub: &Arc<Hub>) -> Address<M> {
+        Address { mailbox: Arc::new(values), hub: hub.clone() }
     }
 
     /// The name of the process in the table. It says nothing of the run, and a process of another run may have the same:
@@ -164,10 +163,11 @@ impl<M: Send + 'static> Address<M> {
 
     /// Puts a message that has room, and has the desk send it on.
     pub(crate) fn enter(&self, message: M, ticket: Ticket, origin: Origin) -> Result<(), SendFault<M>> {
+        let kind = self.mailbox.letter_of(&message);
         let number = self.mailbox.put(message, ticket)?;
         // (what a handler sends in this way is nothing new to the run)
         let origin = if is_inside(&self.hub) { Origin::Run } else { origin };
-        if self.hub.post(self.pid(), MESSAGE, number, origin) {
+        if self.hub.post(self.pid(), kind, number, origin) {
             self.look_at_bound();
             return Ok(());
         }

@@ -3,6 +3,7 @@
 use super::calls::Answer;
 use super::context::Context;
 use super::hub::Hub;
+use super::selection::{Selection, Wanted, pick_of};
 use crate::{Pick, Pid, Reason, Ref, crew};
 use std::sync::Arc;
 use std::time::Duration;
@@ -20,6 +21,14 @@ pub trait Behaviour: Sized + Send + 'static {
     fn started(&mut self, cx: &mut Context<'_, Self::Message>) -> Next {
         let _ = cx;
         Next::Wait
+    }
+
+    /// The kind of a message, by which [`Next::Select`] chooses: a number of the behaviour's own, such as that of a variant.
+    /// Without this all messages have the kind 0. It is asked once for each message, as that is sent, on the thread of the
+    /// sender, and should not panic.
+    fn kind(message: &Self::Message) -> u32 {
+        let _ = message;
+        0
     }
 
     /// It is told this, and says what it does next.
@@ -117,7 +126,7 @@ pub struct Down {
     pub monitor: Ref,
     /// The process that has exited.
     pub pid: Pid,
-    /// Why.
+    /// Why. [`Reason::Noproc`], if it had exited before it was monitored.
     pub reason: Reason,
     /// The text of its panic, if that is how it exited.
     pub panic: Option<Arc<str>>,
@@ -141,10 +150,14 @@ pub enum Next {
     Wait,
     /// The same, but no longer than for this time: then it gets [`Event::Timeout`].
     WaitFor(Duration),
-    /// It waits for what this pick takes. All else stays in its mailbox, in order.
+    /// It waits for what this pick of the library takes. All else stays in its mailbox, in order.
     Only(Pick),
     /// The same, but no longer than for this time.
     OnlyFor(Pick, Duration),
+    /// It waits for what this takes: Erlang's `receive Pattern`. All else waits, in order, until the process takes it.
+    Select(Selection),
+    /// The same, but no longer than for this time.
+    SelectFor(Selection, Duration),
     /// It gets [`Event::Proceed`] as soon as the others of its desk have had their turn.
     Proceed,
     /// It exits with this reason.
@@ -155,13 +168,24 @@ impl Next {
     /// It exits, and all is well.
     pub const DONE: Next = Next::Stop(Reason::Normal);
 
+    /// What it takes.
+    pub(crate) fn wanted(self) -> Wanted {
+        match self {
+            Next::Only(pick) | Next::OnlyFor(pick, _) => Wanted::Pick(pick),
+            Next::Select(selection) | Next::SelectFor(selection, _) => Wanted::Selection(selection),
+            Next::Wait | Next::WaitFor(_) | Next::Proceed | Next::Stop(_) => Wanted::All,
+        }
+    }
+
     /// The same for a crew, whose times are points in time.
     pub(crate) fn for_crew(self, hub: &Hub) -> crew::Next {
         match self {
             Next::Wait => crew::Next::Wait(Pick::Any),
             Next::WaitFor(time) => crew::Next::WaitUntil(Pick::Any, hub.after(time)),
-            Next::Only(pick) => crew::Next::Wait(pick),
-            Next::OnlyFor(pick, time) => crew::Next::WaitUntil(pick, hub.after(time)),
+            Next::Only(pick) => crew::Next::Wait(pick_of(pick)),
+            Next::OnlyFor(pick, time) => crew::Next::WaitUntil(pick_of(pick), hub.after(time)),
+            Next::Select(selection) => crew::Next::Wait(selection.pick()),
+            Next::SelectFor(selection, time) => crew::Next::WaitUntil(selection.pick(), hub.after(time)),
             Next::Proceed => crew::Next::Proceed,
             Next::Stop(reason) => crew::Next::Stop(reason),
         }

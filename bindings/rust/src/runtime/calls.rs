@@ -3,11 +3,11 @@
 use super::ANSWER;
 use super::asked::{Asked, request_dropped};
 use super::hub::{Hub, Origin};
+use super::numbers::Numbered;
 use super::payloads::{Given, Slot};
 use super::timing::Key;
 use crate::{Fault, Pid, Reason, Ref};
 use std::any::Any;
-use std::collections::HashMap;
 use std::fmt;
 use std::marker::PhantomData;
 use std::sync::Arc;
@@ -17,8 +17,8 @@ use std::sync::atomic::{AtomicI64, Ordering::Relaxed};
 #[derive(Clone, Debug, PartialEq, Eq, Hash)]
 #[non_exhaustive]
 pub enum CallFault {
-    /// The server exited for this reason, with the text of its panic if that is how it exited. If it had exited before a call
-    /// from outside, the reason is [`Reason::Noproc`].
+    /// The server exited for this reason, with the text of its panic if that is how it exited. If it was seen to have exited
+    /// before the call, the reason is [`Reason::Noproc`].
     Down(Reason, Option<Arc<str>>),
     /// There was no answer in time: the process whose handler was running on the server's desk then, if one was, and the
     /// name of the type of its behaviour. It may be the server. There is none to name if the server waits itself, or is on
@@ -185,7 +185,7 @@ pub(crate) struct Open {
 }
 
 /// The open calls of a process, by their numbers: those of their monitors, or numbers that no monitor has.
-pub(crate) type Calls = HashMap<i64, Open>;
+pub(crate) type Calls = Numbered<Open>;
 
 /// The number of the call with this monitor. (a stamp is at most 2^62)
 pub(crate) fn number_of(monitor: Ref) -> i64 {

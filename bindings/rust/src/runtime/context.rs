@@ -1,17 +1,19 @@
 //! What a process may do as it handles something.
 
 use super::address::Address;
-use super::behaviour::Behaviour;
-use super::calls::{Call, Calls, Open, Reply, fresh_number, number_of};
+use super::aside::{Aside, Told};
+use super::behaviour::{Behaviour, Event};
+use super::calls::{Call, CallFault, Calls, Open, Reply, fresh_number, number_of};
 use super::child::Listed;
+use super::gone::{Gone, gone_monitor, number_of_gone};
 use super::hub::Origin;
 use super::inbox::Task;
-use super::payloads::News;
+use super::payloads::{News, Slot};
 use super::room::Ticket;
 use super::target::Target;
 use super::timing::{Alarm, Key, Timer};
 use super::worker::{Parent, Worker};
-use super::{ANSWER, MESSAGE};
+use super::{ANSWER, GONE};
 use crate::supervisors::SupervisorSpec;
 use crate::{Fault, Pid, Reason, Ref};
 use std::fmt;
@@ -26,6 +28,10 @@ pub struct Context<'a, M> {
     pub(crate) worker: &'a mut Worker,
     pub(crate) me: &'a Address<M>,
     pub(crate) calls: &'a mut Calls,
+    pub(crate) aside: &'a mut Aside<M>,
+    /// The item that its handler is told, unless it has postponed that.
+    pub(crate) told: Option<Told<'a>>,
+    pub(crate) gone: &'a mut Gone,
     pub(crate) parent: Option<Pid>,
 }
 
@@ -121,20 +127,45 @@ impl<M: Send + 'static> Context<'_, M> {
         call
     }
 
-    /// Monitors a process: Erlang's `monitor`. It is told [`Event::Down`](super::Event::Down) once, when that has exited.
+    /// Monitors a process: Erlang's `monitor`. It is told [`Event::Down`](super::Event::Down) once, when that has exited. If it
+    /// had before, the reason is [`Reason::Noproc`].
     ///
     /// # Errors
     ///
-    /// [`Fault::OtherRun`], [`Fault::NoProc`] if it is known to have exited, [`Fault::Myself`], [`Fault::Unknown`],
-    /// [`Fault::Worn`] or [`Fault::Memory`].
+    /// [`Fault::OtherRun`], [`Fault::Myself`], [`Fault::Unknown`], [`Fault::Worn`] or [`Fault::Memory`].
     pub fn monitor(&mut self, target: impl Into<Target>) -> Result<Ref, Fault> {
-        let (me, target) = (self.me.pid(), target.into().pid_in(&self.worker.hub)?);
-        let made = self.worker.desk().monitor(me, target);
-        self.worker.noted(made)
+        let target = target.into().pid_in(&self.worker.hub)?;
+        match self.monitor_living(target)? {
+            Some(monitor) => Ok(monitor),
+            None => self.monitor_gone(target),
+        }
+    }
+
+    /// The same, or `None` if the process is known to have exited.
+    fn monitor_living(&mut self, target: Pid) -> Result<Option<Ref>, Fault> {
+        let made = self.worker.desk().monitor(self.me.pid(), target);
+        match self.worker.noted(made) {
+            Ok(monitor) => Ok(Some(monitor)),
+            Err(Fault::NoProc) => Ok(None),
+            Err(fault) => Err(fault),
+        }
+    }
+
+    /// Has this process told that one which it monitors had exited.
+    fn monitor_gone(&mut self, target: Pid) -> Result<Ref, Fault> {
+        let number = fresh_number();
+        self.worker.tell_itself(self.me.pid(), GONE, number)?;
+        self.gone.insert(number, target);
+        Ok(gone_monitor(number))
     }
 
     /// Takes a monitor back. Nothing more is told of it.
     pub fn demonitor(&mut self, monitor: Ref) {
+        if let Some(number) = number_of_gone(monitor) {
+            self.gone.remove(&number);
+            return;
+        }
+        self.aside.forget(monitor);
         demonitor(self.worker, self.me, monitor);
     }
 
@@ -186,7 +217,9 @@ impl<M: Send + 'static> Context<'_, M> {
     }
 
     /// Asks a server: it gets the message that `ask` makes of a [`Reply`]. The call ends once, with
-    /// [`Event::Answer`](super::Event::Answer): by the answer, by the exit of the server, or when so much time has gone by.
+    /// [`Event::Answer`](super::Event::Answer): by the answer, by the exit of the server, or when so much time has gone by. If
+    /// the server is known to have exited, nothing is asked, and the call ends with [`CallFault::Down`] and
+    /// [`Reason::Noproc`].
     ///
     /// # Errors
     ///
@@ -197,13 +230,43 @@ impl<M: Send + 'static> Context<'_, M> {
         limit: Duration,
         ask: impl FnOnce(Reply<R>) -> N,
     ) -> Result<Call<R>, Fault> {
-        let monitor = self.monitor(to)?;
+        let server = Target::from(to).pid_in(&self.worker.hub)?;
+        let monitor = if to.mailbox.is_open() { self.monitor_living(server)? } else { None };
+        let Some(monitor) = monitor else { return self.call_gone(server.shard) };
         let (at, number) = (self.worker.hub.after(limit), number_of(monitor));
         let alarm = self.worker.set_alarm(at, Alarm::Over(self.me.pid(), number));
         let alarm = alarm.inspect_err(|_| demonitor(self.worker, self.me, monitor))?;
         let (call, reply) = self.open(number, to.pid().shard, Some(monitor), Some(alarm));
         self.send(to, ask(reply));
         Ok(call)
+    }
+
+    /// Puts what the handler was told back into its place: `postpone` of Erlang's `gen_statem`. It waits there, also if a later
+    /// [`Next`](super::Next) would take it, until the process [retries](Context::retry) it.
+    ///
+    /// A message counts as one that waits then, also for [`Behaviour::most_waiting`]. It returns `false`, and the event is
+    /// dropped, if it was not in the mailbox, as [`Event::Timeout`], [`Event::Proceed`] and what the handler has postponed
+    /// before.
+    pub fn postpone(&mut self, event: Event<M>) -> bool {
+        let Some(told) = self.told.take() else { return false };
+        self.aside.postpone(told, event, &self.me.mailbox);
+        self.me.look_at_bound();
+        true
+    }
+
+    /// All that was postponed may be taken from now on, in order, before what has come since: what `gen_statem` does as the
+    /// state changes.
+    pub fn retry(&mut self) {
+        self.aside.retry();
+    }
+
+    /// A call of a server on this desk that had exited.
+    fn call_gone<R: Send + 'static>(&mut self, desk: u8) -> Result<Call<R>, Fault> {
+        let number = fresh_number();
+        self.worker.tell_itself(self.me.pid(), ANSWER, number)?;
+        self.me.mailbox.put_answer(number, Err(CallFault::Down(Reason::Noproc, None)));
+        self.calls.insert(number, Open { desk, monitor: None, alarm: None });
+        Ok(Call { number, of: PhantomData })
     }
 
     /// Answers a request. The answer comes after all that this process has sent the client.
@@ -259,8 +322,9 @@ impl Worker {
         if !Arc::ptr_eq(&self.hub, &to.hub) {
             return to.send(message);
         }
+        let kind = to.mailbox.letter_of(&message);
         let Ok(number) = to.mailbox.put(message, Ticket::FREE) else { return false };
-        let sent = self.say(from, to.pid(), MESSAGE, number);
+        let sent = self.say(from, to.pid(), kind, number);
         if sent {
             to.look_at_bound();
         } else {

@@ -3,14 +3,16 @@
 use super::MORE;
 use super::address::Address;
 use super::behaviour::{Behaviour, Down, Event, Next};
+use super::calls::fresh_number;
 use super::context::Context;
+use super::gone::gone_monitor;
 use super::hub::Origin;
 use super::inbox::{Task, locked};
 use super::payloads::drop_quietly;
 use super::promise::Waiting;
 use super::target::Target;
 use super::worker::Worker;
-use crate::{Fault, Pick, Reason, Ref};
+use crate::{Fault, Pick, Reason};
 use std::collections::VecDeque;
 use std::fmt;
 use std::future::poll_fn;
@@ -225,7 +227,7 @@ impl<M: Send + 'static> Mailbox<M> {
         let monitors = move |worker: &mut Worker| {
             let made = worker.desk().monitor(me, pid);
             if worker.noted(made) == Err(Fault::NoProc) {
-                let monitor = Ref { desk: u8::MAX, number: 0 };
+                let monitor = gone_monitor(fresh_number());
                 // (what comes beyond the bound is one event for each call of this)
                 queue.put(Event::Down(Down { monitor, pid, reason: Reason::Noproc, panic: None }));
             }

@@ -6,7 +6,7 @@ use super::hub::Hub;
 use super::inbox::locked;
 use super::promise::Promise;
 use super::report::Report;
-use crate::{Desk, Fault, Gathered, Settled, gather};
+use crate::{Desk, Fault, Gathered, Quiet, gather};
 use std::panic::{AssertUnwindSafe, catch_unwind};
 use std::sync::atomic::{AtomicBool, AtomicU64, Ordering::SeqCst};
 use std::sync::{Arc, Condvar, Mutex, PoisonError};
@@ -24,9 +24,9 @@ pub(crate) struct Book {
 pub(crate) enum Stage {
     Desks(Vec<Desk>),
     Gathered(Gathered),
-    Settled(Settled),
+    Settled(Quiet),
     /// Its history is taken.
-    Taken(Settled),
+    Taken(Quiet),
 }
 
 /// A node that does not go on, and why.
@@ -45,7 +45,7 @@ pub(crate) enum Outcome {
 
 impl Stage {
     /// Goes as far as a settled node whose history is taken.
-    pub(crate) fn close(self, book: &Book) -> Result<Settled, Stuck> {
+    pub(crate) fn close(self, book: &Book) -> Result<Quiet, Stuck> {
         let stuck = |why: Fault, stage| Stuck { why: why.into(), stage };
         match self {
             Stage::Desks(desks) => match gather(desks) {
@@ -73,7 +73,7 @@ impl Book {
     }
 
     /// Hands the history to the sink, once.
-    fn take(&self, node: &Settled) -> Result<(), Refusal> {
+    fn take(&self, node: &Quiet) -> Result<(), Refusal> {
         if let Some(sink) = &mut *locked(&self.sink) {
             let history = node.history()?;
             let taken = catch_unwind(AssertUnwindSafe(|| sink.take(&history)));
@@ -86,8 +86,8 @@ impl Book {
 }
 
 /// Goes on from a settled node.
-pub(crate) fn resume(node: Settled) -> Result<Vec<Desk>, Stuck> {
-    node.resume().map_err(|back| Stuck { why: back.fault.into(), stage: Stage::Taken(back.settled) })
+pub(crate) fn resume(node: Quiet) -> Result<Vec<Desk>, Stuck> {
+    node.resume().map_err(|back| Stuck { why: back.fault.into(), stage: Stage::Taken(back.quiet) })
 }
 
 struct State {

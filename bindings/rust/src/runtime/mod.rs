@@ -43,8 +43,11 @@
 //! arrive: as the receiver exits, or at once if that has exited. The table carries the number of a message; the value is
 //! kept beside it, with the receiver's others.
 //!
-//! In a history a message has the kind [`MESSAGE`], the answer of a call [`ANSWER`], and the end of a call's time
-//! [`OVER`]; the process of a [`Mailbox`] is told by one of the kind [`MORE`] that it was read. Each desk has one process more, which sends what comes from outside: the first that was born on it.
+//! In a history a message has the kind [`MESSAGE`], or [`FIRST_KIND`] and its own kind, if that is not 0
+//! ([`Behaviour::kind`]). The answer of a call has [`ANSWER`], and the end of a call's time [`OVER`]; the process of a
+//! [`Mailbox`] is told by one of the kind [`MORE`] that it was read, and one of the kind [`GONE`] is the news of a monitor of
+//! a process that had exited. Each desk has one process more, which sends what comes from outside: the first that was born on
+//! it.
 //!
 //! # Panics
 //!
@@ -72,23 +75,27 @@
 
 mod address;
 mod archive;
+mod aside;
 mod asked;
 mod behaviour;
 mod calls;
 mod child;
 mod context;
 mod ending;
+mod gone;
 mod hub;
 mod inbox;
 mod mailbox;
 mod meeting;
 mod name;
+mod numbers;
 mod payloads;
 mod process;
 mod promise;
 mod report;
 mod room;
 mod run;
+mod selection;
 mod sending;
 mod spawning;
 mod start;
@@ -111,6 +118,7 @@ pub use mailbox::Mailbox;
 pub use name::Name;
 pub use report::Report;
 pub use run::{Handle, Runtime, SpawnFault};
+pub use selection::Selection;
 pub use sending::{SendFault, Sending};
 pub use spawning::Spawning;
 pub use start::{Builder, StartFault};
@@ -129,3 +137,7 @@ pub const ANSWER: u32 = 2;
 pub const OVER: u32 = 3;
 /// The kind of the news that a [`Mailbox`] was read.
 pub const MORE: u32 = 4;
+/// The kind of the news that a process which is monitored had exited before.
+pub const GONE: u32 = 5;
+/// What the kind of a message has beside its own number, unless that is 0: see [`Behaviour::kind`].
+pub const FIRST_KIND: u32 = 16;

@@ -7,7 +7,9 @@ use super::PANIC;
 use super::asked::{Fails, tell_dropped};
 use super::behaviour::Bound;
 use super::calls::CallFault;
+use super::numbers::Numbered;
 use super::room::Ticket;
+use super::selection::letter;
 use super::sending::SendFault;
 use crate::{Pid, Reason, Ref};
 use std::any::Any;
@@ -30,6 +32,8 @@ pub(crate) struct Values<M> {
     pid: Pid,
     name: &'static str,
     pub(crate) bound: Bound,
+    /// The kind of a message.
+    kind: fn(&M) -> u32,
     // `None` once the process has exited
     kept: Mutex<Option<Kept<M>>>,
 }
@@ -38,14 +42,14 @@ struct Kept<M> {
     last: i64,
     /// No message has a smaller number. (it is known only where the oldest is dropped)
     oldest: i64,
-    messages: HashMap<i64, M>,
+    messages: Numbered<M>,
     /// The room that messages take in an inbox with a bound.
-    tickets: HashMap<i64, Ticket>,
+    tickets: Numbered<Ticket>,
     /// The open calls from outside.
-    calls: HashMap<i64, Arc<dyn Fails>>,
+    calls: Numbered<Arc<dyn Fails>>,
     /// The text of its own panic.
     crash: Option<Arc<str>>,
-    answers: HashMap<i64, Given>,
+    answers: Numbered<Given>,
     /// The texts of panics, each with the epoch in which it was put.
     panics: HashMap<News, (u64, Arc<str>)>,
 }
@@ -90,18 +94,18 @@ pub(crate) trait Slot: Send + Sync {
 }
 
 impl<M> Values<M> {
-    pub(crate) fn new(pid: Pid, name: &'static str, bound: Bound) -> Values<M> {
+    pub(crate) fn new(pid: Pid, name: &'static str, bound: Bound, kind: fn(&M) -> u32) -> Values<M> {
         let kept = Kept {
             last: 0,
             oldest: 0,
-            messages: HashMap::new(),
-            tickets: HashMap::new(),
-            calls: HashMap::new(),
+            messages: Numbered::default(),
+            tickets: Numbered::default(),
+            calls: Numbered::default(),
             crash: None,
-            answers: HashMap::new(),
+            answers: Numbered::default(),
             panics: HashMap::new(),
         };
-        Values { pid, name, bound, kept: Mutex::new(Some(kept)) }
+        Values { pid, name, bound, kind, kept: Mutex::new(Some(kept)) }
     }
 
     /// (nothing of the program's own runs under the lock: values are moved, and dropped outside of it)
@@ -127,6 +131,30 @@ impl<M> Values<M> {
         drop(state);
         drop(oldest.map(|(message, ticket)| (drop_quietly(message), ticket)));
         Ok(number)
+    }
+
+    /// The kind of the letter of a message.
+    pub(crate) fn letter_of(&self, message: &M) -> u32 {
+        letter((self.kind)(message))
+    }
+
+    /// Puts a message back that was taken, under its number. It is dropped if the process has exited, and the oldest is if too
+    /// many wait then.
+    pub(crate) fn put_back(&self, number: i64, message: M) {
+        let mut state = self.lock();
+        let dropped = match &mut *state {
+            Some(kept) => {
+                kept.oldest = kept.oldest.min(number - 1);
+                kept.messages.insert(number, message);
+                match self.bound {
+                    Bound::DropOldest(most) if kept.messages.len() > most => kept.take_oldest(),
+                    _ => None,
+                }
+            }
+            None => Some((message, None)),
+        };
+        drop(state);
+        drop(dropped.map(|(message, ticket)| (drop_quietly(message), ticket)));
     }
 
     /// Whether more messages wait than may, by which the process is to crash.

@@ -1,15 +1,20 @@
 //! A process with its behaviour, whatever the type of that is.
 
 use super::address::Address;
+use super::aside::{Aside, Held, Told};
 use super::behaviour::{Behaviour, Bound, Down, Event, Exit};
 use super::calls::{Answer, CallFault, Calls, number_of};
 use super::context::{Context, demonitor};
-use super::payloads::{News, Slot, quietly};
+use super::gone::{Gone, gone_monitor};
+use super::payloads::{Slot, quietly};
+use super::selection::Wanted;
 use super::supervisor::is_supervisor;
-use super::worker::Worker;
-use super::{ANSWER, MORE, OVER};
+use super::worker::{Worker, news_of};
+use super::{ANSWER, GONE, MORE, OVER};
 use crate::crew::{Next, What};
-use crate::{Body, Item, Pick, Pid, Reason, Ref};
+use crate::{Body, Item, Pick, Pid, Reason};
+use std::mem;
+use std::sync::Arc;
 
 /// A process of a desk.
 pub(crate) trait Actor: Send {
@@ -27,19 +32,57 @@ pub(crate) struct Process<B: Behaviour> {
     behaviour: B,
     me: Address<B::Message>,
     calls: Calls,
+    gone: Gone,
     /// The process that spawned it.
     parent: Option<Pid>,
-    /// What it waits for.
+    /// What it does next, and what it takes then.
     next: Next,
+    wanted: Wanted,
+    /// What it was handed and did not take, and whether it is to take some of that first.
+    aside: Aside<B::Message>,
+    takes_aside: bool,
 }
 
 impl<B: Behaviour> Process<B> {
     pub(crate) fn new(behaviour: B, me: Address<B::Message>, parent: Option<Pid>) -> Process<B> {
-        Process { behaviour, me, calls: Calls::new(), parent, next: Next::Wait(Pick::Any) }
+        Process {
+            behaviour,
+            me,
+            calls: Calls::default(),
+            gone: Gone::default(),
+            parent,
+            next: Next::Wait(Pick::Any),
+            wanted: Wanted::All,
+            aside: Aside::new(),
+            takes_aside: false,
+        }
     }
 
-    /// What an item is to the handler, or `None` if it is nothing to it, such as an answer that comes too late.
-    fn event_of(&mut self, worker: &mut Worker, item: Item) -> Option<Event<B::Message>> {
+    /// What the handler is told of an item that the library has handed out. `None` if it is told nothing, also since the
+    /// process does not take the item now.
+    fn event_from_table(&mut self, worker: &mut Worker, item: Item) -> Option<Event<B::Message>> {
+        let panic = news_of(item).and_then(|news| self.me.mailbox.take_panic(news));
+        if !matches!(self.wanted, Wanted::All) && !self.wanted.takes(&item, ends_call(&self.calls, &item)) {
+            self.aside.keep(item, panic);
+            return None;
+        }
+        self.event_of(worker, item, panic)
+    }
+
+    /// What the handler is told of what was kept aside, the oldest that it takes, with the item and its number.
+    fn event_from_aside(&mut self, worker: &mut Worker) -> Option<(Event<B::Message>, Item, u64)> {
+        while self.aside.has(self.wanted, |item| ends_call(&self.calls, item)) {
+            let Held { age, item, panic, event, .. } = self.aside.take()?;
+            if let Some(event) = event.or_else(|| self.event_of(worker, item, panic)) {
+                return Some((event, item, age));
+            }
+        }
+        None
+    }
+
+    /// What an item is to the handler, with the text of the panic that it is the news of. `None` if it is nothing to it, such as
+    /// an answer that comes too late.
+    fn event_of(&mut self, worker: &mut Worker, item: Item, panic: Option<Arc<str>>) -> Option<Event<B::Message>> {
         match item {
             Item::User(_, Body { kind: ANSWER, num: number, .. }) => {
                 let given = self.me.mailbox.take_answer(number)?;
@@ -49,19 +92,28 @@ impl<B: Behaviour> Process<B> {
                 let given = Err(CallFault::Timeout(self.holder(worker, number)));
                 self.close(worker, number).then_some(Event::Answer(Answer { number, given }))
             }
+            Item::User(_, Body { kind: GONE, num: number, .. }) => {
+                let (monitor, pid) = (gone_monitor(number), self.gone.remove(&number)?);
+                Some(Event::Down(Down { monitor, pid, reason: Reason::Noproc, panic: None }))
+            }
             // (a mailbox was read)
             Item::User(_, Body { kind: MORE, .. }) => Some(Event::Proceed),
             Item::User(_, Body { num, .. }) => match self.me.mailbox.take(num) {
                 Some(message) => Some(Event::Message(message)),
                 None => matches!(self.me.mailbox.bound, Bound::DropOldest(_)).then_some(Event::Lost),
             },
-            Item::Down(monitor, pid, reason) => Some(self.down(worker, monitor, pid, reason)),
-            Item::Exit(pid, reason) => {
-                let panic = self.me.mailbox.take_panic(News::Exit(pid));
-                Some(Event::Exit(Exit { pid, reason, panic }))
-            }
+            Item::Down(monitor, pid, reason) => Some(self.down(worker, Down { monitor, pid, reason, panic })),
+            Item::Exit(pid, reason) => Some(Event::Exit(Exit { pid, reason, panic })),
             Item::Alive(..) => None,
         }
+    }
+
+    /// What it does next if something was kept aside: it takes that first, if it waits for it.
+    fn next_with_aside(&mut self) -> Next {
+        let waits = matches!(self.next, Next::Wait(_) | Next::WaitUntil(..));
+        self.takes_aside = waits && self.aside.has(self.wanted, |item| ends_call(&self.calls, item));
+        // (so the others of its desk have their turn, too)
+        if self.takes_aside { Next::Proceed } else { self.next }
     }
 
     /// The process whose handler runs on the desk that was asked, if that is another desk than this one.
@@ -71,46 +123,70 @@ impl<B: Behaviour> Process<B> {
     }
 
     /// The news of a monitor, which may be that of a call.
-    fn down(&mut self, worker: &mut Worker, monitor: Ref, pid: Pid, reason: Reason) -> Event<B::Message> {
-        let (number, panic) = (number_of(monitor), self.me.mailbox.take_panic(News::Down(monitor)));
+    fn down(&mut self, worker: &mut Worker, down: Down) -> Event<B::Message> {
+        let number = number_of(down.monitor);
         if self.close(worker, number) {
-            Event::Answer(Answer { number, given: Err(CallFault::Down(reason, panic)) })
+            Event::Answer(Answer { number, given: Err(CallFault::Down(down.reason, down.panic)) })
         } else {
-            Event::Down(Down { monitor, pid, reason, panic })
+            Event::Down(down)
         }
     }
 
     /// Ends a call, and returns whether it was open.
     fn close(&mut self, worker: &mut Worker, number: i64) -> bool {
         let Some(open) = self.calls.remove(&number) else { return false };
+        self.aside.look_again();
         if let Some(alarm) = open.alarm {
             worker.alarms.cancel(alarm);
         }
         if let Some(monitor) = open.monitor {
+            self.aside.forget(monitor);
             demonitor(worker, &self.me, monitor);
         }
         true
     }
 }
 
+/// Whether an item ends a call that is open.
+fn ends_call(calls: &Calls, item: &Item) -> bool {
+    match *item {
+        Item::User(_, Body { kind: ANSWER | OVER, num, .. }) => calls.contains_key(&num),
+        Item::Down(monitor, ..) => calls.contains_key(&number_of(monitor)),
+        Item::User(..) | Item::Exit(..) | Item::Alive(..) => false,
+    }
+}
+
 impl<B: Behaviour> Actor for Process<B> {
     fn told(&mut self, worker: &mut Worker, what: What) -> Next {
-        let event = match what {
+        let held;
+        let mut told = None;
+        let event = match &what {
             What::Start(_) | What::Exit(..) => None,
+            What::Proceed if mem::take(&mut self.takes_aside) => {
+                let Some((event, item, age)) = self.event_from_aside(worker) else { return self.next };
+                held = item;
+                told = Some(Told { item: &held, age: Some(age) });
+                Some(event)
+            }
             What::Proceed => Some(Event::Proceed),
             What::Timeout => Some(Event::Timeout),
-            What::Item(item) => match self.event_of(worker, item) {
-                Some(event) => Some(event),
-                None => return self.next,
-            },
+            What::Item(item) => {
+                told = Some(Told { item, age: None });
+                match self.event_from_table(worker, *item) {
+                    Some(event) => Some(event),
+                    None => return self.next,
+                }
+            }
         };
-        let mut cx = Context { worker, me: &self.me, calls: &mut self.calls, parent: self.parent };
+        let Process { me, calls, aside, gone, parent, .. } = self;
+        let mut cx = Context { worker, me, calls, aside, told, gone, parent: *parent };
         let next = match event {
             Some(event) => self.behaviour.handle(&mut cx, event),
             None => self.behaviour.started(&mut cx),
         };
+        self.wanted = next.wanted();
         self.next = next.for_crew(&self.me.hub);
-        self.next
+        if self.aside.is_empty() { self.next } else { self.next_with_aside() }
     }
 
     fn ended(self: Box<Self>, worker: &mut Worker, why: Reason) {

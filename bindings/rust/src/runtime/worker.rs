@@ -6,7 +6,7 @@ use super::asked::tell_dropped;
 use super::behaviour::{Behaviour, Bound};
 use super::hub::{END, GO_ON, Hub, KILL, Origin};
 use super::inbox::{Place, Task};
-use super::payloads::{News, drop_quietly, quietly};
+use super::payloads::{News, Values, drop_quietly, quietly};
 use super::process::{Actor, Process};
 use super::report::Report;
 use super::supervision::Supervision;
@@ -398,6 +398,13 @@ impl Worker {
         self.say(self.porter, to, kind, num);
     }
 
+    /// The same for the process whose handler runs. It fails if there is no memory or no stamp.
+    pub(crate) fn tell_itself(&mut self, me: Pid, kind: u32, num: i64) -> Result<(), Fault> {
+        let porter = self.porter;
+        let sent = self.desk().send(porter, me, Body { kind, num, who: None });
+        self.noted(sent)
+    }
+
     /// The answer of a call of the desk, of which it is noted if there was no memory or no stamp: then the run halts.
     pub(crate) fn noted<T>(&mut self, answer: Result<T, Fault>) -> Result<T, Fault> {
         if let Err(fault @ (Fault::Memory | Fault::Worn)) = answer {
@@ -439,7 +446,8 @@ impl Worker {
         behaviour: B,
         bound: Bound,
     ) -> Address<B::Message> {
-        let address = Address::new(pid, std::any::type_name::<B>(), bound, &self.hub);
+        let values = Values::new(pid, std::any::type_name::<B>(), bound, B::kind);
+        let address = Address::new(values, &self.hub);
         self.place().admit(address.mailbox.clone());
         self.hub.alive.fetch_add(1, SeqCst);
         self.hub.spawned.fetch_add(1, SeqCst);
@@ -537,7 +545,7 @@ pub(crate) fn text_of(what: &(dyn Any + Send)) -> &str {
 }
 
 /// The news that an item is.
-fn news_of(item: Item) -> Option<News> {
+pub(crate) fn news_of(item: Item) -> Option<News> {
     match item {
         Item::Down(monitor, ..) => Some(News::Down(monitor)),
         Item::Exit(pid, _) => Some(News::Exit(pid)),

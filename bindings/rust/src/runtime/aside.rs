@@ -1,0 +1,120 @@
+//! What the library has handed out to a process that does not take it now: it waits here, in order, until the process
+//! takes it. The values of messages stay with the others that the process has not taken.
+
+use super::behaviour::Event;
+use super::payloads::Values;
+use super::selection::Wanted;
+use super::{ANSWER, OVER};
+use crate::{Body, Item, Ref};
+use std::collections::VecDeque;
+use std::sync::Arc;
+
+/// An item that waits.
+pub(crate) struct Held<M> {
+    /// A number: those that the library has handed out later have greater ones.
+    pub(crate) age: u64,
+    pub(crate) item: Item,
+    /// The text of the panic of which it is the news.
+    pub(crate) panic: Option<Arc<str>>,
+    /// What the handler was told and has postponed, unless that is a message.
+    pub(crate) event: Option<Event<M>>,
+    /// Whether it waits until the process retries what it has postponed.
+    is_postponed: bool,
+}
+
+/// The item that a handler is told now.
+#[derive(Clone, Copy)]
+pub(crate) struct Told<'a> {
+    pub(crate) item: &'a Item,
+    /// Its number, if it has one already.
+    pub(crate) age: Option<u64>,
+}
+
+/// The items that wait for one process, the oldest first.
+pub(crate) struct Aside<M> {
+    held: VecDeque<Held<M>>,
+    /// The greatest number of an item.
+    last: u64,
+    /// How many of the first are not taken by `looked`, for which the process has looked last.
+    seen: usize,
+    looked: Wanted,
+    /// Whether there may be an item that ends a call.
+    has_answers: bool,
+}
+
+impl<M> Aside<M> {
+    pub(crate) fn new() -> Aside<M> {
+        Aside { held: VecDeque::new(), last: 0, seen: 0, looked: Wanted::All, has_answers: false }
+    }
+
+    pub(crate) fn is_empty(&self) -> bool {
+        self.held.is_empty()
+    }
+
+    /// The number of the item that the library has just handed out.
+    fn count(&mut self) -> u64 {
+        self.last += 1;
+        self.last
+    }
+
+    /// Keeps an item that the library has just handed out.
+    pub(crate) fn keep(&mut self, item: Item, panic: Option<Arc<str>>) {
+        let age = self.count();
+        self.has_answers |= matches!(item, Item::User(_, Body { kind: ANSWER | OVER, .. }));
+        self.held.push_back(Held { age, item, panic, event: None, is_postponed: false });
+    }
+
+    /// Looks for the oldest item that is taken now, and returns whether there is one.
+    pub(crate) fn has(&mut self, wanted: Wanted, ends_call: impl Fn(&Item) -> bool) -> bool {
+        if self.looked != wanted {
+            (self.looked, self.seen) = (wanted, 0);
+        }
+        let ends = |held: &Held<M>| matches!(held.event, Some(Event::Answer(_))) || ends_call(&held.item);
+        let is_taken = |held: &Held<M>| !held.is_postponed && wanted.takes(&held.item, ends(held));
+        let found = self.held.iter().skip(self.seen).position(is_taken);
+        self.seen += found.unwrap_or(self.held.len() - self.seen);
+        found.is_some()
+    }
+
+    /// Takes the item out that the last look has found.
+    pub(crate) fn take(&mut self) -> Option<Held<M>> {
+        self.held.remove(self.seen)
+    }
+
+    /// Keeps what the handler is told now, in its place, until the process retries it.
+    pub(crate) fn postpone(&mut self, Told { age, item }: Told<'_>, event: Event<M>, values: &Values<M>) {
+        let (age, item) = (age.unwrap_or_else(|| self.count()), *item);
+        let event = match (event, item) {
+            (Event::Message(message), Item::User(_, Body { num, .. })) => {
+                values.put_back(num, message);
+                None
+            }
+            (event, _) => Some(event),
+        };
+        let place = self.held.partition_point(|held| held.age < age);
+        self.held.insert(place, Held { age, item, panic: None, event, is_postponed: true });
+        self.seen += usize::from(place < self.seen);
+    }
+
+    /// All that was postponed may be taken.
+    pub(crate) fn retry(&mut self) {
+        self.held.iter_mut().for_each(|held| held.is_postponed = false);
+        self.seen = 0;
+    }
+
+    /// A call has ended: the next look is at all items, among which others of the call may be. They are nothing to the handler.
+    pub(crate) fn look_again(&mut self) {
+        if self.has_answers {
+            self.seen = 0;
+        }
+    }
+
+    /// Drops the news of a monitor that was taken back.
+    pub(crate) fn forget(&mut self, monitor: Ref) {
+        let is_of = |held: &Held<M>| matches!(held.item, Item::Down(of, ..) if of == monitor);
+        if let Some(place) = self.held.iter().position(is_of) {
+            self.held.remove(place);
+            self.seen -= usize::from(place < self.seen);
+        }
+    }
+}
