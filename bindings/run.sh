@@ -183,6 +183,7 @@ echo "c: examples passed"
     RUSTDOCFLAGS="-D warnings" cargo doc -q --offline --no-deps --workspace
     cargo run -q --offline --example supervisor | diff "$here/c/supervisor.out" -
     cargo run -q --offline --example crew_supervisors | diff "$here/c/crew_supervisors.out" -
+    cargo run -q --offline --example code_lock | diff examples/code_lock.out -
     cargo run -q --offline --example ring >"$work/printed"
     cargo run -q --offline --example ping_pong 200 >"$work/printed"
     if cargo clippy --version >/dev/null 2>&1; then
@@ -230,6 +231,12 @@ fi
 # The telephone exchange: lines crash in calls and are started again, each partner hears of it, and its history is legal
 "$here/../.ci/bounded" 120 "$chat/exchange" "$work/exchange.history" 200 2>"$work/panics" || { tail -n 20 "$work/panics"; exit 1; }
 "$here/../bin/pt_audit" "$work/exchange.history"
+"$here/../.ci/bounded" 120 "$chat/exchange" "$work/exchange" 100 30000 2>"$work/panics" || { tail -n 20 "$work/panics"; exit 1; }
+"$here/../bin/pt_audit" --save "$work/exchange.state" - </dev/null >"$work/printed"
+for history in "$work"/exchange.000001.*; do
+    "$here/../bin/pt_audit" --resume "$work/exchange.state" --save "$work/exchange.state" --complete "$history"
+done
+[ -e "$work/exchange.000001.000002" ] || { echo "rust: the history has one file"; exit 1; }
 echo "rust: the telephone exchange passed"
 
 # Python: tests beside the sources, and the package as pip installs it, without a network

@@ -47,7 +47,7 @@ __all__ = [
     "ANY", "BUILD", "EVENTS", "ITEMS", "JOBS", "KILL", "KILLED", "NEXTS", "NOPROC", "NORMAL", "PICKS", "PROCEED", "REASONS",
     "RUNNING", "SHUTDOWN", "SIGNALS", "Account", "Body", "Busy", "Code", "Config", "Crew", "Desk", "Event", "Fault",
     "Gathered", "History", "Ids", "Item", "Job", "LeftOver", "LinkId", "Loss", "Next", "NotGoneOn", "Pick", "Pid", "Quiet",
-    "Reason", "Ref", "Settled", "Signal", "Turned", "Unsettled", "gather", "go_on", "open_node",
+    "Reason", "Ref", "Signal", "Turned", "Unsettled", "gather", "go_on", "open_node",
 ]
 
 T = TypeVar("T")
@@ -79,9 +79,9 @@ class Busy(RuntimeError):
 # The calls of this module by those of the library that they make, where these have other names.
 _CALLS = {
     "open": "open_node", "settle": "Gathered.settle", "settle_unlisted": "Gathered.settle_unlisted", "resume": "Quiet.resume",
-    "resume_settled": "Settled.resume", "event_at": "events", "next_woken": "woken", "link_count": "links", "link_at": "links",
+    "event_at": "events", "next_woken": "woken", "link_count": "links", "link_at": "links",
     "monitor_count": "monitors", "monitor_at": "monitors", "watcher_count": "watchers", "watcher_at": "watchers",
-    "peek": "waiting", "loss_at": "next_loss", "loss_item": "next_loss", "quiet_pid_at": "Quiet.pids",
+    "peek": "waiting", "loss_at": "next_loss", "loss_item": "next_loss", "quiet_list": "Quiet.pids", "quiet_pid_at": "Quiet.pids",
     "history_at": "History.events", "history_left_at": "History.left_over", "history_count": "History.__len__",
     "crew_len": "Crew.__len__", "crew_open": "Crew", "crew_note_loss": "Crew.next_loss", "crews_go_on": "go_on",
     "ask_until": "ask", "door_open": "way_in", "way_in_take": "WayIn.take", "way_in_len": "WayIn.__len__",
@@ -93,7 +93,7 @@ def _called(call: Callable[..., int]) -> str:
     """The name of the call of this module that makes this one of the library."""
     name = getattr(call, "__name__", "").removeprefix("pt_")
     where, _, rest = name.partition("_")
-    is_of = where in ("crew", "gathered", "settled", "quiet", "history", "timers", "names", "door")
+    is_of = where in ("crew", "gathered", "quiet", "history", "timers", "names", "door")
     return _CALLS.get(name) or (f"{where.capitalize()}.{rest}" if is_of else name)
 
 
@@ -608,7 +608,7 @@ class Crew(_Held):
 
     def go_on(self, desk: Desk, history: History) -> None:
         """Goes on over the desk of the same number in the node that was resumed, with the history of the node before:
-        `gather`, `Gathered.settle_unlisted`, `Settled.history`, `Settled.resume`, and this for the crew of each desk. The
+        `gather`, `Gathered.settle_unlisted`, `Quiet.history`, `Quiet.resume`, and this for the crew of each desk. The
         reason of each exit in the history is told once the exit is. The function `go_on` does all of that in one call."""
         node = self._again(desk)
         with of_type("history", history, History)._held_alone():
@@ -764,7 +764,7 @@ class Gathered(_Held):
         return _history(self, lib.pt_gathered_history)
 
     def settle(self) -> Quiet:
-        """Delivers the letters left over; this value is empty afterwards.
+        """Delivers the letters left over; this value is empty afterwards. The settled node has the list of its pids.
 
         Unsettled: WORN if a clock is at its limit, MEMORY. The node has what was handled so far, and may be settled again.
         """
@@ -774,42 +774,13 @@ class Gathered(_Held):
             raise _fault(lib.pt_settle, (), code, Unsettled)
         return quiet
 
-    def settle_unlisted(self) -> Settled:
-        """The same without the list of all pids that ever were: a pause then costs what happened since the last one."""
-        settled = Settled()._from(self)
-        code = self._call(lib.pt_settle_unlisted, settled._at)
+    def settle_unlisted(self) -> Quiet:
+        """The same without the list of all pids that ever were: a pause then costs what happened since the last one.
+        `Quiet.pids` makes the list if it is asked for."""
+        quiet = Quiet()._from(self)
+        code = self._call(lib.pt_settle_unlisted, quiet._at)
         if code:
             raise _fault(lib.pt_settle_unlisted, (), code, Unsettled)
-        return settled
-
-
-class Settled(_Held):
-    """A settled node without the list of its pids."""
-
-    _give_up = "pt_settled_give_up"
-
-    def history(self) -> History:
-        """The events of all desks in one legal order."""
-        return _history(self, lib.pt_settled_history)
-
-    def desks(self) -> int:
-        """How many desks the node has."""
-        return self._give(lib.pt_settled_desks, c.c_uint8()).value
-
-    def handled(self) -> int:
-        """How many letters settling handled."""
-        return self._give(lib.pt_settled_handled, c.c_uint64()).value
-
-    def resume(self) -> list[Desk]:
-        """Resumes the node, as `Quiet.resume` does. This value is empty afterwards."""
-        handles = (CHandle * self.desks())()
-        self._must(lib.pt_resume_settled, handles, len(handles))
-        return _desks_of(handles, self._opened)
-
-    def into_quiet(self) -> Quiet:
-        """The settled node with the list of all pids that ever were. This value is empty afterwards."""
-        quiet = Quiet()._from(self)
-        self._must(lib.pt_settled_into_quiet, quiet._at)
         return quiet
 
 
@@ -841,7 +812,11 @@ class Quiet(_Held):
         return self._give(lib.pt_quiet_handled, c.c_uint64()).value
 
     def pids(self) -> Iterator[Pid]:
-        """The pids of all processes that were ever spawned, by shard, slot and version."""
+        """The pids of all processes that were ever spawned, by shard, slot and version.
+
+        The list of them is made if the node has none (`Gathered.settle_unlisted`). Fault: MEMORY, and the node is as it was.
+        """
+        self._must(lib.pt_quiet_list)
         return self._each(lib.pt_quiet_pid_at, CPid, pid_of)
 
     def account(self, p: Pid) -> Optional[Account]:
@@ -931,10 +906,10 @@ class NotGoneOn(Fault):
     """A node that has not gone on. Nothing is lost: `go_on` with its `node` and the same crews does the rest."""
 
     # the desks, or the gathered or the settled node, with what was done
-    node: Union[list[Desk], Gathered, Settled]
+    node: Union[list[Desk], Gathered, Quiet]
 
 
-def _crews_of(crews: Sequence[Crew], node: Union[list[Desk], Gathered, Settled]) -> list[Crew]:
+def _crews_of(crews: Sequence[Crew], node: Union[list[Desk], Gathered, Quiet]) -> list[Crew]:
     """The crews, if they are those of the desks of the node, in order."""
     crews = _all_of("crews", crews, Crew)
     count = len(node) if isinstance(node, list) else node.desks()
@@ -947,7 +922,7 @@ def _crews_of(crews: Sequence[Crew], node: Union[list[Desk], Gathered, Settled])
     return crews
 
 
-def go_on(node: Union[Sequence[Desk], Gathered, Settled], crews: Sequence[Crew]) -> tuple[list[Desk], History]:
+def go_on(node: Union[Sequence[Desk], Gathered, Quiet], crews: Sequence[Crew]) -> tuple[list[Desk], History]:
     """Goes on with a whole node, at any time between two steps: gathers its desks, settles it, takes its history, and
     resumes it. Each crew goes on over the desk of its number, as by `Crew.go_on`. Returns the desks, with empty journals, and
     what happened since they had empty journals last. What was passed as `node` is empty then.
@@ -961,11 +936,11 @@ def go_on(node: Union[Sequence[Desk], Gathered, Settled], crews: Sequence[Crew])
     one: nothing has changed then. NotGoneOn: MEMORY, or WORN if a clock is at its limit. It has the node, with what was
     done, and the crews are as they were.
     """
-    if not isinstance(node, (Gathered, Settled)):
+    if not isinstance(node, (Gathered, Quiet)):
         node = _whole("node", node)
     crews = _crews_of(crews, node)
     held: list[_Held] = [*node] if isinstance(node, list) else [node]
-    gathered, settled, history = Gathered()._from(held[0]), Settled()._from(held[0]), History()
+    gathered, settled, history = Gathered()._from(held[0]), Quiet()._from(held[0]), History()
     alone: list[_Held] = [*held, *crews]
     with ExitStack() as locks:
         for it in alone:

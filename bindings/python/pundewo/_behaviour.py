@@ -7,7 +7,9 @@ from functools import partial
 from typing import TYPE_CHECKING, Any, Callable, NamedTuple, Optional, Union
 
 from ._abi import CCall
-from .values import ANY, NORMAL, U32, Pick, Pid, Reason, Ref, _Checked, of_type, one_of, shown, unchecked
+from ._report import Holder
+from ._selection import Selection, Wants
+from .values import ANY, NORMAL, U32, Pick, Pid, Reason, Ref, _Checked, maybe, of_type, one_of, shown, unchecked
 
 if TYPE_CHECKING:
     from ._process import Context, Seat
@@ -24,10 +26,6 @@ HALTS = KeyboardInterrupt, SystemExit
 
 # What is to be done at a time.
 Alarm = int
-
-# The kinds that messages have in a history: a message, an answer, a request. From NEWS on: the news, under its number, that
-# a process could not be monitored or called since it had exited.
-MESSAGE, ANSWER, REQUEST, NEWS = 1, 2, 3, 16
 
 # The longest time that a limit may be: some thirty years.
 LONGEST = 1e9
@@ -47,37 +45,58 @@ class _Next(NamedTuple):
     pick: Pick
     limit: Optional[float]
     reason: Reason
+    selection: Optional[Selection]
 
 
 NEXTS = ("wait", "proceed", "stop")
 
 
 class Next(_Checked, _Next):
-    """What a process does next. Make one by `wait`, `proceed` or `stop`; None in its place is `wait()`."""
+    """What a process does next. Make one by `wait`, `only`, `proceed` or `stop`; None in its place is `wait()`."""
 
     __slots__ = ()
 
-    def __new__(cls, name: str, pick: Pick = ANY, limit: Optional[float] = None, reason: Reason = NORMAL) -> Next:
+    def __new__(cls, name: str, pick: Pick = ANY, limit: Optional[float] = None, reason: Reason = NORMAL,
+                selection: Optional[Selection] = None) -> Next:
         return unchecked(cls, (
             one_of("Next.name", name, NEXTS), of_type("Next.pick", pick, Pick),
-            None if limit is None else seconds("Next.limit", limit), of_type("Next.reason", reason, Reason)))
+            None if limit is None else seconds("Next.limit", limit), of_type("Next.reason", reason, Reason),
+            maybe("Next.selection", selection, Selection)))
 
     @classmethod
     def wait(cls, limit: Optional[float] = None, pick: Pick = ANY) -> Next:
         """It waits for what this pick takes; all else stays in its mailbox, in order. If nothing comes for so many
         seconds, it gets TIMEOUT."""
         limit = None if limit is None else seconds("limit", limit)
-        return unchecked(cls, ("wait", of_type("pick", pick, Pick), limit, NORMAL))
+        return unchecked(cls, ("wait", of_type("pick", pick, Pick), limit, NORMAL, None))
+
+    @classmethod
+    def only(cls, wants: Union[Pick, Selection, Wants], limit: Optional[float] = None, *, downs: bool = False,
+             exits: bool = False, answers: bool = False) -> Next:
+        """It waits for what this wants, and all else waits, in order: Erlang's `receive Pattern`. If nothing of that comes for
+        so many seconds, it gets TIMEOUT.
+
+        `wants` is a pick of the library, a `Selection`, or what such a one is made of: a kind of messages, a type of their
+        values, a tuple of these, or a function of a message, as `lambda message: message.value > 3`. News of monitors, exit
+        signals and answers of calls wait too, unless `downs`, `exits` or `answers` is set.
+        """
+        limit = None if limit is None else seconds("limit", limit)
+        if isinstance(wants, (Pick, Selection)):
+            if downs or exits or answers:
+                raise ValueError(f"wants is {shown(wants)}, which says itself whether it takes downs, exits and answers")
+            pick, selection = (wants, None) if isinstance(wants, Pick) else (ANY, wants)
+            return unchecked(cls, ("wait", pick, limit, NORMAL, selection))
+        return unchecked(cls, ("wait", ANY, limit, NORMAL, Selection(wants, downs, exits, answers)))
 
     @classmethod
     def proceed(cls) -> Next:
         """It gets PROCEED as soon as the others of its desk have had their turn."""
-        return unchecked(cls, ("proceed", ANY, None, NORMAL))
+        return unchecked(cls, ("proceed", ANY, None, NORMAL, None))
 
     @classmethod
     def stop(cls, reason: Reason = NORMAL) -> Next:
         """It exits with this reason."""
-        return unchecked(cls, ("stop", ANY, None, of_type("reason", reason, Reason)))
+        return unchecked(cls, ("stop", ANY, None, of_type("reason", reason, Reason), None))
 
 
 class Message(NamedTuple):
@@ -111,17 +130,6 @@ class Tick(NamedTuple):
 
 
 TIMEOUT, PROCEED = Tick("timeout"), Tick("proceed")
-
-
-class Holder(NamedTuple):
-    """A process that holds up the run: for so many seconds its handler has not returned, or had not when it did."""
-
-    pid: Pid
-    name: str
-    seconds: float
-
-    def __str__(self) -> str:
-        return f"{self.pid} of {self.name}, in its handler for {self.seconds:.1f} s"
 
 
 def held_up(text: str, holder: Optional[Holder]) -> str:
@@ -277,6 +285,12 @@ class Behaviour(ABC):
 
     # whether it ends the processes that it has spawned, when it is told to exit
     _ends_children = False
+
+    @staticmethod
+    def kind(value: Any) -> int:
+        """The kind of what is sent to such a process, or asked, by which it can choose (`Next.only`): a number from 0 to 65535.
+        Without this all have the kind 0. It is asked for each value once, as that is sent, on the thread of the run."""
+        return 0
 
     def started(self, cx: Context) -> Optional[Next]:
         """It begins. It waits for whatever comes, unless this returns something else."""

@@ -3,26 +3,28 @@
 from __future__ import annotations
 
 import logging
-import traceback
 from collections import deque
 from functools import partial
 from threading import get_ident
 from time import monotonic
 from typing import Any, Callable, Deque, Optional, Union
 
-from . import Code, Config, Desk, Fault, Gathered, History, NotGoneOn, Settled, go_on, open_node
+from . import Code, Config, Desk, Fault, Gathered, History, NotGoneOn, Quiet, go_on, open_node
 from ._archive import Sink
 from ._behaviour import (
-    CRASH, GO_ON, HALTS, KILLS, MESSAGE, OVER, PROCEED, REQUEST, STOP, TIMEOUT, Answer, Behaviour, Call, CallFault,
-    CallTimeout, Down, Event, Exit, Message, Next, Request, RunOver, ServerDown, behaviour_of,
+    CRASH, GO_ON, HALTS, KILLS, OVER, PROCEED, STOP, TIMEOUT, Answer, Behaviour, Call, CallFault, CallTimeout, Down, Event, Exit,
+    Message, Next, Request, RunOver, ServerDown, behaviour_of,
 )
+from ._aside import Aside
 from ._abi import CAnswer, CItem, CJob, CPid
 from ._family import StandIn, Supervising
 from ._library import pid_of, reader, reason_of, ref_of
 from ._process import WAITS, Address, Family, Porter, Seat, bytes_of
 from ._sending import HOLDS, Task, answer_key, kind_of, request_key
+from ._report import Crash, report, text_of
+from ._selection import ANSWER, FIRST_KIND, MESSAGE, NEWS, Waits
 from ._supervisor import Supervisor
-from .values import ITEMS, JOBS, KILL, SHUTDOWN, U8, U64, Body, Pick, Pid, Reason, Ref, unchecked
+from .values import ANY, ITEMS, JOBS, KILL, SHUTDOWN, U8, U64, Body, Pick, Pid, Reason, Ref, unchecked
 
 log = logging.getLogger("pundewo")
 
@@ -36,6 +38,7 @@ JOB = reader(CJob, "code", "tag", "item.code", "item.pid.shard", "item.pid.slot"
 START, ITEM, TIMES_OUT, EXITED = map(JOBS.index, ("start", "item", "timeout", "exit"))
 USER, EXIT, DOWN = map(ITEMS.index, ("user", "exit", "down"))
 PROCEEDS = bytes_of("proceed")
+ANYTHING = Next.wait()
 
 
 class Engine(Supervising):
@@ -53,8 +56,10 @@ class Engine(Supervising):
         self._rows = [(CJob * MOST)() for _ in self.desks]
         self._jobs: list[Deque[tuple[int, Job]]] = [deque() for _ in self.desks]
         self._untold = self.goes_on = False
+        # what the handler is told that runs now
+        self.event: Optional[Event] = None
         # the node, if going on stopped within; the history of the last epoch, if nobody has it yet
-        self._node: Union[None, list[Desk], Gathered, Settled] = None
+        self._node: Union[None, list[Desk], Gathered, Quiet] = None
         self._history: Optional[History] = None
         self.crashes = self.epochs = self.archived = 0
         self.killed: list[Pid] = []
@@ -96,7 +101,17 @@ class Engine(Supervising):
         else:
             self._outside.add(call)
             self.post(lambda: self._begin_ask(call, to, value))
+            # (it may have halted since it was asked whether it has)
+            if self.halted:
+                self._refuse(call)
         return call
+
+    def _refuse(self, call: Call) -> None:
+        """The run halts, and who has made this call from outside is told so, once. (on any thread)"""
+        with self.room:
+            is_open, call.is_open = call.is_open, False
+        if is_open:
+            self._resolve(Answer(call, None, RunOver()))
 
     def give_up(self, call: Call) -> None:
         """A call from outside has ended without its answer: from now on an answer is refused, as one that comes too late."""
@@ -148,15 +163,11 @@ class Engine(Supervising):
         """Whether all that waits is handled, after a round in which nothing was to be done, and no call is open."""
         return not self.inbox and not self._outside and not any(seat.calls for seat in self.seats.values())
 
-    def halt(self, error: BaseException) -> None:
-        """The run stops at an exception, and those outside who wait for it are told so. It may go on."""
-        if self.order == OVER:
-            return
+    def halt(self) -> None:
+        """The run stops at an exception, and those outside who wait for an answer are told so. It may go on."""
         self.halted = True
-        if isinstance(error, Exception):
-            log.error("the run halted: %s", "".join(traceback.format_exception_only(type(error), error)).strip())
         for call in list(self._outside):
-            self._resolve(Answer(call, None, RunOver()))
+            self._refuse(call)
             # (what was asked is asked all the same if the run goes on, and nothing comes of it)
             self.inbox.append(partial(self.close, call))
         self.tell_room(True)
@@ -314,7 +325,7 @@ class Engine(Supervising):
         """Under which the value of a message is kept."""
         if body.who is None:
             return body.num
-        return request_key(sender.shard, body.num) if body.kind == REQUEST else answer_key(to.shard, body.num)
+        return answer_key(to.shard, body.num) if body.kind == ANSWER else request_key(sender.shard, body.num)
 
     # The processes
 
@@ -336,7 +347,7 @@ class Engine(Supervising):
         return address
 
     def take_in(self, pid: Pid, tag: int, behaviour: Behaviour, parent: Optional[Pid], obeys: Optional[Pid] = None) -> Seat:
-        seat = Seat(self, Address(pid, type(behaviour).__name__, self), tag, behaviour, parent)
+        seat = Seat(self, Address(pid, self, type(behaviour)), tag, behaviour, parent)
         self.seats[tag] = self.pids[pid] = seat
         if behaviour._ends_children and isinstance(behaviour, Supervisor):
             porter = self.porters[pid.shard]
@@ -356,13 +367,19 @@ class Engine(Supervising):
         try:
             if code == ITEM and item == USER and kind == MESSAGE:
                 message = unchecked(Message, (self.payloads.pop(num), unchecked(Pid, (shard, slot, version))))
-                next_ = seat.behaviour.handle(seat.cx, message)
-                does = WAITS if next_ is None else self._does(next_)
+                if seat.aside is None:
+                    self.event = message
+                    next_ = seat.behaviour.handle(seat.cx, message)
+                    does = WAITS if next_ is None and seat.aside is None else self._does(seat, next_)
+                else:
+                    does = self._offer(seat, message)
             else:
                 does = self._run(seat, code, self._rows[number][place])
             seat.does = does
             # (for a supervisor it is answered)
-            if does:
+            if does is WAITS:
+                self._answers[number].append(seat.waits)
+            elif does:
                 self._answers[number].append(seat.crossing + does)
         except BaseException as error:
             self._crash(seat, error)
@@ -370,7 +387,8 @@ class Engine(Supervising):
                 raise
         finally:
             # (the next handler begins as this one has returned: so the clock is read once for each)
-            self.running, now = None, monotonic()
+            self.running = self.event = None
+            now = monotonic()
             if now - self.since > HOLDS:
                 self.note_holder(seat, now)
             self.since = now
@@ -387,22 +405,61 @@ class Engine(Supervising):
 
     def _run(self, seat: Seat, code: int, job: CJob) -> bytes:
         """The same for what is told more rarely than a message."""
-        event: Optional[Event] = PROCEED
+        event: Event = PROCEED
         if code == START:
             if seat.family is not None and isinstance(seat.behaviour, Supervisor):
                 self.supervise(seat, seat.behaviour, seat.family)
                 return b""
-            return self._does(seat.behaviour.started(seat.cx))
+            self.event = None
+            return self._does(seat, seat.behaviour.started(seat.cx))
         if code == TIMES_OUT:
             event = TIMEOUT
         elif code == ITEM:
-            event = self._event_of(seat, job.item)
-        return seat.does if event is None else self._does(seat.behaviour.handle(seat.cx, event))
+            came = self._event_of(seat, job.item)
+            if came is None or seat.aside is not None:
+                return seat.does if came is None else self._offer(seat, came)
+            self.event = came
+            next_ = seat.behaviour.handle(seat.cx, came)
+            return WAITS if next_ is None and seat.aside is None else self._does(seat, next_)
+        elif seat.aside is not None:
+            event = self._taken_from_aside(seat.aside) or PROCEED
+        return self._tells(seat, event)
 
-    def _does(self, next_: Optional[Next]) -> bytes:
+    def _tells(self, seat: Seat, event: Event) -> bytes:
+        """Runs the handler of a process, and returns what it does next."""
+        self.event = event
+        return self._does(seat, seat.behaviour.handle(seat.cx, event))
+
+    def _offer(self, seat: Seat, event: Event) -> bytes:
+        """The same of what the library has handed out, if the process takes that now. If not, it waits."""
+        if seat.aside is not None and not seat.aside.came(event):
+            self.kept += isinstance(event, (Message, Request))
+            return seat.does
+        return self._tells(seat, event)
+
+    def _taken_from_aside(self, aside: Aside) -> Optional[Event]:
+        """What a process takes first of all that it did not take before."""
+        event = aside.take()
+        self.kept -= isinstance(event, (Message, Request))
+        return event
+
+    def postpone(self, seat: Seat, event: Event) -> bool:
+        """Puts what the handler is told back into its place. False if it is told another thing, or this was put back."""
+        if event is not self.event or seat is not self.running:
+            return False
+        self.event = None
+        if seat.aside is None:
+            seat.aside = Aside(type(seat.behaviour).kind)
+        seat.aside.postpone(event)
+        self.kept += isinstance(event, (Message, Request))
+        return True
+
+    def _does(self, seat: Seat, next_: Optional[Next]) -> bytes:
         """What a handler has returned, for a crew, whose times are points in time."""
         if next_ is None:
-            return WAITS
+            if seat.aside is None:
+                return WAITS
+            next_ = ANYTHING
         if not isinstance(next_, Next):
             raise TypeError(f"a handler returned {next_!r}, and must return None or a Next")
         if next_.name == "stop":
@@ -410,11 +467,28 @@ class Engine(Supervising):
         if next_.name == "proceed":
             return PROCEEDS
         pick = next_.pick
+        if seat.aside is not None or next_.selection is not None:
+            chosen = self._chosen(seat, next_.selection or pick)
+            if chosen is None:
+                return PROCEEDS
+            pick = chosen
         if pick.name == "down-of" and isinstance(pick.what, Ref) and pick.what.desk == U8:
             pick = Pick("kind", kind_of(pick.what.number))
         if next_.limit is None:
-            return bytes_of("wait", pick=pick)
+            return WAITS if pick is ANY else bytes_of("wait", pick=pick)
         return bytes_of("wait-until", pick=pick, until=self._at(next_.limit))
+
+    def _chosen(self, seat: Seat, waits: Waits) -> Optional[Pick]:
+        """What the library is to hand out for what a process waits for. None if it is told first what it did not take before."""
+        chosen = waits if isinstance(waits, Pick) else waits.pick()
+        if chosen is None and seat.aside is None:
+            seat.aside = Aside(type(seat.behaviour).kind)
+        if seat.aside is not None:
+            if seat.aside.finds(waits):
+                return None
+            if seat.aside.is_over():
+                seat.aside = None
+        return ANY if chosen is None else chosen
 
     def _event_of(self, seat: Seat, item: CItem) -> Optional[Event]:
         """What an item is to the handler, or None if it is nothing to it, such as an answer that comes too late."""
@@ -439,13 +513,16 @@ class Engine(Supervising):
         """The value of a message, or None if it was taken back, or nobody waits for it any more."""
         body = item.body
         if not body.has_who:
-            event: Optional[Event] = self.payloads.pop(body.num, None)
+            value: Any = self.payloads.pop(body.num, None)
+            if FIRST_KIND <= body.kind < NEWS:
+                return Message(value, pid_of(item.pid))
+            event: Optional[Event] = value
             if not isinstance(event, Answer):
                 return event
             # (an answer that the server has not sent itself, or that its time is over)
             is_late = isinstance(event.fault, CallTimeout)
             return event if self.expire(event.call, self.now() if is_late else U64) else None
-        if body.kind == REQUEST:
+        if body.kind != ANSWER:
             asked: Optional[Event] = self.payloads.pop(request_key(item.pid.shard, body.num), None)
             return asked
         answer: Optional[Event] = self.payloads.pop(answer_key(seat.pid.shard, body.num), None)
@@ -464,7 +541,7 @@ class Engine(Supervising):
 
     def _crash(self, seat: Seat, error: BaseException) -> None:
         """A handler has raised: its process exits at once, and those who hear of it find the text."""
-        text = "".join(traceback.format_exception_only(type(error), error)).strip()
+        text = text_of(error)
         self.crashes += 1
         desk = self.desks[seat.pid.shard]
         for monitor, owner in desk.watchers(seat.pid) or ():
@@ -475,7 +552,7 @@ class Engine(Supervising):
             desk.exit(seat.pid, CRASH)
         except Fault:  # no memory: the crew tries again
             self._answers[seat.pid.shard].append(seat.crossing + bytes_of("stop", reason=CRASH))
-        log.error("%s of %s crashed: %s", seat.pid, seat.cx.me.name, text, exc_info=error)
+        report(logging.ERROR, Crash(seat.pid, seat.cx.me.name, text), error=error)
 
     def _leave_text(self, of: Pid, key: Union[Ref, Pid], text: str) -> None:
         """Keeps the text of a crash for a process that gets news of it. (a supervisor of a crew reads none)"""
@@ -501,7 +578,7 @@ class Engine(Supervising):
             del self.seats[seat.tag]
         kid = self.kids.get(seat.tag)
         if kid is not None and kid.seat is seat:
-            kid.end()
+            kid.end(why)
         if seat.family is not None:
             seat.cx.me._crossing = CPid(*seat.pid)
             self.end_family(seat, seat.family, why)
@@ -513,6 +590,9 @@ class Engine(Supervising):
             self._untold = True
         for call in list(seat.calls.values()):
             self.close(call)
+        if seat.aside is not None:
+            self.kept -= seat.aside.messages()
+            seat.aside = None
         self.since, self.running = monotonic(), seat
         try:
             seat.behaviour.ended(why)

@@ -343,7 +343,7 @@ class Supervising(Sending):
             crew.restart_child(seat.pid, kid.tag)
         except Fault:  # it runs
             return False
-        kid.address = None
+        kid.address = kid.why = None
         if not self._make(kid):
             crew.terminate_child(seat.pid, kid.tag)
         yield from self._settles(seat, family, kid)

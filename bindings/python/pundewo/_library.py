@@ -48,7 +48,7 @@ def load() -> c.CDLL:
     except OSError as error:
         raise ImportError(
             f"pundewo: the shared library does not load ({error}). `bindings/build.sh FOLDER` makes it; name it by "
-            "PUNDEWO_SO, or install the package with it: see docs/EMBEDDING.md") from None
+            "PUNDEWO_SO, or install the package with it: see docs/RUNTIME_PYTHON.md") from None
 
 
 def other(what: str) -> ImportError:

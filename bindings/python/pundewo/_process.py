@@ -3,6 +3,7 @@
 from __future__ import annotations
 
 import asyncio
+import logging
 from collections import deque
 from threading import get_ident
 from time import monotonic
@@ -13,11 +14,15 @@ from . import Next as Does
 from ._abi import CAnswer, CPid
 from ._library import c_next
 from ._behaviour import (
-    GO_ON, MESSAGE, OVER, Alarm, Answer, Behaviour, Call, CallTimeout, Down, Event, InboxFull, Request, RunOver, seconds,
+    GO_ON, OVER, Alarm, Answer, Behaviour, Call, CallTimeout, Down, Event, Exit, InboxFull, Message, Request,
+    RunOver, Tick, seconds,
 )
-from .values import ANY, NOPROC, SHUTDOWN, Pid, Reason, Ref, flag, number, of_type
+from ._report import Restart, report
+from ._selection import MESSAGE, letter
+from .values import ANY, NOPROC, NORMAL, SHUTDOWN, Pid, Reason, Ref, flag, number, of_type
 
 if TYPE_CHECKING:
+    from ._aside import Aside
     from ._engine import Engine
     from ._supervisor import StartChild
 
@@ -25,10 +30,12 @@ if TYPE_CHECKING:
 class Address:
     """A process of a run, to which anything can be sent. It stays valid when the process has exited."""
 
-    __slots__ = ("pid", "name", "_engine", "_crossing")
+    __slots__ = ("pid", "name", "_engine", "_crossing", "_kind")
 
-    def __init__(self, pid: Pid, name: str, engine: Engine):
-        self.pid, self.name, self._engine = pid, name, engine
+    def __init__(self, pid: Pid, engine: Engine, behaviour: type[Behaviour]):
+        self.pid, self.name, self._engine = pid, behaviour.__name__, engine
+        # what gives a value its kind, if the behaviour does
+        self._kind = None if behaviour.kind is Behaviour.kind else behaviour.kind
         # where it is sent to, as the library takes it, made once: itself, or the porter of a supervisor
         self._crossing = CPid(*pid)
 
@@ -154,7 +161,8 @@ WAITS = bytes_of("wait", pick=ANY)
 class Seat:
     """A process with its behaviour."""
 
-    __slots__ = ("pid", "tag", "behaviour", "cx", "calls", "texts", "does", "told", "crossing", "names", "family")
+    __slots__ = ("pid", "tag", "behaviour", "cx", "calls", "texts", "does", "told", "aside", "crossing", "waits", "names",
+                 "family")
 
     def __init__(self, engine: Engine, address: Address, tag: int, behaviour: Behaviour, parent: Optional[Pid]):
         self.pid, self.tag, self.behaviour = address.pid, tag, behaviour
@@ -166,10 +174,14 @@ class Seat:
         # what it was to do when it was told something
         self.does = WAITS
         self.told = GO_ON
+        # what it was handed and does not take now, if it chooses
+        self.aside: Optional[Aside] = None
         # the names that it was given
         self.names: list[str] = []
         # its pid, as an answer to a crew begins with it
         self.crossing = bytes(CPid(*address.pid)).ljust(CAnswer.next.offset, b"\0")
+        # the answer that it waits for whatever comes
+        self.waits = self.crossing + WAITS
         # the children, if it is a supervisor
         self.family: Optional[Family] = None
 
@@ -177,7 +189,7 @@ class Seat:
 class Kid:
     """A child of a supervisor, as it was asked for: its process, while it has one, and where that is sent to."""
 
-    __slots__ = ("above", "family", "start", "tag", "made", "seat", "pid", "address", "runs")
+    __slots__ = ("above", "family", "start", "tag", "made", "seat", "pid", "address", "runs", "why")
 
     def __init__(self, above: Seat, family: Family, start: StartChild, tag: int):
         self.above, self.family, self.start, self.tag = above, family, start, tag
@@ -188,14 +200,20 @@ class Kid:
         self.pid: Optional[Pid] = None
         self.address: Optional[Address] = None
         self.runs = False
+        # why the process before exited, if the supervisor starts it again by itself
+        self.why: Optional[Reason] = None
 
     def begin(self, address: Address) -> None:
         """Its process has begun."""
         self.family.running += not self.runs
         self.address, self.runs = address, True
+        if self.why is not None:
+            level = logging.INFO if self.why in (NORMAL, SHUTDOWN) else logging.WARNING
+            report(level, Restart(self.above.pid, self.start.name, address.pid, self.why))
 
-    def end(self) -> None:
+    def end(self, why: Reason) -> None:
         """Its process has exited."""
+        self.why = why
         if self.runs:
             self.runs = False
             self.family.running -= 1
@@ -289,7 +307,7 @@ class Context:
             of_type("to", to, Address)
         if to._engine is not engine:
             return to.send(value)
-        return engine.carry(MESSAGE, self.me, to, value)
+        return engine.carry(MESSAGE if to._kind is None else letter(to._kind(value), MESSAGE), self.me, to, value)
 
     def send_after(self, time: float, to: Address, value: Any) -> Timer:
         """Sends a message after so many seconds: Erlang's `send_after`. It comes also if this process has exited."""
@@ -304,8 +322,24 @@ class Context:
         return of_type("timer", timer, Timer)._engine is engine and engine.cancel_alarm(timer._alarm)
 
     def waiting(self) -> int:
-        """How many items wait for this process."""
-        return len(self._here().desks[self.pid.shard].waiting(self.pid) or ())
+        """How many items wait for this process, with those that it does not take now."""
+        return len(self._here().desks[self.pid.shard].waiting(self.pid) or ()) + len(self._seat.aside or ())
+
+    def postpone(self, event: Event) -> bool:
+        """Puts what the handler is told back into its place: `postpone` of Erlang's `gen_statem`. It waits there, also if the
+        process would take it, until `retry`. It returns False, and nothing is postponed, if the handler is not told this now,
+        if it was postponed before, or if it is TIMEOUT or PROCEED, which did not wait."""
+        if not isinstance(event, (Message, Request, Down, Exit, Answer)):
+            of_type("event", event, Tick)
+            return False
+        return self._here().postpone(self._seat, event)
+
+    def retry(self) -> None:
+        """What was postponed may be taken from now on, in order, before what has come since: what `gen_statem` does as the
+        state changes. What a pick of the library took out before older ones comes again before them, too."""
+        self._here()
+        if self._seat.aside is not None:
+            self._seat.aside.retry()
 
     def register(self, name: str, process: Optional[Address] = None) -> bool:
         """Gives a process, or this one, a name, as `Runtime.register` does."""

@@ -11,16 +11,15 @@ from typing import Any, Callable, Deque, Optional
 
 from . import Code, Desk, Fault
 from ._behaviour import (
-    ANSWER, GO_ON, MESSAGE, NEWS, OVER, REQUEST, Alarm, Answer, Call, CallTimeout, Event, Holder, Request, ServerDown,
-    Unanswered,
+    GO_ON, OVER, Alarm, Answer, Call, CallTimeout, Event, Request, ServerDown, Unanswered,
 )
 from ._abi import HEARD_CODES, CBody, CCall, CHeard, CItem, CRequest, CTimer
 from ._process import Address, Seat
+from ._report import Holder, report
+from ._selection import ANSWER, MESSAGE, NEWS, REQUEST, letter
 from .asking import AskFault, _ask, _expire, _hear, _reply
 from .tools import Timers
 from .values import NOPROC, U8, U32, U64, Pid, Ref, of_type
-
-log = logging.getLogger("pundewo")
 
 Task = Callable[[], object]
 
@@ -60,6 +59,8 @@ class Sending:
         self.porters: list[Address] = []
         # the messages that nobody has taken yet, by the numbers that the table carries
         self.payloads: dict[int, Any] = {}
+        # how many were handed out to processes that do not take them now
+        self.kept = 0
         # the open calls from outside, and those whose requests were dropped without an answer
         self._outside: set[Call] = set()
         self._dropped: list[Call] = []
@@ -100,7 +101,7 @@ class Sending:
 
     def waiting(self) -> int:
         """How many messages nobody has taken yet. (with what else those outside want)"""
-        return len(self.payloads) + len(self.inbox)
+        return len(self.payloads) + self.kept + len(self.inbox)
 
     def has_room(self) -> bool:
         return self.most is None or self.waiting() + self._told + len(self._turns) < self.most
@@ -200,7 +201,7 @@ class Sending:
     def send(self, sender: Address, to: Address, value: Any) -> bool:
         if to._engine is not self:
             return to.send(value)
-        return self.carry(MESSAGE, sender, to, value)
+        return self.carry(MESSAGE if to._kind is None else letter(to._kind(value), MESSAGE), sender, to, value)
 
     def news(self, seat: Seat, make: Callable[[Ref], Event]) -> Ref:
         """Tells a process at once what would have come if its target had exited later. The reference is of no desk."""
@@ -222,6 +223,8 @@ class Sending:
 
     def demonitor(self, seat: Seat, monitor: Ref) -> None:
         seat.texts.pop(monitor, None)
+        if seat.aside is not None:
+            seat.aside.forget(monitor)
         if monitor.desk == U8:
             self.payloads.pop(monitor.number, None)
         else:
@@ -235,7 +238,8 @@ class Sending:
         call.client, call.server, desk = seat, to.pid, self.desks[seat.pid.shard]
         began, until = monotonic(), U64 if limit is None else self._at(limit)
         try:
-            asked = _ask(desk, seat.cx.me._crossing, to._crossing, REQUEST, until)
+            kind = REQUEST if to._kind is None else letter(to._kind(value), REQUEST)
+            asked = _ask(desk, seat.cx.me._crossing, to._crossing, kind, until)
         except AskFault as fault:
             if fault.left_open is not None:
                 self.left_open.add(fault.left_open)
@@ -360,7 +364,7 @@ class Sending:
         holder = Holder(seat.pid, seat.cx.me.name, now - self.since)
         self._held = holder, now
         if holder.seconds > SLOW:
-            log.warning("the run was held up by %s", holder)
+            report(logging.WARNING, holder, "the run was held up by %s")
 
     def blame(self, began: float) -> Optional[Holder]:
         """Who holds up the run, or did since then, on any thread. A handler that still runs is warned of once."""
@@ -369,7 +373,7 @@ class Sending:
             return held[0] if held is not None and held[1] > began else None
         if self._warned != since:
             self._warned = since
-            log.warning("the run is held up by %s", holder)
+            report(logging.WARNING, holder, "the run is held up by %s")
         return holder
 
     # Times

@@ -28,15 +28,17 @@ crashed its process, and no other.
 
 Proved is what is below: the table; the crew that says which process is told what, and has the supervisors (`pundewo.Crew`);
 timers; that a call ends once; how a node goes on; and what a desk tells of its losses. Not proved, since nothing checks Python,
-but tested: this module, with the values beside the table, names, what comes from outside, what makes a child, and children on
-another desk than their supervisor's.
+but tested: this module, with the values beside the table, names, what comes from outside, what a process does not take now, what
+makes a child, and children on another desk than their supervisor's.
 """
 
 from __future__ import annotations
 
 import asyncio
 import concurrent.futures
+import logging
 import threading
+import weakref
 from collections import deque
 from time import monotonic
 from typing import Any, Callable, Deque, NamedTuple, Optional, TypeVar
@@ -44,21 +46,23 @@ from typing import Any, Callable, Deque, NamedTuple, Optional, TypeVar
 from . import Config
 from ._archive import HistoryFile, Sink
 from ._behaviour import (
-    ANSWER, CRASH, GO_ON, KILLS, MESSAGE, OVER, PROCEED, REQUEST, STOP, TIMEOUT, Answer, Behaviour, Call, CallFault,
-    CallTimeout, Down, Event, Exit, Holder, InboxFull, Message, Next, Request, RunOver, ServerDown, SpawnTimeout, Tick, Unanswered,
-    behaviour_of, held_up, seconds,
+    CRASH, GO_ON, KILLS, OVER, PROCEED, STOP, TIMEOUT, Answer, Behaviour, Call, CallFault, CallTimeout, Down, Event, Exit,
+    InboxFull, Message, Next, Request, RunOver, ServerDown, SpawnTimeout, Tick, Unanswered, behaviour_of, held_up, seconds,
 )
 from ._engine import Engine
 from ._process import Address, Context, Timer
+from ._report import Crash, Halt, Holder, Report, Restart, report, text_of
+from ._selection import ANSWER, FIRST_KIND, MESSAGE, REQUEST, Selection
 from ._supervisor import (
     BRUTAL_KILL, INFINITY, WHICH_CHILDREN, Child, DeleteChild, RestartChild, StartChild, Supervisor, TerminateChild,
 )
-from .values import NORMAL, SHUTDOWN, U8, U64, Pid, Reason, flag, number, of_type
+from .values import NORMAL, SHUTDOWN, U8, U64, Pid, Reason, flag, number, of_type, shown
 
 __all__ = [
-    "ANSWER", "BRUTAL_KILL", "CRASH", "INFINITY", "MESSAGE", "PROCEED", "REQUEST", "TIMEOUT", "WHICH_CHILDREN", "Address",
-    "Answer", "Behaviour", "Call", "CallFault", "CallTimeout", "Child", "Context", "DeleteChild", "Down", "Event", "Exit",
-    "HistoryFile", "Holder", "InboxFull", "Mailbox", "Message", "Next", "NotEnded", "Request", "RestartChild", "RunOver", "Runtime",
+    "ANSWER", "BRUTAL_KILL", "CRASH", "FIRST_KIND", "INFINITY", "MESSAGE", "PROCEED", "REQUEST", "TIMEOUT",
+    "WHICH_CHILDREN", "Address", "Answer", "Behaviour", "Call", "CallFault", "CallTimeout", "Child", "Context", "Crash",
+    "DeleteChild", "Down", "Event", "Exit", "Halt", "Halted", "HistoryFile", "Holder", "InboxFull", "Mailbox",
+    "Message", "Next", "NotEnded", "Report", "Request", "Restart", "RestartChild", "RunOver", "Runtime", "Selection",
     "ServerDown", "Sink", "SpawnTimeout", "StartChild", "Summary", "Supervisor", "TerminateChild", "Tick", "Timer",
     "Unanswered",
 ]
@@ -80,6 +84,13 @@ def is_late(future: concurrent.futures.Future[Any], limit: float) -> bool:
     except BaseException:
         future.cancel()
         raise
+
+
+def sink_of(value: Optional[Sink]) -> Optional[Sink]:
+    """The value, which is a sink or None."""
+    if value is not None and not callable(value):
+        raise TypeError(f"archive is {shown(value)}, and must be callable with a History")
+    return value
 
 
 class Summary(NamedTuple):
@@ -104,6 +115,18 @@ class NotEnded(Exception):
         return type(self), (self.holder,)
 
 
+class Halted(NotEnded):
+    """A run that halted, and is not over: `why` is the exception. `Runtime.run` goes on, but in an asyncio program."""
+
+    def __init__(self, why: BaseException):
+        super().__init__()
+        self.why = why
+        self.args = (f"the run halted: {text_of(why)}",)
+
+    def __reduce__(self) -> tuple[Any, ...]:
+        return type(self), (self.why,)
+
+
 class Runtime:
     """A node whose processes run on one thread: that of an asyncio program (`async with`), or the one that calls `run`.
 
@@ -115,8 +138,7 @@ class Runtime:
 
     def __init__(self, desks: int = 1, *, slots: int = 1023, lane: int = 64, going_on_every: int = 20_000,
                  archive: Optional[Sink] = None, patience: float = 5.0, inbox: Optional[int] = None):
-        if archive is not None and not callable(archive):
-            raise TypeError(f"archive is {archive!r}, and must be callable with a History")
+        archive = sink_of(archive)
         desks, every = number("desks", desks, 0, U8), number("going_on_every", going_on_every, 1, U64)
         most = None if inbox is None else number("inbox", inbox, 1, U64)
         # (each desk has one process more, which sends what comes from outside)
@@ -125,6 +147,12 @@ class Runtime:
         self._engine.most = most
         self._lock = threading.RLock()
         self._over = threading.Event()
+        # set while it does not run, since it halted or is over, and why it halted
+        self._rests = threading.Event()
+        self._why: Optional[BaseException] = None
+        # who waits for a spawn, and the mailboxes that are read
+        self._spawning: set[concurrent.futures.Future[Any]] = set()
+        self._mailboxes: weakref.WeakSet[Mailbox] = weakref.WeakSet()
         self._task: Optional[asyncio.Task[None]] = None
         self._next_desk = 0
 
@@ -159,25 +187,32 @@ class Runtime:
 
     def _here(self, work: Callable[[], T], limit: float) -> T:
         """What this returns on the thread of the run. SpawnTimeout if it has not begun in time, and then it never does."""
+        future: concurrent.futures.Future[T] = concurrent.futures.Future()
         with self._lock:
             if self._engine.thread is None:
                 return work()
+            if self._engine.halted:
+                raise RunOver
+            if not self._engine.is_here():
+                self._spawning.add(future)
         if self._engine.is_here():
             return work()
-        future: concurrent.futures.Future[T] = concurrent.futures.Future()
         began = monotonic()
 
         def task() -> None:
-            if future.set_running_or_notify_cancel():
+            if not future.done() and future.set_running_or_notify_cancel():
                 try:
                     future.set_result(work())
                 except Exception as error:
                     future.set_exception(error)
 
         self._engine.post(task)
-        if is_late(future, limit):
-            raise SpawnTimeout(self._engine.blame(began))
-        return future.result()
+        try:
+            if is_late(future, limit):
+                raise SpawnTimeout(self._engine.blame(began))
+            return future.result()
+        finally:
+            self._spawning.discard(future)
 
     def call(self, to: Address, value: Any, limit: float = 5.0) -> Any:
         """Asks a process of the run from another thread, and waits for its answer for so many seconds at most, whatever the
@@ -268,14 +303,17 @@ class Runtime:
             return self._engine.unregister(name)
 
     def wait(self, limit: Optional[float] = None) -> Summary:
-        """Waits on another thread until the run is over. NotEnded if it is not after so many seconds, with the process whose
-        handler is running then."""
-        limit = None if limit is None else seconds("limit", limit)
+        """Waits on another thread until the run is over. `Halted` if it halts. NotEnded if it is not over after so many seconds,
+        with the process whose handler is running then."""
+        until = None if limit is None else monotonic() + seconds("limit", limit)
         if self._engine.is_here():
             raise RuntimeError("this thread runs the processes, and would wait for itself")
-        if not self._over.wait(limit):
-            raise NotEnded(self._engine.holder(0.0))
-        return self.summary()
+        while self._rests.wait(None if until is None else max(0.0, until - monotonic())):
+            if self._why is not None:
+                raise Halted(self._why)
+            if self._over.is_set():
+                return self.summary()
+        raise NotEnded(self._engine.holder(0.0))
 
     def waiting(self) -> int:
         """How many messages nobody has taken yet. (with what else those outside want)"""
@@ -310,6 +348,7 @@ class Runtime:
                 if self._is_done(forever):
                     engine.finish()
                     self._over.set()
+                    self._rests.set()
                     return self.summary()
                 if not busy:
                     with rung:
@@ -317,7 +356,7 @@ class Runtime:
                             rung.wait(engine.rest_time())
                         is_rung = False
         except BaseException as error:
-            engine.halt(error)
+            self._halt(error)
             raise
         finally:
             engine.thread = None
@@ -330,10 +369,38 @@ class Runtime:
                 raise RuntimeError("this run is running")
             self._engine.thread, self._engine.ring = threading.get_ident(), ring
             self._engine.halted = False
+            self._why = None
+            self._rests.clear()
+
+    def _halt(self, error: BaseException) -> None:
+        """The run stops at an exception. All outside who wait for it are told so."""
+        with self._lock:
+            if self._engine.order == OVER:
+                return
+            self._why = error
+            self._engine.halt()
+            for future in list(self._spawning):
+                if not future.done() and future.set_running_or_notify_cancel():
+                    future.set_exception(RunOver())
+            for mailbox in list(self._mailboxes):
+                mailbox._tell(mailbox._wake)
+        # (its hook is the program's own, and may ask the run something)
+        report(logging.ERROR if isinstance(error, Exception) else logging.WARNING, Halt(error))
+        self._rests.set()
 
     def _is_done(self, forever: bool) -> bool:
         engine = self._engine
         return (engine.order != GO_ON or not forever) and engine.is_empty()
+
+    def with_archive(self, archive: Optional[Sink]) -> Runtime:
+        """Hands the histories to another sink from now on, also the one that the last one did not take: for a run that halted,
+        before `run` goes on. RuntimeError if it is running. It returns this run."""
+        archive = sink_of(archive)
+        with self._lock:
+            if self._engine.thread is not None:
+                raise RuntimeError("this run is running")
+            self._engine.sink = archive
+        return self
 
     def close(self) -> None:
         """Drops a run that is not running, with all that it has. Nothing more is handed out."""
@@ -342,7 +409,9 @@ class Runtime:
                 raise RuntimeError("this run is running: stop it")
             if self._engine.order != OVER:
                 self._engine.abandon()
+            self._why = None
         self._over.set()
+        self._rests.set()
 
     # With asyncio
 
@@ -404,13 +473,14 @@ class Runtime:
                         alarm.cancel()
                 rung.clear()
         except BaseException as error:
-            engine.halt(error)
+            self._halt(error)
             raise
         finally:
             if engine.order != OVER:
                 engine.abandon()
             engine.thread = None
             self._over.set()
+            self._rests.set()
 
 
 class Mailbox:
@@ -427,6 +497,8 @@ class Mailbox:
         self._waiting: Deque[asyncio.Future[None]] = deque()
         self._is_closed = False
         self.address = runtime.spawn(_Reader(self), desk)
+        with runtime._lock:
+            runtime._mailboxes.add(self)
 
     def __repr__(self) -> str:
         return f"<Mailbox of {self.address.pid}{', closed' if self._is_closed else ''}>"
@@ -447,7 +519,8 @@ class Mailbox:
         return event
 
     async def get(self, limit: Optional[float] = None) -> Event:
-        """The next event. asyncio.TimeoutError if there is none for so many seconds; RunOver if none comes any more."""
+        """The next event. asyncio.TimeoutError if there is none for so many seconds; RunOver if none comes any more, or since the
+        run halted."""
         limit = None if limit is None else seconds("limit", limit)
         event = await asyncio.wait_for(self._take(), limit)
         if event is None:
@@ -458,6 +531,8 @@ class Mailbox:
         while not self._events:
             if self._is_closed:
                 return None
+            if self._engine.halted:
+                raise RunOver
             waiting: asyncio.Future[None] = self._loop.create_future()
             self._waiting.append(waiting)
             await waiting

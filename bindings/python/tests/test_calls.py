@@ -144,7 +144,6 @@ CALLS: dict[str, dict[str, dict[str, Domain]]] = {
         "woken": {"start": LONG}, "close": {},
     },
     "Gathered": {"desks": {}, "history": {}, "settle": {}, "settle_unlisted": {}, "close": {}},
-    "Settled": {"history": {}, "desks": {}, "handled": {}, "resume": {}, "into_quiet": {}, "close": {}},
     "Quiet": {
         "history": {}, "desks": {}, "resume": {}, "handled": {}, "pids": {}, "account": {"p": PID},
         "linked": {"p": PID, "peer": PID}, "kept": {"target": PID, "monitor": REF},
@@ -173,7 +172,7 @@ ERRORS = {"Fault", "NotGoneOn", "Unsettled", "Busy", "Code"}
 TYPES = {int: Ints, bool: Flag, typing.Sequence[p.Desk]: Desks, p.Desk: OneDesk,
          typing.Sequence[tuple[p.Pid, p.Next]]: Answers, typing.Sequence[p.Crew]: Crews, s.SupervisorSpec: Specs,
          typing.Sequence[s.ChildSpec]: Kids, s.ChildSpec: Kid, p.History: Histories,
-         typing.Union[typing.Sequence[p.Desk], p.Gathered, p.Settled]: Nodes}
+         typing.Union[typing.Sequence[p.Desk], p.Gathered, p.Quiet]: Nodes}
 
 
 def public_calls(where: str) -> dict[str, Callable[..., Any]]:
@@ -236,15 +235,14 @@ class Node:
             desk.turn()
         here.send(self.b, self.a, p.Body(9, 9))
         self.gathered = p.gather(p.open_node())
-        self.settled = p.gather(p.open_node()).settle_unlisted()
         self.quiet = p.gather(p.open_node()).settle()
         self.history = self.quiet.history()
         self.crew = p.Crew(here)
         self.crew.spawn(here, 7)
         self.crews = [self.crew, p.Crew(there)]
         self.at: dict[str, Any] = {
-            "Desk": here, "Crew": self.crew, "Gathered": self.gathered, "Settled": self.settled, "Quiet": self.quiet,
-            "History": self.history, "": p}
+            "Desk": here, "Crew": self.crew, "Gathered": self.gathered, "Quiet": self.quiet, "History": self.history,
+            "": p}
 
     def call(self, where: str, name: str) -> Callable[..., Any]:
         call: Callable[..., Any] = getattr(self.at[where], name)

@@ -97,7 +97,7 @@ class Crews(unittest.TestCase):
         self.assertEqual(self.step(self.crew, desks[0]), [Job("item", b, 2, Item("user", a, body=Body(1, 5)))])
         self.assertTrue(self.crew.answer(a, WAIT))
         # and once more, of a node with the list of its pids
-        again = p.gather(desks).settle_unlisted().into_quiet().resume()
+        again = p.gather(desks).settle().resume()
         self.crew.begin_again(again[0])
         self.assertEqual(self.step(self.crew, again[0]), [])
 

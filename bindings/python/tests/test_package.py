@@ -37,9 +37,9 @@ class Faults(unittest.TestCase):
         desk, other = desks
         pid, ref, crew = desk.spawn(), p.Ref(0, 1), p.Crew(desk)
         gathered = p.gather(p.open_node())
-        settled, quiet = p.gather(p.open_node()).settle_unlisted(), p.gather(p.open_node()).settle()
+        quiet = p.gather(p.open_node()).settle()
         history = quiet.history()
-        for held in (desk, crew, gathered, settled, quiet, history):
+        for held in (desk, crew, gathered, quiet, history):
             held.close()
         words: dict[str, Any] = {
             "pid": pid, "parent": pid, "sender": pid, "to": pid, "p": pid, "peer": pid, "watcher": pid, "target": pid,
@@ -47,7 +47,7 @@ class Faults(unittest.TestCase):
             "linked": False, "does": p.PROCEED, "answers": [], "now": 0, "spec": SupervisorSpec(), "children": [], "child": ChildSpec(1), "place": 0,
             "history": history}
         count = 0
-        for held in (desk, crew, gathered, settled, quiet, history):
+        for held in (desk, crew, gathered, quiet, history):
             where = type(held).__name__
             for name, call in inspect.getmembers(type(held), inspect.isfunction):
                 if name.startswith("_") and name != "__len__" or name in ("close", "begin_again"):

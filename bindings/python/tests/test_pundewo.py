@@ -452,8 +452,8 @@ class Handles(unittest.TestCase):
         with self.assertRaises(Fault) as caught:
             settled.resume()
         self.assertEqual(caught.exception.code, Code.EMPTY)
-        quiet = p.gather(more).settle_unlisted().into_quiet()
-        self.assertEqual(list(quiet.pids()), [a, b])
+        quiet = p.gather(more).settle_unlisted()
+        self.assertEqual((quiet.account(b), list(quiet.pids()), list(quiet.pids())), (p.Account(None, 0, 0, 0), [a, b], [a, b]))
 
     def test_a_process_of_another_desk_is_gone(self) -> None:
         (desk,) = p.open_node()

@@ -73,6 +73,16 @@ class Callables(Domain):
         yield Echo()
 
 
+class Chosen(Domain):
+    """What a selection wants."""
+
+    def bounds(self) -> list[Any]:
+        return [0, 2**16 - 1, (), (0, int), int, Echo, r.Request, lambda message: True]
+
+    def bad(self, draw: random.Random) -> Iterator[Any]:
+        yield from (None, True, 1.5, "", "kind", b"x", -1, 2**16, 2**70, (True,), (1, "x"), ((),), [], [1], {}, object())
+
+
 class Ends(Seconds):
     """A time, INFINITY or BRUTAL_KILL."""
 
@@ -94,6 +104,7 @@ def elsewhere() -> r.Address:
     return r.Runtime().spawn(Echo())
 
 
+WANTS, EVENT, SELECTION = Chosen(), Things(), Things()
 FLAG, VALUE, SECONDS, MAYBE_SECONDS = Flag(), Anything(), Seconds(), Option(Seconds())
 DESK, MAYBE_DESK, ANY_DESK = Ints(0, 1), Option(Ints(0, 1)), Option(Ints(0, 255))
 BEHAVIOUR, MAKE, NAME = Things(Echo, r.TIMEOUT), Callables(), Things(but=str)
@@ -104,6 +115,8 @@ STRATEGY, RESTART = Only("one_for_one", "one_for_all", "rest_for_one"), Only("pe
 CHILD = {"make": MAKE, "name": NAME, "desk": ANY_DESK, "shutdown": Option(Ends())}
 CALL: dict[str, Domain] = {"to": ADDRESS, "value": VALUE, "limit": SECONDS}
 
+APART = {"downs": FLAG, "exits": FLAG, "answers": FLAG}
+
 # Each public call of each class, with its parameters; the call "" makes a value.
 CALLS: dict[str, dict[str, dict[str, Domain]]] = {
     "Runtime": {
@@ -113,7 +126,7 @@ CALLS: dict[str, dict[str, dict[str, Domain]]] = {
         "mailbox": {"desk": MAYBE_DESK}, "wait": {"limit": MAYBE_SECONDS}, "run": {"forever": FLAG},
         "stop": {}, "waiting": {}, "summary": {}, "close": {}, "ended": {}, "drain": {"limit": SECONDS}, "is_drained": {}, "go_on": {},
         "exit": {"process": ADDRESS, "reason": REASON}, "register": {"name": NAME, "process": ADDRESS},
-        "whereis": {"name": NAME}, "unregister": {"name": NAME},
+        "whereis": {"name": NAME}, "unregister": {"name": NAME}, "with_archive": {"archive": SINK},
     },
     "Address": {
         "is_alive": {}, "send": {"value": VALUE}, "try_send": {"value": VALUE}, "send_async": {"value": VALUE},
@@ -126,14 +139,17 @@ CALLS: dict[str, dict[str, dict[str, Domain]]] = {
         "demonitor": {"monitor": REF}, "link": {"to": TARGET}, "unlink": {"to": TARGET},
         "exit": {"to": TARGET, "reason": REASON}, "trap": {"on": FLAG}, "call": CALL,
         "reply": {"request": REQUEST, "value": VALUE}, "now": {}, "waiting": {},
-        "register": {"name": NAME, "process": MAYBE_ADDRESS}, "whereis": {"name": NAME},
+        "register": {"name": NAME, "process": MAYBE_ADDRESS}, "whereis": {"name": NAME}, "postpone": {"event": EVENT}, "retry": {},
     },
     "Mailbox": {"": {"runtime": RUN, "desk": MAYBE_DESK}, "get": {"limit": MAYBE_SECONDS}, "monitor": {"target": ADDRESS},
                 "close": {}},
     "Next": {
-        "": {"name": Only("wait", "proceed", "stop"), "pick": PICK, "limit": MAYBE_SECONDS, "reason": REASON},
+        "": {"name": Only("wait", "proceed", "stop"), "pick": PICK, "limit": MAYBE_SECONDS, "reason": REASON,
+             "selection": Option(SELECTION)},
         "wait": {"limit": MAYBE_SECONDS, "pick": PICK}, "proceed": {}, "stop": {"reason": REASON},
+        "only": {"wants": WANTS, "limit": MAYBE_SECONDS, **APART},
     },
+    "Selection": {"": {"wants": WANTS, **APART, "but": FLAG}, "all_but": {"wants": WANTS, **APART}, "pick": {}},
     "Supervisor": {
         "": {"strategy": STRATEGY, "patience": SECONDS}, "one_for_one": {"patience": SECONDS},
         "one_for_all": {"patience": SECONDS}, "rest_for_one": {"patience": SECONDS},
@@ -141,11 +157,12 @@ CALLS: dict[str, dict[str, dict[str, Domain]]] = {
     },
     "StartChild": {"": {"make": MAKE, "name": NAME, "restart": RESTART, "desk": ANY_DESK, "shutdown": Option(Ends())}},
     "TerminateChild": {"": {"name": NAME}}, "RestartChild": {"": {"name": NAME}}, "DeleteChild": {"": {"name": NAME}},
-    "HistoryFile": {"": {"path": PATH}}, "Request": {"reply": {"value": VALUE}}, "Answer": {"result": {}},
+    "HistoryFile": {"": {"path": PATH}, "append": {"path": PATH}, "rotating": {"path": PATH, "most": Ints(1, 2**64 - 1)}},
+    "Request": {"reply": {"value": VALUE}}, "Answer": {"result": {}},
 }
 # What the run makes and a program reads, and what a program writes itself.
-READ = {"Call", "CallFault", "CallTimeout", "Child", "Down", "Exit", "Holder", "InboxFull", "Message", "NotEnded", "RunOver",
-        "ServerDown", "SpawnTimeout", "Summary", "Tick", "Timer", "Unanswered"}
+READ = {"Call", "CallFault", "CallTimeout", "Child", "Crash", "Down", "Exit", "Halt", "Halted", "Holder",
+        "InboxFull", "Message", "NotEnded", "Restart", "RunOver", "ServerDown", "SpawnTimeout", "Summary", "Tick", "Timer", "Unanswered"}
 WRITTEN = {"Behaviour"}
 
 
@@ -185,6 +202,7 @@ class Case:
             return made
         at: dict[str, Any] = {
             "Runtime": self.run, "Address": self.child, "Context": self.cx, "Mailbox": self.mailbox, "Next": r.Next,
+            "Selection": r.Selection(1), "HistoryFile": r.HistoryFile,
             "Supervisor": r.Supervisor.one_for_one()}
         call: Callable[..., Any] = getattr(at[where], name)
         return self.begun(call) if inspect.iscoroutinefunction(call) else call
@@ -204,6 +222,7 @@ class Case:
             FLAG: True, VALUE: 1, SECONDS: 1.0, MAYBE_SECONDS: 1.0, DESK: 1, MAYBE_DESK: 1, ANY_DESK: 1, BEHAVIOUR: Echo(),
             MAKE: Echo, NAME: "name", ANY_ADDRESS: self.child, ADDRESS: self.child, MAYBE_ADDRESS: self.child, TARGET: self.child, TIMER: self.timer,
             REQUEST: self.request, RUN: self.run, SINK: self.file, PATH: self.file.path, REF: self.monitor,
+            WANTS: 7, EVENT: r.TIMEOUT, SELECTION: r.Selection(int),
             REASON: p.Reason("other", 3), PICK: p.ANY, WORD: 8}
         return {word: values[domain] if domain in values else domain.bounds()[-1] for word, domain in words.items()}
 
@@ -244,7 +263,7 @@ class Calls(unittest.TestCase):
                             given, said = {**case.good(words), word: bad}, f"{where}.{name}: {word} {shown(bad)}"
                             with self.assertRaises((TypeError, ValueError), msg=said) as caught:
                                 case.of(where, name)(**given)
-                            if where != "HistoryFile":
+                            if word != "path":
                                 self.assertIn(word, str(caught.exception), said)
                             self.assertEqual(case.told(), before, said)
                             count += 1

@@ -11,30 +11,7 @@ from typing import Any
 import pundewo as p
 from pundewo import runtime as r
 
-from behaviours import Doing, Echo, Stubborn, in_asyncio, noted, quiet, until, wait_until
-
-
-class Running:
-    """A run on a thread of its own, and the exception at which it stopped."""
-
-    def __init__(self, run: r.Runtime, stops: bool = True) -> None:
-        self.run, self.error, self.stops = run, list[BaseException](), stops
-        self.thread = threading.Thread(target=self._work)
-
-    def _work(self) -> None:
-        try:
-            self.run.run(forever=True)
-        except BaseException as error:
-            self.error.append(error)
-
-    def __enter__(self) -> Running:
-        self.thread.start()
-        return self
-
-    def __exit__(self, *_: object) -> None:
-        if self.stops:
-            self.run.stop()
-        self.thread.join(60)
+from behaviours import Doing, Echo, Running, Stubborn, in_asyncio, noted, quiet, until, wait_until
 
 
 class Gate(r.Behaviour):
