@@ -4,9 +4,9 @@
     tools/api.py > docs/API.md      writes the page anew
     tools/api.py --compare          prints the first line that differs, with status 1
 
-The page has a section for each crate of `CRATES`. A type or a call is there with its signature, the first sentence of
-its documentation, and the sentences that say when it fails. A type also has the traits of these crates that it
-implements.
+The page has a table of contents and a section for each crate of `CRATES`. A type or a call is there with its signature,
+the first sentence of its documentation, and the sentences that say when it fails. A type also has the traits of these
+crates that it implements.
 """
 from __future__ import annotations
 
@@ -34,6 +34,8 @@ Made from the sources by `tools/api.py`; the gate compares it. `use pt_node::{{.
 Each other crate has a section of its own. [RUNTIME](RUNTIME.md) explains crews, supervisors, calls and desks that rest,
 [TIMERS](TIMERS.md) timers and names. The documentation and the contract of each call are in the named file.
 """
+
+CONTENTS = "## Contents"
 
 ITEM = re.compile(r"pub (struct|enum|trait|fn|const) (\w+)")
 IMPL = re.compile(r"^impl(?:<[^>]*>)? (\w+)(?:<[^>]*>)? \{")
@@ -226,15 +228,44 @@ def section(crate: str, traits: dict[tuple[str, str], list[str]]) -> Iterator[st
             yield "\n".join(entry(line, doc) for doc, line in item.calls)
 
 
+def anchors(headings: list[str]) -> Iterator[str]:
+    """The anchor that a code host gives each heading of a page: its words in small letters, joined by hyphens, and a
+    number behind one that was there before."""
+    seen: dict[str, int] = {}
+    for text in headings:
+        words = re.sub(r"[^\w -]", "", text.lstrip("#").strip().lower()).replace(" ", "-")
+        count = seen[words] = seen.get(words, -1) + 1
+        yield f"{words}-{count}" if count else words
+
+
+def short(text: str) -> str:
+    """What a heading is about: the name of a type, of a constant, or of a function."""
+    words = re.match(r"#+ `(?:(?:const|unsafe|fn) )*(\w+)", text)
+    return f"`{words[1]}`" if words else text.lstrip("# ")
+
+
+def contents(body: list[str]) -> str:
+    """A line for each crate, with links to its section and to each of its types and functions."""
+    headings = [part for part in body if part.startswith("#")]
+    links = zip(headings, anchors(headings))
+    lines: list[str] = []
+    for text, anchor in links:
+        link = f"[{short(text)}](#{anchor})"
+        if text.startswith("### "):
+            lines[-1] += (", " if lines[-1].endswith(")") else " ") + link
+        elif text.startswith("## ") and text != CONTENTS:
+            lines.append(f"- {link}:")
+    return "\n".join(wrapped(line.rstrip(":"), "  ").removeprefix("  ") for line in lines)
+
+
 def page() -> str:
     """The whole page."""
     crates = [crate for crate in CRATES if front(crate).exists()]
     names = [f"`{crate}`" for crate in crates]
     traits = implemented(crates)
-    out = [HEAD.format(crates=f"{', '.join(names[:-1])} and {names[-1]}").rstrip("\n")]
-    for crate in crates:
-        out += section(crate, traits)
-    return "\n\n".join(out) + "\n"
+    head = HEAD.format(crates=f"{', '.join(names[:-1])} and {names[-1]}").rstrip("\n")
+    body = [part for crate in crates for part in section(crate, traits)]
+    return "\n\n".join([head, CONTENTS, contents([*head.split("\n\n"), CONTENTS, *body]), *body]) + "\n"
 
 
 def main() -> None:

@@ -20,7 +20,7 @@ from collections.abc import Iterator
 from pathlib import Path
 
 ROOT = Path(__file__).resolve().parent.parent
-BOUNDS = {"words": 0, "functions": 0, "prose": 0, "sentences": 0, "crates": 58}
+BOUNDS = {"words": 0, "functions": 0, "prose": 0, "sentences": 0, "crates": 57}
 MOST_LINES = 30
 MOST_LETTERS = 300
 MOST_WORDS = 30

@@ -3,9 +3,9 @@
 
     tools/quotes.py
 
-A line '<!-- quotes FILE -->' stands before a block of code. FILE is named from the top of the repository. Each line of
-the block is one of the file's, in the order of the file; a line '..' stands for any lines. The last line is 'N passed,
-M failed', and the status is 0 if nothing failed.
+A line '<!-- quotes FILE -->' stands before a block of code, of any language. FILE is named from the top of the
+repository. Each line of the block is one of the file's, in the order of the file; a line '..' stands for any lines. The
+last line is 'N passed, M failed', and the status is 0 if nothing failed.
 """
 from __future__ import annotations
 
@@ -14,7 +14,7 @@ import sys
 from pathlib import Path
 
 ROOT = Path(__file__).resolve().parent.parent
-QUOTED = re.compile(r"^<!-- quotes (\S+) -->\n```\n(.*?)^```$", re.M | re.S)
+QUOTED = re.compile(r"^<!-- quotes (\S+) -->\n```\w*\n(.*?)^```$", re.M | re.S)
 MARKED = re.compile(r"^<!-- quotes ", re.M)
 
 
