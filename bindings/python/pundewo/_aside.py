@@ -14,8 +14,8 @@ Asked = Union[Message, Request]
 
 
 def is_of_library(waits: Waits) -> bool:
-    """Whether the library chooses alone what comes."""
-    return isinstance(waits, Pick) or waits.pick() is not None
+    """Whether the library chooses alone what comes. (an exit signal may be a message to it)"""
+    return waits.name != "exit-of" if isinstance(waits, Pick) else waits.pick() is not None
 
 
 def is_of(monitor: Ref, event: Event) -> bool:

@@ -467,7 +467,7 @@ class Engine(Supervising):
         if next_.name == "proceed":
             return PROCEEDS
         pick = next_.pick
-        if seat.aside is not None or next_.selection is not None:
+        if seat.aside is not None or next_.selection is not None or seat.gone:
             chosen = self._chosen(seat, next_.selection or pick)
             if chosen is None:
                 return PROCEEDS
@@ -481,6 +481,9 @@ class Engine(Supervising):
     def _chosen(self, seat: Seat, waits: Waits) -> Optional[Pick]:
         """What the library is to hand out for what a process waits for. None if it is told first what it did not take before."""
         chosen = waits if isinstance(waits, Pick) else waits.pick()
+        # (the exit signal of one that had exited is a message to the library)
+        if chosen is not None and chosen.name == "exit-of" and chosen.what in seat.gone:
+            chosen = None
         if chosen is None and seat.aside is None:
             seat.aside = Aside(type(seat.behaviour).kind)
         if seat.aside is not None:
@@ -517,6 +520,8 @@ class Engine(Supervising):
             if FIRST_KIND <= body.kind < NEWS:
                 return Message(value, pid_of(item.pid))
             event: Optional[Event] = value
+            if isinstance(event, Exit):
+                seat.gone.remove(event.pid)
             if not isinstance(event, Answer):
                 return event
             # (an answer that the server has not sent itself, or that its time is over)

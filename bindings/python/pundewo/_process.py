@@ -162,7 +162,7 @@ class Seat:
     """A process with its behaviour."""
 
     __slots__ = ("pid", "tag", "behaviour", "cx", "calls", "texts", "does", "told", "aside", "crossing", "waits", "names",
-                 "family")
+                 "family", "gone")
 
     def __init__(self, engine: Engine, address: Address, tag: int, behaviour: Behaviour, parent: Optional[Pid]):
         self.pid, self.tag, self.behaviour = address.pid, tag, behaviour
@@ -184,6 +184,8 @@ class Seat:
         self.waits = self.crossing + WAITS
         # the children, if it is a supervisor
         self.family: Optional[Family] = None
+        # those that had exited as it linked itself with them, whose exit signals have not come
+        self.gone: list[Pid] = []
 
 
 class Kid:
@@ -376,11 +378,13 @@ class Context:
         self._here().demonitor(self._seat, of_type("monitor", monitor, Ref))
 
     def link(self, to: Union[Address, Pid]) -> None:
-        """Links this process with another: Erlang's `link/1`.
+        """Links this process with another: Erlang's `link/1`. If that had exited before, its exit signal comes with NOPROC: this
+        process exits by it, or gets an `Exit` if it traps exits.
 
-        Fault: NOPROC if that is known to have exited, UNKNOWN, WORN, MEMORY.
+        Fault: UNKNOWN, WORN, MEMORY.
         """
-        self._desk().link(self.pid, self._mortal("to", to))
+        engine, pid = self._here(), self._mortal("to", to)
+        engine.link(self._seat, pid)
 
     def unlink(self, to: Union[Address, Pid]) -> None:
         """Takes the link with another process away: Erlang's `unlink/1`."""

@@ -11,7 +11,7 @@ from typing import Any, Callable, Deque, Optional
 
 from . import Code, Desk, Fault
 from ._behaviour import (
-    GO_ON, OVER, Alarm, Answer, Call, CallTimeout, Event, Request, ServerDown, Unanswered,
+    GO_ON, OVER, Alarm, Answer, Call, CallTimeout, Event, Exit, Request, ServerDown, Unanswered,
 )
 from ._abi import HEARD_CODES, CBody, CCall, CHeard, CItem, CRequest, CTimer
 from ._process import Address, Seat
@@ -218,6 +218,22 @@ class Sending:
             if fault.code == Code.NOPROC:
                 return None
             raise
+        finally:
+            self.touch()
+
+    def link(self, seat: Seat, to: Pid) -> None:
+        """Links a process with another. If that is known to have exited, its exit signal comes."""
+        desk, me = self.desks[seat.pid.shard], seat.pid
+        try:
+            desk.link(me, to)
+        except Fault as fault:
+            if fault.code != Code.NOPROC:
+                raise
+            if desk.traps(me):
+                self.news(seat, lambda _: Exit(to, NOPROC, None))
+                seat.gone.append(to)
+            else:
+                desk.exit_signal(self.porters[me.shard].pid, me, NOPROC)
         finally:
             self.touch()
 

@@ -213,7 +213,7 @@ class Soak(unittest.TestCase):
                     sent.append(1)
                     cx.send(other, (cx.pid, next(self.numbers), Counted()))
                 elif does < 0.8 and other != cx.me:
-                    cx.link(other)  # (if it is known to have exited, this is a crash)
+                    cx.link(other)
                 elif does < 0.83:
                     cx.exit(other, chance.choice([p.KILL, p.SHUTDOWN, p.Reason("other", 1)]))
                 elif does < 0.9:

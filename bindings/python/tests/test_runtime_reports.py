@@ -301,6 +301,64 @@ class Exited(unittest.TestCase):
                 self.assertEqual((answer.fault.reason, answer.fault.crash), (p.NOPROC, None))
 
     @quiet
+    def test_a_link_gets_its_exit_signal(self) -> None:
+        for desk in (0, 1):
+            for traps in (False, True, False, True):
+                told: list[Any] = []
+
+                def handle(cx: r.Context, event: Any) -> Any:
+                    if isinstance(event, r.Message):
+                        cx.trap(traps)
+                        cx.link(dead if event.value else dead.pid)
+                        return None
+                    told.append(event)
+                    return r.Next.stop()
+
+                with Running(r.Runtime(2)) as running:
+                    run = running.run
+                    dead = run.spawn(Echo(), desk)
+                    linked, watches = run.spawn(Doing(handle), 0), run.spawn(Doing(handle), 0)
+                    run.exit(dead, p.Reason("other", 3))
+                    wait_until(lambda: not dead.is_alive())
+                    for value in (False, True):
+                        linked.send(value)
+                    wait_until(lambda: not linked.is_alive())
+                    self.assertTrue(watches.is_alive())
+                self.assertEqual(told, [r.Exit(dead.pid, p.NOPROC, None)] if traps else [])
+
+    @quiet
+    def test_such_an_exit_signal_is_chosen(self) -> None:
+        told: list[Any] = []
+
+        def handle(cx: r.Context, event: Any) -> Any:
+            told.append(event)
+            if len(told) == 1:
+                cx.trap()
+                cx.send(cx.me, "later")
+                cx.link(one)
+                cx.monitor(one)
+                cx.link(two)
+                cx.link(one)
+                return r.Next.only(p.Pick("exit-of", two.pid))
+            return [r.Next.only((), 0.02), r.Next.only((), exits=True), r.Next.only((), downs=True),
+                    r.Next.only(p.Pick("exit-of", one.pid)), r.Next.only(p.Pick("exit-of", two.pid), 0.02), None,
+                    r.Next.stop()][len(told) - 2]
+
+        with Running(r.Runtime()) as running:
+            run = running.run
+            one, two, links = run.spawn(Echo()), run.spawn(Echo()), run.spawn(Doing(handle))
+            for dead in (one, two):
+                run.exit(dead, p.KILL)
+                wait_until(lambda: not dead.is_alive())
+            links.send("link")
+            wait_until(lambda: not links.is_alive())
+        signals = [r.Exit(it.pid, p.NOPROC, None) for it in (one, two)]
+        self.assertEqual(told[1:4], [signals[1], r.TIMEOUT, signals[0]])
+        self.assertEqual((told[4].pid, told[4].reason), (one.pid, p.NOPROC))
+        self.assertEqual(told[5:7], [signals[0], r.TIMEOUT])
+        self.assertEqual(told[7].value, "later")
+
+    @quiet
     @in_asyncio
     async def test_a_program_is_told_alike(self) -> None:
         async with r.Runtime(2) as run, run.mailbox() as mailbox:

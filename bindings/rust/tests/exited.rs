@@ -1,9 +1,9 @@
-//! Calls of processes that have exited, and monitors on them: they answer as those of processes that exit.
+//! Calls of processes that have exited, monitors of them, and links with them: they answer as those of processes that exit.
 
 use pundewo::runtime::{
-    Address, Behaviour, Call, CallFault, Context, Down, Event, GONE, Next, Refusal, Reply, Runtime, Selection,
+    Address, Behaviour, Call, CallFault, Context, Down, Event, Exit, GONE, Next, Refusal, Reply, Runtime, Selection,
 };
-use pundewo::{Fault, Happened, History, Pick, Reason, Ref};
+use pundewo::{Fault, Happened, History, Pick, Pid, Reason, Ref};
 use std::sync::mpsc::{Sender, channel};
 use std::sync::{Arc, Mutex};
 use std::time::Duration;
@@ -226,5 +226,100 @@ fn faults_of_the_caller_stay_faults() -> Result<(), Error> {
     assert_eq!(heard, [Some(Fault::Myself), Some(Fault::OtherRun), Some(Fault::OtherRun)]);
     runtime.wait()?;
     other.stop()?;
+    Ok(())
+}
+
+/// Links itself with a server as it is told to, and tells the test the exit signal that it gets, and how it ends.
+struct Links {
+    server: Address<Ask>,
+    traps: bool,
+    give: Sender<(Option<Pid>, Reason)>,
+}
+
+impl Behaviour for Links {
+    type Message = ();
+
+    fn handle(&mut self, cx: &mut Context<'_, ()>, event: Event<()>) -> Next {
+        match event {
+            Event::Message(()) => {
+                cx.trap_exits(self.traps).expect("a flag");
+                cx.link(&self.server).expect("a link");
+                Next::Wait
+            }
+            Event::Exit(Exit { pid, reason, panic: None }) => {
+                self.give.send((Some(pid), reason)).expect("a test");
+                Next::DONE
+            }
+            other => panic!("{other:?}"),
+        }
+    }
+
+    fn ended(self, why: Reason) {
+        self.give.send((None, why)).expect("a test");
+    }
+}
+
+/// On the desk of the exited process, and on another one, which may not have seen the exit: then the table does all of it.
+#[test]
+fn a_link_with_an_exited_process_gets_its_exit_signal() -> Result<(), Error> {
+    let runtime = Runtime::builder().desks(2).start()?;
+    let server = exited(&runtime, 0)?;
+    for desk in [0, 1] {
+        for traps in [false, true, false, true] {
+            let (give, told) = channel();
+            let links = runtime.spawn_on(desk, Links { server: server.clone(), traps, give })?;
+            assert!(links.send(()));
+            let heard: Vec<(Option<Pid>, Reason)> = told.iter().collect();
+            let trapped = [(Some(server.pid()), Reason::Noproc), (None, Reason::Normal)];
+            let ended = [(None, Reason::Noproc)];
+            assert_eq!(heard, if traps { &trapped[..] } else { &ended[..] }, "desk {desk}");
+        }
+    }
+    assert_eq!(runtime.drain(LONG)?.panics, 0);
+    Ok(())
+}
+
+/// Such an exit signal waits in its place, and a pick or a selection chooses it.
+#[test]
+fn such_an_exit_signal_is_chosen() -> Result<(), Error> {
+    let (runtime, (give, told)) = (Runtime::builder().desks(1).start()?, channel());
+    let servers = [exited(&runtime, 0)?, exited(&runtime, 0)?];
+    let [first, second] = [servers[0].pid(), servers[1].pid()];
+    let mut step = 0;
+    runtime.spawn(Plays(Box::new(move |cx, event| {
+        if let Some(event) = event {
+            let of = |pid| if pid == first { 1 } else { 2 };
+            let number = match &event {
+                Event::Exit(exit) => of(exit.pid),
+                Event::Down(down) => 10 * of(down.pid),
+                Event::Message(()) => 77,
+                _ => 0,
+            };
+            give.send(number).expect("a test");
+        }
+        step += 1;
+        match step {
+            1 => {
+                cx.trap_exits(true).expect("a flag");
+                let me = cx.me().clone();
+                cx.send(&me, ());
+                cx.link(&servers[0]).expect("a link");
+                cx.monitor(&servers[0]).expect("a monitor");
+                cx.link(&servers[1]).expect("a link");
+                cx.link(&servers[0]).expect("a link");
+                Next::Only(Pick::ExitOf(second))
+            }
+            2 => Next::SelectFor(Selection::NONE.answers(true), SHORT),
+            3 => Next::Select(Selection::NONE.exits(true)),
+            4 => Next::Select(Selection::NONE.downs(true)),
+            5 => Next::Only(Pick::ExitOf(first)),
+            6 => Next::OnlyFor(Pick::ExitOf(second), SHORT),
+            7 => Next::Wait,
+            _ => Next::DONE,
+        }
+    })))?;
+    let heard: Vec<u32> = (0..7).map(|_| told.recv_timeout(LONG)).collect::<Result<_, _>>()?;
+    assert_eq!(heard, [2, 0, 1, 10, 1, 0, 77]);
+    assert_eq!(runtime.wait()?.panics, 0);
     Ok(())
 }

@@ -2,6 +2,7 @@
 
 use super::calls::Answer;
 use super::context::Context;
+use super::gone::Gone;
 use super::hub::Hub;
 use super::selection::{Selection, Wanted, pick_of};
 use crate::{Pick, Pid, Reason, Ref, crew};
@@ -178,12 +179,12 @@ impl Next {
     }
 
     /// The same for a crew, whose times are points in time.
-    pub(crate) fn for_crew(self, hub: &Hub) -> crew::Next {
+    pub(crate) fn for_crew(self, hub: &Hub, gone: &Gone) -> crew::Next {
         match self {
             Next::Wait => crew::Next::Wait(Pick::Any),
             Next::WaitFor(time) => crew::Next::WaitUntil(Pick::Any, hub.after(time)),
-            Next::Only(pick) => crew::Next::Wait(pick_of(pick)),
-            Next::OnlyFor(pick, time) => crew::Next::WaitUntil(pick_of(pick), hub.after(time)),
+            Next::Only(pick) => crew::Next::Wait(pick_of(pick, gone)),
+            Next::OnlyFor(pick, time) => crew::Next::WaitUntil(pick_of(pick, gone), hub.after(time)),
             Next::Select(selection) => crew::Next::Wait(selection.pick()),
             Next::SelectFor(selection, time) => crew::Next::WaitUntil(selection.pick(), hub.after(time)),
             Next::Proceed => crew::Next::Proceed,

@@ -13,9 +13,9 @@ use super::room::Ticket;
 use super::target::Target;
 use super::timing::{Alarm, Key, Timer};
 use super::worker::{Parent, Worker};
-use super::{ANSWER, GONE};
+use super::{ANSWER, GONE, GONE_LINK};
 use crate::supervisors::SupervisorSpec;
-use crate::{Fault, Pid, Reason, Ref};
+use crate::{Body, Fault, Pid, Reason, Ref};
 use std::fmt;
 use std::marker::PhantomData;
 use std::sync::Arc;
@@ -137,7 +137,7 @@ impl<M: Send + 'static> Context<'_, M> {
         let target = target.into().pid_in(&self.worker.hub)?;
         match self.monitor_living(target)? {
             Some(monitor) => Ok(monitor),
-            None => self.monitor_gone(target),
+            None => self.tell_gone(GONE, target).map(gone_monitor),
         }
     }
 
@@ -151,12 +151,12 @@ impl<M: Send + 'static> Context<'_, M> {
         }
     }
 
-    /// Has this process told that one which it monitors had exited.
-    fn monitor_gone(&mut self, target: Pid) -> Result<Ref, Fault> {
-        let number = fresh_number();
-        self.worker.tell_itself(self.me.pid(), GONE, number)?;
-        self.gone.insert(number, target);
-        Ok(gone_monitor(number))
+    /// Has this process told that one which it monitors or links itself with had exited. It returns the number of the news.
+    fn tell_gone(&mut self, kind: u32, target: Pid) -> Result<i64, Fault> {
+        let num = fresh_number();
+        self.worker.tell_itself(self.me.pid(), Body { kind, num, who: Some(target) })?;
+        self.gone.insert(num, target);
+        Ok(num)
     }
 
     /// Takes a monitor back. Nothing more is told of it.
@@ -169,16 +169,29 @@ impl<M: Send + 'static> Context<'_, M> {
         demonitor(self.worker, self.me, monitor);
     }
 
-    /// Links this process with another: Erlang's `link`.
+    /// Links this process with another: Erlang's `link`. If that had exited before, its exit signal comes with
+    /// [`Reason::Noproc`]: this process exits by it, or gets it as [`Event::Exit`](super::Event::Exit) if it traps exits.
     ///
     /// # Errors
     ///
-    /// [`Fault::OtherRun`], [`Fault::Outside`], [`Fault::NoProc`] if that is known to have exited, [`Fault::Unknown`],
-    /// [`Fault::Worn`] or [`Fault::Memory`].
+    /// [`Fault::OtherRun`], [`Fault::Outside`], [`Fault::Unknown`], [`Fault::Worn`] or [`Fault::Memory`].
     pub fn link(&mut self, to: impl Into<Target>) -> Result<(), Fault> {
         let (me, to) = (self.me.pid(), to.into().mortal_in(&self.worker.hub)?);
         let made = self.worker.desk().link(me, to);
-        self.worker.noted(made)
+        match self.worker.noted(made) {
+            Err(Fault::NoProc) => self.link_gone(to),
+            made => made,
+        }
+    }
+
+    /// Has this process get the exit signal of one that had exited.
+    fn link_gone(&mut self, to: Pid) -> Result<(), Fault> {
+        let (me, porter) = (self.me.pid(), self.worker.porter);
+        if self.worker.desk().traps(me) == Some(true) {
+            return self.tell_gone(GONE_LINK, to).map(drop);
+        }
+        let sent = self.worker.desk().exit_signal(porter, me, Reason::Noproc);
+        self.worker.noted(sent)
     }
 
     /// Takes the link with another process away: Erlang's `unlink`.
@@ -263,7 +276,7 @@ impl<M: Send + 'static> Context<'_, M> {
     /// A call of a server on this desk that had exited.
     fn call_gone<R: Send + 'static>(&mut self, desk: u8) -> Result<Call<R>, Fault> {
         let number = fresh_number();
-        self.worker.tell_itself(self.me.pid(), ANSWER, number)?;
+        self.worker.tell_itself(self.me.pid(), Body { kind: ANSWER, num: number, who: None })?;
         self.me.mailbox.put_answer(number, Err(CallFault::Down(Reason::Noproc, None)));
         self.calls.insert(number, Open { desk, monitor: None, alarm: None });
         Ok(Call { number, of: PhantomData })

@@ -1,9 +1,10 @@
-//! Monitors of processes that are known to have exited. The table makes none of these: their news is a message that a desk sends.
+//! Monitors of processes that are known to have exited, and links with them. The table makes none of these: their news is a
+//! message that a desk sends.
 
 use super::numbers::Numbered;
 use crate::{Pid, Ref};
 
-/// The processes of such monitors whose news has not come, by the numbers of the monitors.
+/// The processes of those whose news has not come, by the numbers of the news.
 pub(crate) type Gone = Numbered<Pid>;
 
 /// No desk has this number, so no monitor of the table is one of these.

@@ -45,9 +45,9 @@
 //!
 //! In a history a message has the kind [`MESSAGE`], or [`FIRST_KIND`] and its own kind, if that is not 0
 //! ([`Behaviour::kind`]). The answer of a call has [`ANSWER`], and the end of a call's time [`OVER`]; the process of a
-//! [`Mailbox`] is told by one of the kind [`MORE`] that it was read, and one of the kind [`GONE`] is the news of a monitor of
-//! a process that had exited. Each desk has one process more, which sends what comes from outside: the first that was born on
-//! it.
+//! [`Mailbox`] is told by one of the kind [`MORE`] that it was read. One of the kind [`GONE`] is the news of a monitor of a
+//! process that had exited, and one of the kind [`GONE_LINK`] is the exit signal of a link with one. Each desk has one process
+//! more, which sends what comes from outside: the first that was born on it.
 //!
 //! # Panics
 //!
@@ -139,5 +139,7 @@ pub const OVER: u32 = 3;
 pub const MORE: u32 = 4;
 /// The kind of the news that a process which is monitored had exited before.
 pub const GONE: u32 = 5;
+/// The kind of the exit signal that a process traps as it links itself with one that had exited before.
+pub const GONE_LINK: u32 = 6;
 /// What the kind of a message has beside its own number, unless that is 0: see [`Behaviour::kind`].
 pub const FIRST_KIND: u32 = 16;

@@ -10,7 +10,7 @@ use super::payloads::{Slot, quietly};
 use super::selection::Wanted;
 use super::supervisor::is_supervisor;
 use super::worker::{Worker, news_of};
-use super::{ANSWER, GONE, MORE, OVER};
+use super::{ANSWER, GONE, GONE_LINK, MORE, OVER};
 use crate::crew::{Next, What};
 use crate::{Body, Item, Pick, Pid, Reason};
 use std::mem;
@@ -95,6 +95,10 @@ impl<B: Behaviour> Process<B> {
             Item::User(_, Body { kind: GONE, num: number, .. }) => {
                 let (monitor, pid) = (gone_monitor(number), self.gone.remove(&number)?);
                 Some(Event::Down(Down { monitor, pid, reason: Reason::Noproc, panic: None }))
+            }
+            Item::User(_, Body { kind: GONE_LINK, num: number, .. }) => {
+                let pid = self.gone.remove(&number)?;
+                Some(Event::Exit(Exit { pid, reason: Reason::Noproc, panic: None }))
             }
             // (a mailbox was read)
             Item::User(_, Body { kind: MORE, .. }) => Some(Event::Proceed),
@@ -185,7 +189,7 @@ impl<B: Behaviour> Actor for Process<B> {
             None => self.behaviour.started(&mut cx),
         };
         self.wanted = next.wanted();
-        self.next = next.for_crew(&self.me.hub);
+        self.next = next.for_crew(&self.me.hub, &self.gone);
         if self.aside.is_empty() { self.next } else { self.next_with_aside() }
     }
 

@@ -1,7 +1,7 @@
 //! What a process takes now of what it is sent.
 
-use super::gone::number_of_gone;
-use super::{ANSWER, FIRST_KIND, GONE, MESSAGE, MORE, OVER};
+use super::gone::{Gone, number_of_gone};
+use super::{ANSWER, FIRST_KIND, GONE, GONE_LINK, MESSAGE, MORE, OVER};
 use crate::{Item, Pick};
 
 /// A kind from which on a selection takes all kinds as one.
@@ -141,6 +141,7 @@ impl Wanted {
                 Item::User(_, body) => match body.kind {
                     MESSAGE => selection.takes_kind(0),
                     GONE => selection.downs,
+                    GONE_LINK => selection.exits,
                     // (an answer of no open call is nothing)
                     ANSWER | OVER | MORE => true,
                     kind => selection.takes_kind(kind.saturating_sub(FIRST_KIND)),
@@ -151,10 +152,12 @@ impl Wanted {
     }
 }
 
-/// What the library is to hand out for a pick. The news of a monitor of a process that had exited is a message to it.
-pub(crate) fn pick_of(pick: Pick) -> Pick {
+/// What the library is to hand out for a pick. The news of a monitor of a process that had exited is a message to it, and so is
+/// the exit signal of a link with one.
+pub(crate) fn pick_of(pick: Pick, gone: &Gone) -> Pick {
     match pick {
         Pick::DownOf(monitor) if number_of_gone(monitor).is_some() => Pick::Kind(GONE),
+        Pick::ExitOf(pid) if gone.values().any(|of| *of == pid) => Pick::Any,
         pick => pick,
     }
 }
@@ -166,6 +169,7 @@ pub(crate) fn fits(pick: Pick, item: &Item) -> bool {
         (Pick::Kind(kind), Item::User(_, body)) => body.kind == kind,
         (Pick::From(pid), Item::User(from, _)) => pid == from,
         (Pick::ExitOf(pid), Item::Exit(from, _)) => pid == from,
+        (Pick::ExitOf(pid), Item::User(_, body)) => body.kind == GONE_LINK && body.who == Some(pid),
         (Pick::DownOf(monitor), Item::Down(answered, ..)) => monitor == answered,
         (Pick::DownOf(monitor), Item::User(_, body)) => body.kind == GONE && number_of_gone(monitor) == Some(body.num),
         (Pick::AliveOf(question), Item::Alive(answered, ..)) => question == answered,

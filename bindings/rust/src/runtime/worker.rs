@@ -399,9 +399,9 @@ impl Worker {
     }
 
     /// The same for the process whose handler runs. It fails if there is no memory or no stamp.
-    pub(crate) fn tell_itself(&mut self, me: Pid, kind: u32, num: i64) -> Result<(), Fault> {
+    pub(crate) fn tell_itself(&mut self, me: Pid, body: Body) -> Result<(), Fault> {
         let porter = self.porter;
-        let sent = self.desk().send(porter, me, Body { kind, num, who: None });
+        let sent = self.desk().send(porter, me, body);
         self.noted(sent)
     }
 
