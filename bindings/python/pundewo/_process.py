@@ -191,7 +191,7 @@ class Seat:
 class Kid:
     """A child of a supervisor, as it was asked for: its process, while it has one, and where that is sent to."""
 
-    __slots__ = ("above", "family", "start", "tag", "made", "seat", "pid", "address", "runs", "why")
+    __slots__ = ("above", "family", "start", "tag", "made", "seat", "pid", "address", "runs", "why", "started")
 
     def __init__(self, above: Seat, family: Family, start: StartChild, tag: int):
         self.above, self.family, self.start, self.tag = above, family, start, tag
@@ -204,14 +204,17 @@ class Kid:
         self.runs = False
         # why the process before exited, if the supervisor starts it again by itself
         self.why: Optional[Reason] = None
+        # how often it was started
+        self.started = 0
 
     def begin(self, address: Address) -> None:
         """Its process has begun."""
         self.family.running += not self.runs
         self.address, self.runs = address, True
+        self.started += 1
         if self.why is not None:
             level = logging.INFO if self.why in (NORMAL, SHUTDOWN) else logging.WARNING
-            report(level, Restart(self.above.pid, self.start.name, address.pid, self.why))
+            report(level, Restart(self.above.pid, self.start.name, address.pid, self.why, self.started))
 
     def end(self, why: Reason) -> None:
         """Its process has exited."""

@@ -28,16 +28,18 @@ class Crash(NamedTuple):
 
 
 class Restart(NamedTuple):
-    """A supervisor has started a child again, whose process before exited with this reason. A warning of `logging`, and an info
-    if that exited with NORMAL or SHUTDOWN."""
+    """A supervisor has started a child again, whose process before exited with this reason, and how often it was started. A
+    warning of `logging`, and an info if that exited with NORMAL or SHUTDOWN."""
 
     supervisor: Pid
     child: str
     pid: Pid
     reason: Reason
+    started: int
 
     def __str__(self) -> str:
-        return f"{self.supervisor} started its child {self.child} again, as {self.pid}: the one before exited with {self.reason}"
+        return (f"{self.supervisor} started its child {self.child} again, as {self.pid}, {self.started} times in all: "
+                f"the one before exited with {self.reason}")
 
 
 class Halt(NamedTuple):

@@ -51,7 +51,8 @@ class Examples(unittest.TestCase):
     def test_reports(self) -> None:
         said = self.run_it("reports").splitlines()
         self.assertRegex(said[0], r"^<0\.\d+\.1> of Line crashed: ValueError: noise$")
-        self.assertRegex(said[1], r"^<0\.1\.1> started its child line again, as <0\.\d+\.2>: the one before exited with other:\d+$")
+        self.assertRegex(said[1], r"^<0\.1\.1> started its child line again, as <0\.\d+\.2>, 2 times in all: "
+                                  r"the one before exited with other:\d+$")
         self.assertEqual(said[2:], ["call somebody: the run halted: OSError: no space left on device",
                                     "the program is told: the run halted: OSError: no space left on device"])
 

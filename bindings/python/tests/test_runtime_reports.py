@@ -61,13 +61,15 @@ class Reports(unittest.TestCase):
                 self.assertTrue(await supervisor.call(r.RestartChild("first")))
         self.assertEqual(hook.reports, [
             r.Crash(first.address.pid, "Echo", "ValueError: told to"),
-            r.Restart(supervisor.pid, "first", again.address.pid, r.CRASH),
-            r.Restart(supervisor.pid, "second", other.address.pid, p.SHUTDOWN)])
+            r.Restart(supervisor.pid, "first", again.address.pid, r.CRASH, 2),
+            r.Restart(supervisor.pid, "second", other.address.pid, p.SHUTDOWN, 2)])
         self.assertEqual(hook.levels, [logging.ERROR, logging.WARNING, logging.INFO])
         self.assertEqual([str(it) for it in hook.reports], [
             f"{first.address.pid} of Echo crashed: ValueError: told to",
-            f"{supervisor.pid} started its child first again, as {again.address.pid}: the one before exited with other:4294967295",
-            f"{supervisor.pid} started its child second again, as {other.address.pid}: the one before exited with shutdown"])
+            f"{supervisor.pid} started its child first again, as {again.address.pid}, 2 times in all: "
+            "the one before exited with other:4294967295",
+            f"{supervisor.pid} started its child second again, as {other.address.pid}, 2 times in all: "
+            "the one before exited with shutdown"])
 
     def test_a_halt_is_reported_by_the_same(self) -> None:
         error = OSError("no space left")

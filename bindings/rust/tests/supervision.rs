@@ -2,8 +2,8 @@
 //! waits while it ends a child, and what of it a history shows.
 
 use pundewo::runtime::{
-    Address, Behaviour, CallFault, Child, ChildFault, Context, Event, Name, Next, Pid, Reason, Refusal, Runtime,
-    Shutdown, Supervisor, ToSupervisor,
+    Address, Behaviour, CallFault, Child, ChildFault, Context, Event, Name, Next, Pid, Reason, Refusal, Report,
+    Runtime, Shutdown, Supervisor, ToSupervisor,
 };
 use pundewo::{Fault, Happened, History};
 use std::sync::mpsc::{Receiver, Sender, channel};
@@ -236,5 +236,57 @@ fn a_history_shows_who_starts_the_children() -> Result<(), Error> {
         return Err(format!("{born:?}").into());
     };
     assert_eq!((front, started, parent), (supervisor.pid(), child, behind));
+    Ok(())
+}
+
+/// What a report says of a restart.
+#[derive(Debug, PartialEq)]
+struct Again {
+    supervisor: Pid,
+    place: u64,
+    name: Option<String>,
+    pid: Pid,
+    reason: Reason,
+    started: u64,
+    text: String,
+}
+
+/// Each restart is reported, with the child, its supervisor and how often it was started. A start at request is not.
+#[test]
+fn restarts_are_reported() -> Result<(), Error> {
+    let ((notes, heard), (give, told)) = (channel(), channel());
+    let report = move |what: &Report<'_>| {
+        let text = what.to_string();
+        if let Report::Restart { supervisor, place, name, pid, reason, started, behaviour, .. } = *what {
+            assert_eq!(behaviour, std::any::type_name::<Worker>());
+            let name = name.map(str::to_owned);
+            give.send(Again { supervisor, place, name, pid, reason, started, text }).expect("a test");
+        }
+    };
+    let runtime = Runtime::builder().desks(1).going_on_every(7).report(report).start()?;
+    let first = Name::new("the first");
+    let all = Supervisor::one_for_all().child(Child::permanent(worker(1, &notes)).named(&first));
+    let supervisor = runtime.spawn(all.limit(9, LONG).permanent(worker(2, &notes)))?;
+    hears(&heard, [1, 2]);
+    for started in [2, 3] {
+        assert!(first.send(Reason::Other(5)));
+        hears(&heard, [-1, -2, 1, 2]);
+        let pids = children(&runtime, &supervisor);
+        for (place, reason) in [(0, Reason::Other(5)), (1, Reason::Shutdown)] {
+            let again = told.recv_timeout(LONG)?;
+            let (pid, name) = (pids[place].ok_or("a child")?, (place == 0).then(|| "the first".to_owned()));
+            let child = name.as_deref().unwrap_or("supervision::Worker");
+            let text = format!(
+                "{supervisor} started its child {child} again, as {pid}, {started} times in all: the one before exited with {reason}"
+            );
+            let supervisor = supervisor.pid();
+            assert_eq!(again, Again { supervisor, place: place as u64, name, pid, reason, started, text });
+        }
+    }
+    runtime.call(&supervisor, LONG, ToSupervisor::terminate_child(1))??;
+    runtime.call(&supervisor, LONG, ToSupervisor::restart_child(1))??;
+    runtime.call(&supervisor, LONG, ToSupervisor::start_child(Child::temporary(worker(3, &notes))))??;
+    runtime.stop()?;
+    assert_eq!(told.try_iter().count(), 0);
     Ok(())
 }

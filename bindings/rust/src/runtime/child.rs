@@ -7,6 +7,7 @@ use super::calls::Reply;
 use super::hub::micros;
 use super::name::Name;
 use super::payloads::drop_quietly;
+use super::report::Report;
 use super::supervisor::is_supervisor;
 use super::worker::{Parent, Worker, text_of};
 use crate::supervisors::{self, ChildSpec};
@@ -219,7 +220,7 @@ impl<M: Send + 'static> Child<M> {
         let Child { make, name, restart, shutdown, behaviour } = self;
         let is_first = reply.is_none();
         let starts = Box::new(Starts { make, name, address: None, reply });
-        Listed { starts, restart, shutdown, behaviour, started: 0, pid: None, is_first }
+        Listed { starts, restart, shutdown, behaviour, started: 0, pid: None, why: None, is_first }
     }
 }
 
@@ -294,6 +295,8 @@ pub(crate) struct Listed {
     started: u64,
     /// Its process, from when its behaviour is made until it has exited.
     pid: Option<Pid>,
+    /// Why its process before exited, if it had one.
+    why: Option<Reason>,
     /// Whether its supervisor is to begin with it, and its behaviour was not made yet.
     pub(crate) is_first: bool,
 }
@@ -326,9 +329,16 @@ impl Listed {
     }
 
     /// It has exited.
-    pub(crate) fn gone(&mut self) {
-        self.pid = None;
+    pub(crate) fn gone(&mut self, why: Reason) {
+        (self.pid, self.why) = (None, Some(why));
         self.starts.gone();
+    }
+
+    /// What is reported of it as its supervisor has started it again. `None` if this is its first start.
+    pub(crate) fn restarted(&self, supervisor: Pid, place: u64) -> Option<Report<'_>> {
+        let Listed { behaviour, started, pid, why, .. } = *self;
+        let (name, pid, reason) = (self.starts.name(), pid?, why?);
+        Some(Report::Restart { supervisor, place, name, behaviour, pid, reason, started })
     }
 
     /// It is not started at request.

@@ -82,7 +82,7 @@ impl Builder {
         self
     }
 
-    /// Has this closure told what happens in the run: a crash, and that it halts. It runs on the thread of a desk, which
+    /// Has this closure told what happens in the run: a crash, a restart, and that it halts. It runs on the thread of a desk, which
     /// waits for it. If it panics, nothing else changes.
     ///
     /// ```

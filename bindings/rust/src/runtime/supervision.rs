@@ -163,7 +163,7 @@ impl Worker {
     pub(crate) fn supervisor_left(&mut self, pid: Pid, why: Reason) {
         let Some(mut supervision) = self.supervisions.remove(&pid) else { return };
         self.hub.alive.fetch_sub(1, SeqCst);
-        supervision.children.values_mut().for_each(Listed::gone);
+        supervision.children.values_mut().for_each(|child| child.gone(why));
         self.exit_front(supervision.front, why);
         self.left.push(supervision);
         // (children that live are told the order by nobody else now)
@@ -215,15 +215,23 @@ impl Worker {
         made
     }
 
-    /// A child was made. Who has asked for it is told.
+    /// A child was made. Who has asked for it is told. If nobody has, the program is told that it was started again.
     fn made(&mut self, supervisor: Pid, place: u64, pid: Pid) {
         let supervision = self.supervisions.get_mut(&supervisor).expect("a supervisor of this desk");
         let front = supervision.front;
         match supervision.asked.take() {
-            Some(Asked::Start { place: asked, reply, .. }) if asked == place => {
+            Some(Asked::Start { place: asked, reply, tried: false }) if asked == place => {
+                reply.into_iter().for_each(|reply| self.reply(front, reply, Ok(pid)));
+                return;
+            }
+            Some(Asked::Start { place: asked, reply, tried: true }) if asked == place => {
                 reply.into_iter().for_each(|reply| self.reply(front, reply, Ok(pid)));
             }
             asked => supervision.asked = asked,
+        }
+        let child = self.supervisions.get(&supervisor).and_then(|it| it.children.get(&place));
+        if let Some(report) = child.and_then(|child| child.restarted(front, place)) {
+            self.hub.report(&report);
         }
     }
 
@@ -271,10 +279,10 @@ impl Worker {
     }
 
     /// A child has exited as this process.
-    pub(crate) fn child_left(&mut self, supervisor: Pid, place: u64, pid: Pid) {
+    pub(crate) fn child_left(&mut self, supervisor: Pid, place: u64, pid: Pid, why: Reason) {
         let Some(supervision) = self.supervisions.get_mut(&supervisor) else { return };
         let Some(child) = supervision.children.get_mut(&place).filter(|child| child.pid() == Some(pid)) else { return };
-        child.gone();
+        child.gone(why);
         if child.restart == Restart::Temporary {
             supervision.forget(place);
             self.is_asked(supervisor);

@@ -288,16 +288,17 @@ impl Worker {
     fn unseat(&mut self, Job { pid, tag, .. }: Job, place: usize, why: Reason) {
         let Seat { parent, crashed, actor, .. } = self.seats[place].take().expect("a process of this desk");
         let actor = actor.expect("a process whose handler does not run");
+        let why = if crashed { PANIC } else { why };
         self.free.push(place);
         if actor.supervises() {
             self.front_left(pid);
         }
         if let Parent::Supervisor(supervisor) = parent {
-            self.child_left(supervisor, tag & !CHILD, pid);
+            self.child_left(supervisor, tag & !CHILD, pid, why);
         }
         self.place().dismiss(pid);
         self.hub.alive.fetch_sub(1, SeqCst);
-        actor.ended(self, if crashed { PANIC } else { why });
+        actor.ended(self, why);
     }
 
     /// Whether this is a process of the desk whose exit was not told.
