@@ -47,6 +47,15 @@ fi
 if ! command -v valgrind >/dev/null; then
     echo "bindings: no valgrind: the memory of the C examples is not looked at (apt-get install valgrind libc6-dbg)"
 fi
+# (Debian's crates: the line server is built without a network)
+debian=/usr/share/cargo/registry
+has_tokio=false
+for crate in "$debian"/tokio-1.*; do
+    [ ! -d "$crate" ] || has_tokio=true
+done
+if ! $has_tokio; then
+    echo "bindings: no tokio: the line server of tasks is not tried (apt-get install librust-tokio-dev)"
+fi
 [ "$mode" != --tools ] || exit 0
 
 "$here/abi.py"
@@ -209,8 +218,7 @@ timeout 300 "$here/bad_clients.py" "$chat/chat" 0 "$work/bad.history"
 echo "rust: the chat server passed"
 
 # The line server of tokio under its load, over Debian's crate of it: connections die in calls, servers crash, nothing is lost
-debian=/usr/share/cargo/registry
-if ls -d "$debian"/tokio-1.* >/dev/null 2>&1; then
+if $has_tokio; then
     (
         cd "$here/rust/tokio"
         offline=(--offline --config 'source.crates-io.replace-with="debian"' --config "source.debian.directory=\"$debian\"")
@@ -224,8 +232,6 @@ if ls -d "$debian"/tokio-1.* >/dev/null 2>&1; then
     )
     "$here/../.ci/bounded" 120 "$CARGO_TARGET_DIR/debug/pundewo_lines" 100 100
     echo "rust: the line server of tokio passed"
-else
-    echo "bindings: no tokio: the line server is not tried (apt-get install librust-tokio-dev)"
 fi
 
 # The telephone exchange: lines crash in calls and are started again, each partner hears of it, and its history is legal
