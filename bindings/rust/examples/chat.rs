@@ -9,8 +9,7 @@
 //! All that a client may make the server keep has a bound. What goes beyond one is refused by a line that begins with
 //! `refused: `, and then the connection is closed (`bindings/bad_clients.py`).
 
-use pundewo::runtime::{Address, Behaviour, Context, Event, Handle, HistoryFile, Next, Ref, Runtime};
-use std::collections::HashMap;
+use pundewo::runtime::{Address, Behaviour, Context, Event, Group, Handle, HistoryFile, Next, Runtime};
 use std::io::{self, BufRead, BufReader, Read, Write};
 use std::net::{Shutdown, TcpListener, TcpStream};
 use std::sync::atomic::{AtomicUsize, Ordering::SeqCst};
@@ -55,14 +54,12 @@ enum ToRoom {
     Say(String, Permit),
 }
 
-#[derive(Default)]
-struct Room(HashMap<Ref, Address<ToMember>>);
+/// Those who are in the room.
+struct Room(Group<ToMember>);
 
 impl Room {
     fn tell(&self, cx: &mut Context<'_, ToRoom>, line: &Arc<Line>) {
-        for member in self.0.values() {
-            cx.send(member, ToMember::Told(line.clone()));
-        }
+        cx.send_all(&self.0, |_| ToMember::Told(line.clone()));
     }
 }
 
@@ -72,14 +69,10 @@ impl Behaviour for Room {
     fn handle(&mut self, cx: &mut Context<'_, ToRoom>, event: Event<ToRoom>) -> Next {
         match event {
             Event::Message(ToRoom::Say(text, permit)) => self.tell(cx, &Line::told(text, Some(permit))),
-            Event::Message(ToRoom::Join(member)) => {
-                if let Ok(monitor) = cx.monitor(&member) {
-                    cx.send(&member, ToMember::Told(Line::told("welcome", None)));
-                    self.0.insert(monitor, member);
-                }
+            Event::Message(ToRoom::Join(member)) if cx.monitor(&member).is_ok() && self.0.join(&member).is_ok() => {
+                cx.send(&member, ToMember::Told(Line::told("welcome", None)));
             }
             Event::Down(down) => {
-                self.0.remove(&down.monitor);
                 let text = format!("gone {} {}", down.pid, down.panic.as_deref().unwrap_or("by itself"));
                 self.tell(cx, &Line::told(text, None));
             }
@@ -257,7 +250,8 @@ fn main() -> Result<(), Box<dyn std::error::Error>> {
     let [_, port, history] = &words[..] else { return Err("chat PORT HISTORY".into()) };
     let runtime =
         Runtime::builder().desks(4).lane(1_024).going_on_every(2_000).archive(HistoryFile::create(history)?).start()?;
-    let rooms = Arc::new((0..20).map(|_| runtime.spawn(Room::default())).collect::<Result<Vec<_>, _>>()?);
+    let room = |number: u32| runtime.spawn(Room(Group::new(&runtime, format!("room {number}"))));
+    let rooms = Arc::new((0..20).map(room).collect::<Result<Vec<_>, _>>()?);
     let listener = TcpListener::bind(("127.0.0.1", port.parse()?))?;
     println!("{}", listener.local_addr()?);
     let (handle, open) = (runtime.handle(), Arc::default());

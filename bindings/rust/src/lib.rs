@@ -79,7 +79,7 @@ pub use asking::{AskFault, Call, Door, Heard, Post, PostError, Request, WayIn, w
 pub use crew::{Crew, Job, Next, Node, NodeBack, NotTaken, What, go_on};
 pub use iterators::{Events, Journal, LeftOvers, Links, Living, Monitors, Pids, Waiting, Watchers};
 pub use reading::NotRead;
-pub use tools::{Fired, Holder, NameFault, Names, Timer, Timers};
+pub use tools::{Fired, Groups, Holder, Left, NameFault, Names, Timer, Timers};
 pub use values::{
     Account, Body, Config, Event, Fault, Happened, Ids, Item, LeftOver, LinkId, Loss, Pick, Pid, Reason, Ref, Signal,
     Turned,

@@ -1,6 +1,6 @@
-//! Timers and names: what comes back at a time, and which process has which name.
+//! Timers, names and groups: what comes back at a time, which process has which name, and which are in which group.
 
-use crate::raw::{self, Handle, RawFired, RawHolder, RawName, RawTimer};
+use crate::raw::{self, Handle, RawFired, RawHolder, RawName, RawRef, RawTimer};
 use crate::{Fault, Held, NONE, OK, Pid, Ref, fault_of, found, told};
 use std::fmt;
 
@@ -316,5 +316,148 @@ impl Names {
     /// Whether no process has a name.
     pub fn is_empty(&self) -> bool {
         self.len() == 0
+    }
+}
+
+/// What came of a [`Groups::leave`].
+#[derive(Clone, Copy, Debug, PartialEq, Eq, Hash)]
+pub enum Left {
+    /// The process was not in the group.
+    NotThere,
+    /// It is in the group once less, and it is in some group still.
+    Stays,
+    /// It is in no group any more. It had this monitor.
+    Last(Ref),
+}
+
+/// Which process is in which group, as Erlang's `pg` keeps it.
+///
+/// A group is a number to which the program gives a meaning. A process may be in many groups. It may join a group several
+/// times, and is in it until it has left as often, or has exited. Groups know no desk: monitor each process that is in a group,
+/// once, and call [`forget`](Groups::forget) for its `DOWN`.
+///
+/// ```
+/// use pundewo::{Config, Groups, Left, open};
+///
+/// const LINES: u64 = 7;
+///
+/// let mut desks = open(1, Config::default())?;
+/// let (keeper, line) = (desks[0].spawn()?, desks[0].spawn()?);
+/// let mut groups = Groups::new()?;
+/// let monitor = desks[0].monitor(keeper, line)?;
+/// assert_eq!(groups.join(LINES, line, monitor), Ok(monitor));
+/// assert_eq!(groups.members(LINES).collect::<Vec<_>>(), [line]);
+/// assert_eq!(groups.leave(LINES, line), Left::Last(monitor));
+/// # Ok::<(), pundewo::Fault>(())
+/// ```
+pub struct Groups {
+    handle: Held,
+}
+
+impl fmt::Debug for Groups {
+    fn fmt(&self, f: &mut fmt::Formatter<'_>) -> fmt::Result {
+        f.write_str("Groups { .. }")
+    }
+}
+
+impl Drop for Groups {
+    fn drop(&mut self) {
+        // SAFETY: the handle is the only one of its groups.
+        unsafe { raw::pt_groups_give_up(self.handle.own()) };
+    }
+}
+
+// SAFETY of the calls below: as those of `Timers`.
+impl Groups {
+    /// Begins groups, in which there is no process.
+    ///
+    /// # Errors
+    ///
+    /// [`Fault::Memory`], if there is none.
+    pub fn new() -> Result<Groups, Fault> {
+        let mut handle: Handle = NONE;
+        told(unsafe { raw::pt_groups_open(&mut handle) })?;
+        Ok(Groups { handle: Held::new(handle) })
+    }
+
+    /// Adds a process to a group, once more if it is there already. It returns the monitor of the process: the one that was
+    /// passed if it was in no group, and otherwise the one that it had.
+    ///
+    /// # Errors
+    ///
+    /// [`Fault::Memory`]; [`Fault::Full`] if it is in the group 2^64 - 1 times. Nothing has changed then.
+    pub fn join(&mut self, group: u64, p: Pid, monitor: Ref) -> Result<Ref, Fault> {
+        let mut out = RawRef::default();
+        told(unsafe { raw::pt_groups_join(self.handle.own(), group, p, monitor.into(), &mut out) })?;
+        Ok(out.into())
+    }
+
+    /// Takes a process out of a group, once.
+    pub fn leave(&mut self, group: u64, p: Pid) -> Left {
+        let (mut last, mut out) = (false, RawRef::default());
+        let code = unsafe { raw::pt_groups_leave(self.handle.own(), group, p, &mut last, &mut out) };
+        match found(code, last) {
+            None => Left::NotThere,
+            Some(false) => Left::Stays,
+            Some(true) => Left::Last(out.into()),
+        }
+    }
+
+    /// Removes a process that has exited from all its groups, and returns its monitor, or `None` if it is in no group.
+    pub fn forget(&mut self, p: Pid) -> Option<Ref> {
+        let mut out = RawRef::default();
+        let code = unsafe { raw::pt_groups_forget(self.handle.own(), p, &mut out) };
+        found(code, out).map(Ref::from)
+    }
+
+    /// The monitor of a process, or `None` if it is in no group.
+    pub fn monitor_of(&self, p: Pid) -> Option<Ref> {
+        let mut out = RawRef::default();
+        let code = unsafe { raw::pt_groups_monitor_of(&mut self.handle.lent(), p, &mut out) };
+        found(code, out).map(Ref::from)
+    }
+
+    /// How often a process is in a group: 0 if it is not.
+    pub fn times(&self, group: u64, p: Pid) -> u64 {
+        let mut out = 0;
+        unsafe { raw::pt_groups_times(&mut self.handle.lent(), group, p, &mut out) };
+        out
+    }
+
+    /// How many processes are in a group, each counted once.
+    pub fn len(&self, group: u64) -> usize {
+        let mut out = 0;
+        unsafe { raw::pt_groups_len(&mut self.handle.lent(), group, &mut out) };
+        out
+    }
+
+    /// Whether no process is in a group.
+    pub fn is_empty(&self, group: u64) -> bool {
+        self.len(group) == 0
+    }
+
+    /// The member of a group at a place, counted from 0, or `None` if there is none. The order means nothing, and may change
+    /// with each call that changes the group.
+    pub fn member_at(&self, group: u64, place: usize) -> Option<Pid> {
+        let mut out = Pid::default();
+        let code = unsafe { raw::pt_groups_member_at(&mut self.handle.lent(), group, place, &mut out) };
+        found(code, out)
+    }
+
+    /// The members of a group, each once.
+    pub fn members(&self, group: u64) -> impl Iterator<Item = Pid> + '_ {
+        (0..).map_while(move |place| self.member_at(group, place))
+    }
+
+    /// The group at a place of those that a process is in, counted from 0, or `None` if there is none.
+    pub fn group_at(&self, p: Pid, place: usize) -> Option<u64> {
+        let mut out = 0;
+        let code = unsafe { raw::pt_groups_group_at(&mut self.handle.lent(), p, place, &mut out) };
+        found(code, out)
+    }
+
+    /// The groups that a process is in, each once.
+    pub fn groups_of(&self, p: Pid) -> impl Iterator<Item = u64> + '_ {
+        (0..).map_while(move |place| self.group_at(p, place))
     }
 }

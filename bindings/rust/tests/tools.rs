@@ -1,6 +1,8 @@
-//! Timers and names.
+//! Timers, names and groups.
 
-use pundewo::{Config, Fault, Fired, Holder, Item, NameFault, Names, Pick, Pid, Ref, Timer, Timers, open};
+use pundewo::{
+    Config, Fault, Fired, Groups, Holder, Item, Left, NameFault, Names, Pick, Pid, Ref, Timer, Timers, open,
+};
 
 #[test]
 fn timers_fire_in_order_and_once() -> Result<(), Fault> {
@@ -71,8 +73,34 @@ fn what_is_no_name_is_refused() -> Result<(), Fault> {
 }
 
 #[test]
-fn both_may_go_to_another_thread() {
+fn a_process_is_in_a_group_until_it_has_left_as_often_or_is_forgotten() -> Result<(), Fault> {
+    let mut desks = open(1, Config::default())?;
+    let (a, b) = (desks[0].spawn()?, desks[0].spawn()?);
+    let [first, second] = [4, 5].map(|number| Ref { desk: 3, number });
+    let mut groups = Groups::new()?;
+    assert_eq!((groups.len(7), groups.times(7, a), groups.member_at(7, 0), groups.monitor_of(a)), (0, 0, None, None));
+    assert_eq!((groups.leave(7, a), groups.forget(a), groups.group_at(a, 0)), (Left::NotThere, None, None));
+    assert_eq!((groups.join(7, a, first), groups.join(7, a, second)), (Ok(first), Ok(first)));
+    assert_eq!((groups.join(u64::MAX, a, second), groups.join(7, b, second)), (Ok(first), Ok(second)));
+    assert_eq!((groups.times(7, a), groups.times(7, b), groups.times(u64::MAX, a)), (2, 1, 1));
+    assert_eq!((groups.len(7), groups.len(8), groups.is_empty(8), groups.monitor_of(a)), (2, 0, true, Some(first)));
+    let mut members: Vec<Pid> = groups.members(7).collect();
+    members.sort_unstable();
+    assert_eq!((members, groups.member_at(7, 2)), (vec![a, b], None));
+    let mut all: Vec<u64> = groups.groups_of(a).collect();
+    all.sort_unstable();
+    assert_eq!((all, groups.group_at(a, 2)), (vec![7, u64::MAX], None));
+    assert_eq!((groups.leave(7, a), groups.times(7, a), groups.leave(7, b)), (Left::Stays, 1, Left::Last(second)));
+    assert_eq!((groups.leave(7, b), groups.monitor_of(b)), (Left::NotThere, None));
+    assert_eq!((groups.forget(a), groups.forget(a), groups.len(7), groups.len(u64::MAX)), (Some(first), None, 0, 0));
+    assert_eq!(format!("{groups:?}"), "Groups { .. }");
+    Ok(())
+}
+
+#[test]
+fn all_may_go_to_another_thread() {
     fn is_send<T: Send + Sync>() {}
     is_send::<Timers>();
     is_send::<Names>();
+    is_send::<Groups>();
 }

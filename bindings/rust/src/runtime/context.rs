@@ -6,6 +6,7 @@ use super::behaviour::{Behaviour, Event};
 use super::calls::{Call, CallFault, Calls, Open, Reply, fresh_number, number_of};
 use super::child::Listed;
 use super::gone::{Gone, gone_monitor, number_of_gone};
+use super::group::Group;
 use super::hub::Origin;
 use super::inbox::Task;
 use super::payloads::{News, Slot};
@@ -74,6 +75,12 @@ impl<M: Send + 'static> Context<'_, M> {
     /// A process of another run gets it as from outside: see [`Address::send`]. So it is with [`send_after`](Context::send_after).
     pub fn send<N: Send + 'static>(&mut self, to: &Address<N>, message: N) -> bool {
         self.worker.send(self.me.pid(), to, message)
+    }
+
+    /// Sends each member of a group the message that is made for it, as [`send`](Context::send), and returns how many were sent.
+    /// This process may be one of the members. What it sends each comes after all that it sent that one before.
+    pub fn send_all<N: Send + 'static>(&mut self, to: &Group<N>, mut make: impl FnMut(&Address<N>) -> N) -> usize {
+        to.members().iter().filter(|member| self.send(member, make(member))).count()
     }
 
     /// Sends a message when so much time has gone by: Erlang's `send_after`. The desk sends it, not this process, so it

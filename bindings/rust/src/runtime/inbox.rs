@@ -1,6 +1,7 @@
 //! The place of a desk's thread: an inbox with a bell, and the processes that live on the desk.
 
 use super::calls::CallFault;
+use super::group::Table;
 use super::hub::Origin;
 use super::payloads::{Slot, drop_quietly};
 use super::room::Room;
@@ -62,6 +63,8 @@ pub(crate) struct Place {
     pub(crate) room: Room,
     /// The live processes of the desk.
     live: Mutex<HashMap<Pid, Arc<dyn Slot>>>,
+    /// Which of them is in which group.
+    pub(crate) groups: Mutex<Table>,
     /// Whether the desk waits for room in a lane.
     short: AtomicBool,
     /// Whose handler runs, by its slot and its version, and 0 if none does.
@@ -175,6 +178,8 @@ impl Place {
         self.room.shut(true);
         let live = std::mem::take(&mut *locked(&self.live));
         live.values().for_each(|slot| slot.close(None));
+        let groups = std::mem::take(&mut *locked(&self.groups));
+        drop(groups);
         tasks.into_iter().for_each(drop_quietly);
     }
 

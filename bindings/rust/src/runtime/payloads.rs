@@ -7,6 +7,7 @@ use super::PANIC;
 use super::asked::{Fails, tell_dropped};
 use super::behaviour::Bound;
 use super::calls::CallFault;
+use super::group::AnyMailbox;
 use super::numbers::Numbered;
 use super::room::Ticket;
 use super::selection::letter;
@@ -15,6 +16,7 @@ use crate::{Pid, Reason, Ref};
 use std::any::Any;
 use std::collections::HashMap;
 use std::panic::{AssertUnwindSafe, catch_unwind};
+use std::sync::atomic::AtomicBool;
 use std::sync::{Arc, Mutex, MutexGuard, PoisonError};
 
 /// What a call was answered, whatever its type.
@@ -36,6 +38,8 @@ pub(crate) struct Values<M> {
     kind: fn(&M) -> u32,
     // `None` once the process has exited
     kept: Mutex<Option<Kept<M>>>,
+    /// Whether the process may be in a group.
+    pub(crate) is_in_groups: AtomicBool,
 }
 
 struct Kept<M> {
@@ -91,6 +95,8 @@ pub(crate) trait Slot: Send + Sync {
     /// Drops all that is kept, since the process has exited for this reason, or `None` if the run is over. The calls from
     /// outside fail.
     fn close(&self, why: Option<Reason>);
+    /// It as a value whose type is not known.
+    fn any(self: Arc<Self>) -> AnyMailbox;
 }
 
 impl<M> Values<M> {
@@ -105,7 +111,7 @@ impl<M> Values<M> {
             answers: Numbered::default(),
             panics: HashMap::new(),
         };
-        Values { pid, name, bound, kind, kept: Mutex::new(Some(kept)) }
+        Values { pid, name, bound, kind, kept: Mutex::new(Some(kept)), is_in_groups: AtomicBool::new(false) }
     }
 
     /// (nothing of the program's own runs under the lock: values are moved, and dropped outside of it)
@@ -200,7 +206,7 @@ impl<M> Values<M> {
     }
 }
 
-impl<M: Send> Slot for Values<M> {
+impl<M: Send + 'static> Slot for Values<M> {
     fn pid(&self) -> Pid {
         self.pid
     }
@@ -265,6 +271,10 @@ impl<M: Send> Slot for Values<M> {
             kept.messages.into_values().for_each(drop_quietly);
             kept.answers.into_values().for_each(drop_quietly);
         }
+    }
+
+    fn any(self: Arc<Self>) -> AnyMailbox {
+        self
     }
 }
 

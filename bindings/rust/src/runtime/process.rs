@@ -15,6 +15,7 @@ use crate::crew::{Next, What};
 use crate::{Body, Item, Pick, Pid, Reason};
 use std::mem;
 use std::sync::Arc;
+use std::sync::atomic::Ordering::SeqCst;
 
 /// A process of a desk.
 pub(crate) trait Actor: Send {
@@ -199,6 +200,9 @@ impl<B: Behaviour> Actor for Process<B> {
             worker.alarms.cancel(alarm);
         }
         me.mailbox.close(Some(why));
+        if me.mailbox.is_in_groups.load(SeqCst) {
+            me.hub.place(me.pid()).leave_groups(me.pid());
+        }
         quietly(|| behaviour.ended(why));
     }
 

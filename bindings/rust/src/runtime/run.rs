@@ -218,6 +218,10 @@ impl Runtime {
 }
 
 impl Handle {
+    pub(crate) fn hub(&self) -> &Arc<Hub> {
+        &self.0
+    }
+
     /// Spawns a process on one desk after the other.
     ///
     /// # Errors
