@@ -21,9 +21,9 @@ import signal
 from collections import deque
 from typing import Deque, NamedTuple, Optional
 
-from pundewo import Fault, Pid, Reason, Ref
+from pundewo import Fault, Pid, Reason
 from pundewo.runtime import (
-    Address, Behaviour, Context, Down, Event, HistoryFile, Mailbox, Message, Next, RunOver, Runtime,
+    Address, Behaviour, Context, Down, Event, Group, HistoryFile, Mailbox, Message, Next, RunOver, Runtime,
 )
 
 # How much is read at once, how long a line is at most, and how much may wait for a client that does not read, in bytes.
@@ -58,22 +58,19 @@ class Gone(NamedTuple):
 class Room(Behaviour):
     """It tells its members what one of them says, and who is gone. It tells the program that too."""
 
-    def __init__(self, news: Address):
-        self.news = news
-        self.members: dict[Ref, Address] = {}
+    def __init__(self, news: Address, members: Group):
+        self.news, self.members = news, members
 
     def tell(self, cx: Context, line: bytes) -> None:
-        told = Told(line + b"\n")
-        for member in self.members.values():
-            cx.send(member, told)
+        cx.send_all(self.members, Told(line + b"\n"))
 
     def handle(self, cx: Context, event: Event) -> None:
         if isinstance(event, Down):
-            del self.members[event.monitor]
             self.tell(cx, f"gone {event.pid} {event.crash or 'by itself'}".encode())
             cx.send(self.news, Gone(event.pid, event.crash))
         elif isinstance(event, Message) and isinstance(event.value, Join):
-            self.members[cx.monitor(event.value.member)] = event.value.member
+            cx.monitor(event.value.member)
+            self.members.join(event.value.member)
             cx.send(event.value.member, Told(b"welcome\n"))
         elif isinstance(event, Message):
             self.tell(cx, event.value.line)
@@ -115,7 +112,7 @@ class Chat:
         self.runtime = runtime
         self.loop = asyncio.get_running_loop()
         self.news: Mailbox = runtime.mailbox()
-        self.rooms = [runtime.spawn(Room(self.news.address)) for _ in range(rooms)]
+        self.rooms = [runtime.spawn(Room(self.news.address, runtime.group())) for _ in range(rooms)]
         self.written: list[Connection] = []
         # those of whom no more is read, and what reads on
         self.held: Deque[Connection] = deque()

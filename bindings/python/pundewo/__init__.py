@@ -86,6 +86,7 @@ _CALLS = {
     "crew_len": "Crew.__len__", "crew_open": "Crew", "crew_note_loss": "Crew.next_loss", "crews_go_on": "go_on",
     "ask_until": "ask", "door_open": "way_in", "way_in_take": "WayIn.take", "way_in_len": "WayIn.__len__",
     "timers_open": "Timers", "timers_len": "Timers.__len__", "names_open": "Names", "names_len": "Names.__len__",
+    "groups_open": "Groups",
 }
 
 
@@ -93,7 +94,7 @@ def _called(call: Callable[..., int]) -> str:
     """The name of the call of this module that makes this one of the library."""
     name = getattr(call, "__name__", "").removeprefix("pt_")
     where, _, rest = name.partition("_")
-    is_of = where in ("crew", "gathered", "quiet", "history", "timers", "names", "door")
+    is_of = where in ("crew", "gathered", "quiet", "history", "timers", "names", "groups", "door")
     return _CALLS.get(name) or (f"{where.capitalize()}.{rest}" if is_of else name)
 
 

@@ -239,6 +239,7 @@ class Engine(Supervising):
         self.payloads.clear()
         self._alarms.clear()
         self._timers.close()
+        self._close_groups()
         self._perform()
         for crew in self.crews:
             crew.close()
@@ -579,6 +580,8 @@ class Engine(Supervising):
     def _leave(self, seat: Seat, why: Reason) -> None:
         """A process has exited: all that it had goes."""
         del self.pids[seat.pid]
+        if seat.is_in_groups:
+            self._leave_groups(seat.pid)
         if self.seats.get(seat.tag) is seat:
             del self.seats[seat.tag]
         kid = self.kids.get(seat.tag)

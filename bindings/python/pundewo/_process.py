@@ -17,6 +17,7 @@ from ._behaviour import (
     GO_ON, OVER, Alarm, Answer, Behaviour, Call, CallTimeout, Down, Event, Exit, InboxFull, Message, Request,
     RunOver, Tick, seconds,
 )
+from ._group import Group
 from ._report import Restart, report
 from ._selection import MESSAGE, letter
 from .values import ANY, NOPROC, NORMAL, SHUTDOWN, Pid, Reason, Ref, flag, number, of_type
@@ -162,7 +163,7 @@ class Seat:
     """A process with its behaviour."""
 
     __slots__ = ("pid", "tag", "behaviour", "cx", "calls", "texts", "does", "told", "aside", "crossing", "waits", "names",
-                 "family", "gone")
+                 "family", "gone", "is_in_groups")
 
     def __init__(self, engine: Engine, address: Address, tag: int, behaviour: Behaviour, parent: Optional[Pid]):
         self.pid, self.tag, self.behaviour = address.pid, tag, behaviour
@@ -186,6 +187,8 @@ class Seat:
         self.family: Optional[Family] = None
         # those that had exited as it linked itself with them, whose exit signals have not come
         self.gone: list[Pid] = []
+        # whether it may be in a group
+        self.is_in_groups = False
 
 
 class Kid:
@@ -313,6 +316,12 @@ class Context:
         if to._engine is not engine:
             return to.send(value)
         return engine.carry(MESSAGE if to._kind is None else letter(to._kind(value), MESSAGE), self.me, to, value)
+
+    def send_all(self, to: Group, value: Any) -> int:
+        """Sends each member of a group a message, as `send`, and returns how many were sent. This process may be one of them.
+        What it sends each comes after all that it sent that one before."""
+        self._here()
+        return sum(self.send(member, value) for member in of_type("to", to, Group).members())
 
     def send_after(self, time: float, to: Address, value: Any) -> Timer:
         """Sends a message after so many seconds: Erlang's `send_after`. It comes also if this process has exited."""

@@ -18,7 +18,7 @@ from ._process import Address, Seat
 from ._report import Holder, report
 from ._selection import ANSWER, MESSAGE, NEWS, REQUEST, letter
 from .asking import AskFault, _ask, _expire, _hear, _reply
-from .tools import Timers
+from .tools import Groups, Timers
 from .values import NOPROC, U8, U32, U64, Pid, Ref, of_type
 
 Task = Callable[[], object]
@@ -28,6 +28,9 @@ Turn = concurrent.futures.Future[bool]
 
 # After how many seconds a handler holds up the run: it is named to those whose time is over, and it is logged.
 HOLDS, SLOW = 0.1, 1.0
+
+# What a table of groups is passed as the monitor of a process: the run hears of all exits by itself.
+NO_MONITOR = Ref(0, 0)
 
 HEARD_ANSWER, HEARD_DOWN = map(HEARD_CODES.index, ("answer", "server-down"))
 
@@ -84,6 +87,9 @@ class Sending:
         self.inbox: Deque[Task] = deque()
         # the processes that have a name
         self.names: dict[str, Address] = {}
+        # which process is in which group, and what keeps that from other threads
+        self._groups = Groups()
+        self._grouping = threading.Lock()
         # nothing new comes in, so that the run comes to its end: whether all was handled, once that is known
         self.drains = False
         self.drained: Optional[bool] = None
@@ -183,6 +189,48 @@ class Sending:
             return False
         seat.names.remove(name)
         return True
+
+    # Groups, on any thread: which process is in which says the library. (`pids` is read before the table and after it, so that
+    # a process that exits meanwhile is in none)
+
+    def join(self, group: int, pid: Pid) -> bool:
+        """Adds a process to a group; False if it has exited."""
+        with self._grouping:
+            seat = self.pids.get(pid)
+            if seat is None:
+                return False
+            self._groups.join(group, pid, NO_MONITOR)
+            seat.is_in_groups = True
+            if pid not in self.pids:
+                self._groups.forget(pid)
+                return False
+            return True
+
+    def leave(self, group: int, pid: Pid) -> bool:
+        with self._grouping:
+            return pid in self.pids and self._groups.leave(group, pid) is not None
+
+    def times(self, group: int, pid: Pid) -> int:
+        with self._grouping:
+            return self._groups.times(group, pid) if pid in self.pids else 0
+
+    def group_len(self, group: int) -> int:
+        with self._grouping:
+            return 0 if self.order == OVER else self._groups.len(group)
+
+    def members(self, group: int) -> list[Address]:
+        with self._grouping:
+            pids = [] if self.order == OVER else list(self._groups.members(group))
+        return [seat.cx.me for seat in map(self.pids.get, pids) if seat is not None]
+
+    def _leave_groups(self, pid: Pid) -> None:
+        """A process has exited."""
+        with self._grouping:
+            self._groups.forget(pid)
+
+    def _close_groups(self) -> None:
+        with self._grouping:
+            self._groups.close()
 
     def is_porter(self, pid: Pid) -> bool:
         return pid.shard < len(self.porters) and self.porters[pid.shard].pid == pid

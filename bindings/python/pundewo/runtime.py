@@ -50,6 +50,7 @@ from ._behaviour import (
     InboxFull, Message, Next, Request, RunOver, ServerDown, SpawnTimeout, Tick, Unanswered, behaviour_of, held_up, seconds,
 )
 from ._engine import Engine
+from ._group import Group
 from ._process import Address, Context, Timer
 from ._report import Crash, Halt, Holder, Report, Restart, report, text_of
 from ._selection import ANSWER, FIRST_KIND, MESSAGE, REQUEST, Selection
@@ -61,7 +62,7 @@ from .values import NORMAL, SHUTDOWN, U8, U64, Pid, Reason, flag, number, of_typ
 __all__ = [
     "ANSWER", "BRUTAL_KILL", "CRASH", "FIRST_KIND", "INFINITY", "MESSAGE", "PROCEED", "REQUEST", "TIMEOUT",
     "WHICH_CHILDREN", "Address", "Answer", "Behaviour", "Call", "CallFault", "CallTimeout", "Child", "Context", "Crash",
-    "DeleteChild", "Down", "Event", "Exit", "Halt", "Halted", "HistoryFile", "Holder", "InboxFull", "Mailbox",
+    "DeleteChild", "Down", "Event", "Exit", "Group", "Halt", "Halted", "HistoryFile", "Holder", "InboxFull", "Mailbox",
     "Message", "Next", "NotEnded", "Report", "Request", "Restart", "RestartChild", "RunOver", "Runtime", "Selection",
     "ServerDown", "Sink", "SpawnTimeout", "StartChild", "Summary", "Supervisor", "TerminateChild", "Tick", "Timer",
     "Unanswered",
@@ -314,6 +315,10 @@ class Runtime:
             if self._over.is_set():
                 return self.summary()
         raise NotEnded(self._engine.holder(0.0))
+
+    def group(self, name: str = "") -> Group:
+        """A group of processes of this run, in which there is none yet. The name is for those who print it."""
+        return Group(self._engine, of_type("name", name, str))
 
     def waiting(self) -> int:
         """How many messages nobody has taken yet. (with what else those outside want)"""

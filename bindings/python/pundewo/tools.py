@@ -1,4 +1,4 @@
-"""Timers and names: what comes back at a time, and which process has which name.
+"""Timers, names and groups: what comes back at a time, which process has which name, and which are in which group.
 
     timers = Timers()
     ring = timers.start(30, 1)
@@ -7,19 +7,24 @@
     names = Names()
     names.register("line_12", line, desk.monitor(keeper, line))
     names.whereis("line_12")    # line
+
+    groups = Groups()
+    groups.join(7, line, desk.monitor(keeper, line))
+    list(groups.members(7))     # [line]
 """
 
 from __future__ import annotations
 
 import ctypes as c
-from typing import NamedTuple, Optional
+from itertools import count
+from typing import Iterator, NamedTuple, Optional
 
 from . import _fault, _Held
-from ._abi import CFired, CHolder, CName, CPid, CTimer
+from ._abi import CFired, CHolder, CName, CPid, CRef, CTimer
 from ._library import c_pid, c_ref, lib, pid_of, ref_of
 from .values import U64, Code, Pid, Ref, number, of_type
 
-__all__ = ["Fired", "Holder", "Names", "Timer", "Timers"]
+__all__ = ["Fired", "Groups", "Holder", "Left", "Names", "Timer", "Timers"]
 
 
 class Timer(NamedTuple):
@@ -183,3 +188,89 @@ class Names(_Held):
 
     def __len__(self) -> int:
         return self._give(lib.pt_names_len, c.c_size_t()).value
+
+
+class Left(NamedTuple):
+    """That a process has left a group once: the monitor that it had if it is in no group any more, and otherwise None."""
+
+    monitor: Optional[Ref]
+
+
+class Groups(_Held):
+    """Which process is in which group, as Erlang's `pg` keeps it.
+
+    A group is a number to which the program gives a meaning. A process may be in many groups. It may join a group several
+    times, and is in it until it has left as often, or has exited. Groups know no desk: monitor each process that is in a group,
+    once, and call `forget` for its DOWN.
+    """
+
+    _give_up = "pt_groups_give_up"
+
+    def __init__(self) -> None:
+        """Groups, in which there is no process. Fault: MEMORY."""
+        super().__init__()
+        self._must(lib.pt_groups_open)
+
+    def join(self, group: int, p: Pid, monitor: Ref) -> Ref:
+        """Adds p to the group, once more if it is there already. It returns the monitor of p: the one that was passed if p was in
+        no group, and otherwise the one that it had. Fault: MEMORY; FULL if p is in the group 2**64 - 1 times."""
+        where, pid = number("group", group, 0, U64), c_pid("p", p)
+        return ref_of(self._give(lib.pt_groups_join, CRef(), where, pid, c_ref("monitor", monitor)))
+
+    def leave(self, group: int, p: Pid) -> Optional[Left]:
+        """Takes p out of the group, once. None if it is not there."""
+        where, pid, last, out = number("group", group, 0, U64), c_pid("p", p), c.c_bool(), CRef()
+        code = self._call(lib.pt_groups_leave, where, pid, c.byref(last), c.byref(out))
+        if code == Code.NOTHING:
+            return None
+        if code:
+            raise _fault(lib.pt_groups_leave, (), code)
+        return Left(ref_of(out) if last.value else None)
+
+    def forget(self, p: Pid) -> Optional[Ref]:
+        """Removes a process that has exited from all its groups, and returns its monitor, or None if it is in no group."""
+        return _ref_of(self._find(lib.pt_groups_forget, CRef(), c_pid("p", p)))
+
+    def monitor_of(self, p: Pid) -> Optional[Ref]:
+        """The monitor of a process, or None if it is in no group."""
+        return _ref_of(self._find(lib.pt_groups_monitor_of, CRef(), c_pid("p", p)))
+
+    def times(self, group: int, p: Pid) -> int:
+        """How often p is in the group: 0 if it is not."""
+        return self._give(lib.pt_groups_times, c.c_uint64(), number("group", group, 0, U64), c_pid("p", p)).value
+
+    def len(self, group: int) -> int:
+        """How many processes are in the group, each counted once."""
+        return self._give(lib.pt_groups_len, c.c_size_t(), number("group", group, 0, U64)).value
+
+    def member_at(self, group: int, place: int) -> Optional[Pid]:
+        """The member at a place, counted from 0, or None if there is none. The order means nothing, and may change with each call
+        that changes the group."""
+        where, at = number("group", group, 0, U64), number("place", place, 0, U64)
+        out = self._find(lib.pt_groups_member_at, CPid(), where, at)
+        return None if out is None else pid_of(out)
+
+    def members(self, group: int) -> Iterator[Pid]:
+        """The members of the group, each once."""
+        for place in count():
+            member = self.member_at(group, place)
+            if member is None:
+                return
+            yield member
+
+    def group_at(self, p: Pid, place: int) -> Optional[int]:
+        """The group at a place of those that p is in, counted from 0, or None if there is none."""
+        out = self._find(lib.pt_groups_group_at, c.c_uint64(), c_pid("p", p), number("place", place, 0, U64))
+        return None if out is None else out.value
+
+    def groups_of(self, p: Pid) -> Iterator[int]:
+        """The groups that p is in, each once."""
+        for place in count():
+            group = self.group_at(p, place)
+            if group is None:
+                return
+            yield group
+
+
+def _ref_of(out: Optional[CRef]) -> Optional[Ref]:
+    return None if out is None else ref_of(out)

@@ -110,6 +110,7 @@ DESK, MAYBE_DESK, ANY_DESK = Ints(0, 1), Option(Ints(0, 1)), Option(Ints(0, 255)
 BEHAVIOUR, MAKE, NAME = Things(Echo, r.TIMEOUT), Callables(), Things(but=str)
 ANY_ADDRESS, ADDRESS = Things(p.Pid(0, 0, 1)), Things(p.Pid(0, 0, 1), elsewhere)
 TARGET, TIMER, REQUEST, RUN = Things(elsewhere), Things(7), Things(r.Call), Things(r.Runtime)
+GROUP = Things(r.Runtime)
 SINK, PATH, BOUND, MAYBE_ADDRESS = Option(Callables()), Paths(), Option(Ints(1, 2**64 - 1)), Option(ADDRESS)
 STRATEGY, RESTART = Only("one_for_one", "one_for_all", "rest_for_one"), Only("permanent", "transient", "temporary")
 CHILD = {"make": MAKE, "name": NAME, "desk": ANY_DESK, "shutdown": Option(Ends())}
@@ -127,13 +128,16 @@ CALLS: dict[str, dict[str, dict[str, Domain]]] = {
         "stop": {}, "waiting": {}, "summary": {}, "close": {}, "ended": {}, "drain": {"limit": SECONDS}, "is_drained": {}, "go_on": {},
         "exit": {"process": ADDRESS, "reason": REASON}, "register": {"name": NAME, "process": ADDRESS},
         "whereis": {"name": NAME}, "unregister": {"name": NAME}, "with_archive": {"archive": SINK},
+        "group": {"name": NAME},
     },
+    "Group": {"join": {"process": ADDRESS}, "leave": {"process": ADDRESS}, "times": {"process": ADDRESS}, "members": {},
+              "send_all": {"value": VALUE}},
     "Address": {
         "is_alive": {}, "send": {"value": VALUE}, "try_send": {"value": VALUE}, "send_async": {"value": VALUE},
         "call": {"value": VALUE, "limit": SECONDS},
     },
     "Context": {
-        "send": {"to": ANY_ADDRESS, "value": VALUE}, "send_after": {"time": SECONDS, "to": ANY_ADDRESS, "value": VALUE},
+        "send": {"to": ANY_ADDRESS, "value": VALUE}, "send_all": {"to": GROUP, "value": VALUE}, "send_after": {"time": SECONDS, "to": ANY_ADDRESS, "value": VALUE},
         "cancel": {"timer": TIMER}, "spawn": {"behaviour": BEHAVIOUR, "linked": FLAG},
         "spawn_on": {"desk": DESK, "behaviour": BEHAVIOUR, "linked": FLAG}, "monitor": {"target": TARGET},
         "demonitor": {"monitor": REF}, "link": {"to": TARGET}, "unlink": {"to": TARGET},
@@ -178,6 +182,7 @@ class Case:
 
     def __init__(self, run: r.Runtime) -> None:
         self.run, self.notes, self.ready = run, list[Any](), False
+        self.group = run.group("group")
         self.file = r.HistoryFile(Path(tempfile.mkdtemp()) / "history")
 
         def start(cx: r.Context) -> None:
@@ -203,7 +208,7 @@ class Case:
         at: dict[str, Any] = {
             "Runtime": self.run, "Address": self.child, "Context": self.cx, "Mailbox": self.mailbox, "Next": r.Next,
             "Selection": r.Selection(1), "HistoryFile": r.HistoryFile,
-            "Supervisor": r.Supervisor.one_for_one()}
+            "Supervisor": r.Supervisor.one_for_one(), "Group": self.group}
         call: Callable[..., Any] = getattr(at[where], name)
         return self.begun(call) if inspect.iscoroutinefunction(call) else call
 
@@ -221,7 +226,7 @@ class Case:
         values: dict[Domain, Any] = {
             FLAG: True, VALUE: 1, SECONDS: 1.0, MAYBE_SECONDS: 1.0, DESK: 1, MAYBE_DESK: 1, ANY_DESK: 1, BEHAVIOUR: Echo(),
             MAKE: Echo, NAME: "name", ANY_ADDRESS: self.child, ADDRESS: self.child, MAYBE_ADDRESS: self.child, TARGET: self.child, TIMER: self.timer,
-            REQUEST: self.request, RUN: self.run, SINK: self.file, PATH: self.file.path, REF: self.monitor,
+            REQUEST: self.request, RUN: self.run, GROUP: self.group, SINK: self.file, PATH: self.file.path, REF: self.monitor,
             WANTS: 7, EVENT: r.TIMEOUT, SELECTION: r.Selection(int),
             REASON: p.Reason("other", 3), PICK: p.ANY, WORD: 8}
         return {word: values[domain] if domain in values else domain.bounds()[-1] for word, domain in words.items()}
@@ -232,7 +237,7 @@ class Case:
         desks = [(desk.clock(), desk.event_count(), desk.pending(), desk.vacant()) for desk in engine.desks]
         return [desks, list(engine.seats), list(engine.pids), list(engine.payloads), list(engine._alarms), [len(engine._timers)],
                 len(engine.inbox), engine._number, engine.order, self.run.summary(), self.run._next_desk, len(self.mailbox._waiting),
-                dict(engine.names), engine.drains, self.request._call is None, os.path.getsize(self.file.path)]
+                dict(engine.names), self.group.members(), engine.drains, self.request._call is None, os.path.getsize(self.file.path)]
 
 
 class Calls(unittest.TestCase):

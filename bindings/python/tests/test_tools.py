@@ -1,4 +1,4 @@
-"""Timers and names."""
+"""Timers, names and groups."""
 
 from __future__ import annotations
 
@@ -6,7 +6,7 @@ import unittest
 from typing import Any
 
 import pundewo as p
-from pundewo.tools import Fired, Holder, Names, Timer, Timers
+from pundewo.tools import Fired, Groups, Holder, Left, Names, Timer, Timers
 
 LONGEST = "abcdefghijklmnopqrstuvwxyz_01234"
 U64 = 2**64 - 1
@@ -101,6 +101,47 @@ class NamesTest(unittest.TestCase):
             (self.names.__len__,)]
         for call, *words in calls:
             self.fails(p.Code.EMPTY, call, *words)
+
+
+class GroupsTest(unittest.TestCase):
+    def test_a_process_is_in_a_group_until_it_has_left_as_often_or_is_forgotten(self) -> None:
+        (desk,), groups = p.open_node(1), Groups()
+        a, b, first, second = desk.spawn(), desk.spawn(), p.Ref(3, 4), p.Ref(3, 5)
+        self.assertEqual((groups.len(7), groups.times(7, a), groups.member_at(7, 0), groups.monitor_of(a)), (0, 0, None, None))
+        self.assertEqual((groups.leave(7, a), groups.forget(a), groups.group_at(a, 0)), (None, None, None))
+        self.assertEqual((groups.join(7, a, first), groups.join(7, a, second)), (first, first))
+        self.assertEqual((groups.join(U64, a, second), groups.join(7, b, second)), (first, second))
+        self.assertEqual((groups.times(7, a), groups.times(7, b), groups.times(U64, a)), (2, 1, 1))
+        self.assertEqual((groups.len(7), groups.len(8), groups.monitor_of(a)), (2, 0, first))
+        self.assertEqual((sorted(groups.members(7)), groups.member_at(7, 2)), ([a, b], None))
+        self.assertEqual((sorted(groups.groups_of(a)), groups.group_at(a, 2)), ([7, U64], None))
+        self.assertEqual((groups.leave(7, a), groups.times(7, a), groups.leave(7, b)), (Left(None), 1, Left(second)))
+        self.assertEqual((groups.leave(7, b), groups.monitor_of(b)), (None, None))
+        self.assertEqual((groups.forget(a), groups.forget(a), groups.len(7), groups.len(U64)), (first, None, 0, 0))
+
+    def test_a_closed_one_is_empty(self) -> None:
+        groups, pid = Groups(), p.Pid(0, 0, 1)
+        groups.close()
+        calls: list[tuple[Any, ...]] = [
+            (groups.join, "join", 1, pid, p.Ref(0, 1)), (groups.leave, "leave", 1, pid), (groups.forget, "forget", pid),
+            (groups.monitor_of, "monitor_of", pid), (groups.times, "times", 1, pid), (groups.len, "len", 1),
+            (groups.member_at, "member_at", 1, 0), (groups.group_at, "group_at", pid, 0)]
+        for call, name, *words in calls:
+            with self.assertRaises(p.Fault) as caught:
+                call(*words)
+            self.assertEqual((caught.exception.code, caught.exception.call), (p.Code.EMPTY, f"Groups.{name}"))
+
+    def test_what_is_no_number_is_refused(self) -> None:
+        groups, pid = Groups(), p.Pid(0, 0, 1)
+        groups.join(1, pid, p.Ref(0, 1))
+        for bad in (-1, 2**64, True, 1.0, None, "1"):
+            word: Any = bad
+            for call in (lambda: groups.join(word, pid, p.Ref(0, 1)), lambda: groups.leave(word, pid), lambda: groups.times(word, pid),
+                         lambda: groups.len(word), lambda: groups.member_at(word, 0), lambda: groups.member_at(1, word),
+                         lambda: groups.group_at(pid, word), lambda: groups.forget(word), lambda: groups.join(1, word, p.Ref(0, 1)),
+                         lambda: groups.join(1, pid, word), lambda: groups.monitor_of(word)):
+                self.assertRaises((TypeError, ValueError), call)
+        self.assertEqual((groups.len(1), groups.times(1, pid)), (1, 1))
 
 
 if __name__ == "__main__":
