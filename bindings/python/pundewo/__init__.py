@@ -323,8 +323,11 @@ class Desk(_Held):
 
         Fault: GONE if p is not alive here; if an item matches, WORN, MEMORY.
         """
-        out = self._find(lib.pt_receive, CItem(), c_pid("p", p), c_pick("pick", pick))
+        out = self._receive(c_pid("p", p), pick)
         return None if out is None else item_of(out)
+
+    def _receive(self, p: CPid, pick: Pick) -> Optional[CItem]:
+        return self._find(lib.pt_receive, CItem(), p, c_pick("pick", pick))
 
     def exit(self, p: Pid, reason: Reason = NORMAL) -> None:
         """Makes p exit with this reason: Erlang's `exit/1`. Its links and monitors fire, and its mailbox is dropped.
@@ -369,6 +372,13 @@ class Desk(_Held):
         if count is None:
             return None
         return [item_of(self._give(lib.pt_peek, CItem(), process, place)) for place in range(count.value)]
+
+    def _walk(self, p: CPid) -> Iterator[Item]:
+        """The same, one by one."""
+        place = 0
+        while (item := self._find(lib.pt_peek, CItem(), p, place)) is not None:
+            yield item_of(item)
+            place += 1
 
     def linked(self, p: Pid, peer: Pid) -> Optional[Ids]:
         """The ids under which p is linked with another process, by p's own half of the link."""

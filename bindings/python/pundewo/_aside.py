@@ -4,11 +4,11 @@ from __future__ import annotations
 
 from bisect import insort
 from collections import deque
-from typing import Any, Callable, Deque, Optional, Union
+from typing import Any, Callable, Deque, Iterable, Optional, Union
 
 from ._behaviour import Answer, Down, Event, Exit, Message, Request
 from ._selection import ANSWER, MESSAGE, REQUEST, Waits, Wants, is_function, letter
-from .values import ANY, Pick, Ref
+from .values import ANY, Pick, Pid, Ref
 
 Asked = Union[Message, Request]
 
@@ -25,6 +25,22 @@ def is_of(monitor: Ref, event: Event) -> bool:
 def sender_of(event: Event) -> object:
     """The process that has sent this, if it is a message, a request or an answer."""
     return event.call.server if isinstance(event, Answer) else event.sender if isinstance(event, (Message, Request)) else None
+
+
+def older(waiting: Iterable[tuple[object, Optional[int]]], sender: Pid, age: Optional[int]) -> int:
+    """How many of the items that wait are to come before one that was picked out from among them, each with its sender and its
+    age: those that the sender has sent before, and what is before these. Behind them what others have sent before comes first,
+    too. (what has no age is news of an exit)"""
+    count = 0
+    for place, (other, its_age) in enumerate(waiting):
+        is_older = other != sender if its_age is None else age is None or its_age < age
+        if other == sender:
+            if not is_older:
+                break
+            count = place + 1
+        elif is_older and count == place:
+            count += 1
+    return count
 
 
 class Aside:
@@ -66,6 +82,12 @@ class Aside:
             return True
         self._kept.append((self._count, event))
         return False
+
+    def keep(self, event: Event) -> None:
+        """Keeps what was taken out of the mailbox since it is older than what the process is told and postpones now."""
+        self._kept.append((self._told, event))
+        self._count += 1
+        self._told = self._count
 
     def finds(self, waits: Waits) -> bool:
         """The process waits for this now. If something here is of that, the oldest is ready; it returns whether it is."""

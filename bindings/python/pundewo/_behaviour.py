@@ -208,7 +208,7 @@ class RunOver(CallFault):
 class Call:
     """A call that a process has made, by which it knows the `Answer`."""
 
-    __slots__ = ("client", "server", "asked", "alarm", "is_open", "done")
+    __slots__ = ("client", "server", "asked", "alarm", "is_open", "done", "asked_at", "answered")
 
     def __init__(self, done: Optional[Callable[[Answer], None]] = None):
         self.client: Optional[Seat] = None
@@ -220,6 +220,8 @@ class Call:
         self.is_open = True
         # what is told of the answer to a call from outside
         self.done = done
+        # the numbers of its request and of its answer, among those of messages
+        self.asked_at = self.answered = 0
 
     def __repr__(self) -> str:
         return f"<Call of {self.server or 'nobody'}{'' if self.is_open else ', over'}>"

@@ -15,7 +15,7 @@ from ._behaviour import (
     CRASH, GO_ON, HALTS, KILLS, OVER, PROCEED, STOP, TIMEOUT, Answer, Behaviour, Call, CallFault, CallTimeout, Down, Event, Exit,
     Message, Next, Request, RunOver, ServerDown, behaviour_of,
 )
-from ._aside import Aside
+from ._aside import Aside, older
 from ._abi import CAnswer, CItem, CJob, CPid
 from ._family import StandIn, Supervising
 from ._library import pid_of, reader, reason_of, ref_of
@@ -24,7 +24,7 @@ from ._sending import HOLDS, Task, answer_key, kind_of, request_key
 from ._report import Crash, report, text_of
 from ._selection import ANSWER, FIRST_KIND, MESSAGE, NEWS, Waits
 from ._supervisor import Supervisor
-from .values import ANY, ITEMS, JOBS, KILL, SHUTDOWN, U8, U64, Body, Pick, Pid, Reason, Ref, unchecked
+from .values import ANY, ITEMS, JOBS, KILL, SHUTDOWN, U8, U64, Body, Item, Pick, Pid, Reason, Ref, unchecked
 
 log = logging.getLogger("pundewo")
 
@@ -56,8 +56,9 @@ class Engine(Supervising):
         self._rows = [(CJob * MOST)() for _ in self.desks]
         self._jobs: list[Deque[tuple[int, Job]]] = [deque() for _ in self.desks]
         self._untold = self.goes_on = False
-        # what the handler is told that runs now
+        # what the handler is told that runs now, and the place of its job among those of its desk
         self.event: Optional[Event] = None
+        self._place = 0
         # the node, if going on stopped within; the history of the last epoch, if nobody has it yet
         self._node: Union[None, list[Desk], Gathered, Quiet] = None
         self._history: Optional[History] = None
@@ -364,7 +365,7 @@ class Engine(Supervising):
         seat = self.seats[tag] if code == ITEM else self._seat_of(code, tag, self._rows[number][place])
         if seat is None:
             return
-        self.running = seat
+        self.running, self._place = seat, place
         try:
             if code == ITEM and item == USER and kind == MESSAGE:
                 message = unchecked(Message, (self.payloads.pop(num), unchecked(Pid, (shard, slot, version))))
@@ -451,9 +452,43 @@ class Engine(Supervising):
         self.event = None
         if seat.aside is None:
             seat.aside = Aside(type(seat.behaviour).kind)
+        job = self._rows[seat.pid.shard][self._place]
+        if seat.picks and seat.does is not WAITS and job.code == ITEM:
+            self._keep_older(seat, seat.aside, event, job.item)
         seat.aside.postpone(event)
         self.kept += isinstance(event, (Message, Request))
         return True
+
+    def _keep_older(self, seat: Seat, aside: Aside, event: Event, picked: CItem) -> None:
+        """Keeps what waits and is older than what the library has picked out, so that it comes first later."""
+        desk, crossing = self.desks[seat.pid.shard], seat.cx.me._crossing
+        waiting = ((item.pid, self._age_of(seat, item)) for item in desk._walk(crossing))
+        for _ in range(older(waiting, pid_of(picked.pid), self._age_of_told(event, picked))):
+            taken = desk._receive(crossing, ANY)
+            came = None if taken is None else self._event_of(seat, taken)
+            if came is not None:
+                aside.keep(came)
+                self.kept += isinstance(came, (Message, Request))
+
+    def _age_of(self, seat: Seat, item: Item) -> Optional[int]:
+        """The age of an item that waits: what was sent later has a greater one. None if it is the news of an exit."""
+        body = item.body
+        if body is None or body.who is None:
+            return None if body is None else body.num
+        event = self.payloads.get(self._key_of(seat.pid, item.pid, body))
+        return self._age_of_asked(event)
+
+    def _age_of_told(self, event: Event, item: CItem) -> Optional[int]:
+        """The same of what the handler is told now."""
+        if item.code != USER or not item.body.has_who:
+            return None if item.code != USER else int(item.body.num)
+        return self._age_of_asked(event)
+
+    def _age_of_asked(self, event: object) -> int:
+        """The age of a request or of an answer. (one that is nothing to anybody any more has none)"""
+        if isinstance(event, Answer):
+            return event.call.answered
+        return event._call.asked_at if isinstance(event, Request) and event._call is not None else 0
 
     def _does(self, seat: Seat, next_: Optional[Next]) -> bytes:
         """What a handler has returned, for a crew, whose times are points in time."""
@@ -475,6 +510,7 @@ class Engine(Supervising):
             pick = chosen
         if pick.name == "down-of" and isinstance(pick.what, Ref) and pick.what.desk == U8:
             pick = Pick("kind", kind_of(pick.what.number))
+        seat.picks = pick != ANY
         if next_.limit is None:
             return WAITS if pick is ANY else bytes_of("wait", pick=pick)
         return bytes_of("wait-until", pick=pick, until=self._at(next_.limit))
@@ -518,7 +554,7 @@ class Engine(Supervising):
         body = item.body
         if not body.has_who:
             value: Any = self.payloads.pop(body.num, None)
-            if FIRST_KIND <= body.kind < NEWS:
+            if body.kind == MESSAGE or FIRST_KIND <= body.kind < NEWS:
                 return Message(value, pid_of(item.pid))
             event: Optional[Event] = value
             if isinstance(event, Exit):

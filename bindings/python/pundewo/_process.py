@@ -163,7 +163,7 @@ class Seat:
     """A process with its behaviour."""
 
     __slots__ = ("pid", "tag", "behaviour", "cx", "calls", "texts", "does", "told", "aside", "crossing", "waits", "names",
-                 "family", "gone", "is_in_groups")
+                 "family", "gone", "is_in_groups", "picks")
 
     def __init__(self, engine: Engine, address: Address, tag: int, behaviour: Behaviour, parent: Optional[Pid]):
         self.pid, self.tag, self.behaviour = address.pid, tag, behaviour
@@ -189,6 +189,8 @@ class Seat:
         self.gone: list[Pid] = []
         # whether it may be in a group
         self.is_in_groups = False
+        # whether the library picks out what it takes, if it said what that is with its last answer
+        self.picks = False
 
 
 class Kid:
@@ -350,7 +352,7 @@ class Context:
 
     def retry(self) -> None:
         """What was postponed may be taken from now on, in order, before what has come since: what `gen_statem` does as the
-        state changes. What a pick of the library took out before older ones comes again before them, too."""
+        state changes."""
         self._here()
         if self._seat.aside is not None:
             self._seat.aside.retry()

@@ -312,6 +312,7 @@ class Sending:
             self.news(seat, lambda _: Answer(call, None, ServerDown(NOPROC)))
             return call
         call.asked, seat.calls[asked.monitor.number] = asked, call
+        call.asked_at = self._number = self._number + 1
         request = request_key(desk.number, asked.monitor.number)
         self.payloads[request] = Request(self, call, seat.pid, value)
         if limit is not None:
@@ -334,6 +335,7 @@ class Sending:
             return self.tell(call, answer, sender)
         client, number, server = call.asked.client, call.asked.monitor.number, call.asked.server
         key = answer_key(client.shard, number)
+        call.answered = self._number = self._number + 1
         self.payloads[key] = answer
         try:
             _reply(self.desks[server.shard], server, CRequest(client, REQUEST, number), ANSWER)

@@ -395,6 +395,47 @@ class Postponing(unittest.TestCase):
             server.send("open")
             self.assertEqual(await asyncio.gather(*asked), [0, 1, 2, 3, 4])
 
+    @quiet
+    def test_what_was_picked_out_and_postponed_comes_after_what_is_older(self) -> None:
+        class Talks(r.Behaviour):
+            def handle(self, cx: r.Context, event: Any) -> Any:
+                cx.send(event.value, "first")
+                cx.reply(event, "answer")
+                cx.call(event.value, "asks", 50)
+                cx.send(event.value, 3)
+                return r.Next.stop()
+
+        class Client(r.Behaviour):
+            def __init__(self, talks: r.Address) -> None:
+                self.talks, self.told = talks, list[Any]()
+
+            @staticmethod
+            def kind(value: Any) -> int:
+                return value if isinstance(value, int) else 0
+
+            def started(self, cx: r.Context) -> Any:
+                cx.monitor(self.talks)
+                cx.call(self.talks, cx.me, 50)
+                return r.Next.only(3)
+
+            def handle(self, cx: r.Context, event: Any) -> Any:
+                if not self.told:
+                    self.told.append("picked")
+                    assert cx.postpone(event)
+                    cx.retry()
+                else:
+                    self.told.append(event.reason if isinstance(event, r.Down) else event.value)
+                return r.Next.stop() if len(self.told) == 6 else None
+
+        for desk in (0, 1):
+            run = r.Runtime(2, going_on_every=20)
+            clients = [Client(run.spawn(Talks(), 0)) for _ in range(20)]
+            for client in clients:
+                run.spawn(client, desk)
+            run.run()
+            for client in clients:
+                self.assertEqual(client.told, ["picked", "first", "answer", "asks", 3, p.NORMAL])
+
 
 class Soak(unittest.TestCase):
     """A process takes what chance says: it takes the oldest that fits, each once, and what it does not take waits."""
@@ -408,7 +449,6 @@ class Soak(unittest.TestCase):
         count = 300
         taken: list[int] = []
         postponed: set[int] = set()
-        by_pick = [False]
         wanted: list[Callable[[int], bool]] = [lambda number: False]
 
         def chosen(cx: r.Context) -> Any:
@@ -425,8 +465,6 @@ class Soak(unittest.TestCase):
                 (lambda number: True, r.Next.only(tuple, 0.002)),
             ]
             wanted[0], next_ = choices[chance.randrange(len(choices))]
-            selection = None if next_ is None else next_.selection
-            by_pick[0] = next_ is not None and (selection is None or selection.pick() is not None)
             return next_
 
         def handle(cx: r.Context, event: Any) -> Any:
@@ -440,8 +478,7 @@ class Soak(unittest.TestCase):
             self.assertEqual(older, [])
             self.assertTrue(wanted[0](number))
             value.taken += 1
-            # (what a pick takes out before older ones comes again before them)
-            if chance.random() < 0.2 and not by_pick[0]:
+            if chance.random() < 0.2:
                 self.assertTrue(cx.postpone(event))
                 postponed.add(number)
             else:

@@ -1,8 +1,8 @@
 //! Selective receive: what a process takes now, what waits meanwhile, and what it postpones.
 
 use pundewo::runtime::{
-    Address, Behaviour, Bound, Call, CallFault, Context, Event, FIRST_KIND, Next, PANIC, Refusal, Reply, Runtime,
-    Selection,
+    Address, Behaviour, Bound, Call, CallFault, Context, Event, FIRST_KIND, MESSAGE, Next, PANIC, Refusal, Reply,
+    Runtime, Selection,
 };
 use pundewo::{Happened, History, Item, Pick, Reason};
 use std::collections::VecDeque;
@@ -189,8 +189,8 @@ fn selections_take_the_oldest_that_fits() -> Result<(), Error> {
     Ok(())
 }
 
-/// Any selections of several kinds, with what is postponed and retried in between: each takes the oldest that it takes and that is
-/// not postponed.
+/// Any selections of one kind and of several, and picks, with what is postponed and retried in between: each takes the oldest that
+/// it takes and that is not postponed.
 #[test]
 fn postponed_messages_keep_their_places() -> Result<(), Error> {
     for seed in 100..140 {
@@ -201,12 +201,15 @@ fn postponed_messages_keep_their_places() -> Result<(), Error> {
         let (mut nexts, mut deeds, mut wanted) = (VecDeque::new(), VecDeque::new(), Vec::new());
         for _ in 0..400 {
             let one = draw.below(4);
-            let (next, left_out) = match draw.below(3) {
-                0 => (Next::Wait, None),
-                _ => (Next::Select(Selection::all_but(&[one])), Some(one)),
+            let letter = if one == 0 { MESSAGE } else { FIRST_KIND + one };
+            let (next, takes): (Next, fn(u32, u32) -> bool) = match draw.below(5) {
+                0 => (Next::Wait, |_, _| true),
+                1 => (Next::Select(Selection::kinds(&[one])), |kind, one| kind == one),
+                2 => (Next::Only(Pick::Kind(letter)), |kind, one| kind == one),
+                _ => (Next::Select(Selection::all_but(&[one])), |kind, one| kind != one),
             };
             nexts.push_back(next);
-            let fits = |it: &(u32, u32, bool)| !it.2 && Some(it.0) != left_out;
+            let fits = |it: &(u32, u32, bool)| !it.2 && takes(it.0, one);
             let Some(place) = waiting.iter().position(fits) else { break };
             wanted.push(waiting[place].1);
             let (postpones, retries) = (draw.below(3) == 0, draw.below(12) == 0);
@@ -497,6 +500,63 @@ fn bounds_hold_for_what_waits_aside() -> Result<(), Error> {
         assert_eq!(hears_number(&told)?, number);
     }
     assert_eq!((process.waiting(), runtime.stop()?.panics), (0, 0));
+    Ok(())
+}
+
+/// Sends a note, answers, sends another note, and exits.
+struct Talks;
+
+impl Behaviour for Talks {
+    type Message = (Address<Note>, Reply<u32>);
+
+    fn handle(&mut self, cx: &mut Context<'_, Self::Message>, event: Event<Self::Message>) -> Next {
+        let Event::Message((to, reply)) = event else { return Next::Wait };
+        cx.send(&to, note(1, 1));
+        cx.reply(reply, 7);
+        cx.send(&to, note(2, 2));
+        Next::DONE
+    }
+}
+
+/// What one process sends comes in order, also if the last was taken alone by its kind and postponed: the answer of a call and the
+/// news of its exit are among that.
+#[test]
+fn what_was_picked_out_and_postponed_comes_after_what_is_older() -> Result<(), Error> {
+    let (runtime, (give, told)) = (Runtime::builder().desks(2).going_on_every(40).start()?, channel());
+    for (desk, _) in (0..40).map(|round| (round % 2, round)) {
+        let (give, talks) = (give.clone(), runtime.spawn_on(0, Talks)?);
+        let (mut call, mut count) = (None, 0);
+        runtime.spawn_on(
+            desk,
+            plays(move |cx, event| {
+                count += 1;
+                match event {
+                    None => {
+                        cx.monitor(&talks).expect("a monitor");
+                        let me = cx.me().clone();
+                        call = Some(cx.call(&talks, LONG, |reply| (me, reply)).expect("a call"));
+                        return Next::Select(Selection::kinds(&[2]));
+                    }
+                    Some(Event::Message(it)) if count == 2 => {
+                        assert!(it.number == 2 && cx.postpone(Event::Message(it)));
+                        cx.retry();
+                        return Next::Wait;
+                    }
+                    Some(Event::Message(it)) => give.send(it.number).expect("a test"),
+                    Some(Event::Answer(answer)) => {
+                        let answer = answer.to(&call.expect("a call")).expect("its answer");
+                        give.send(answer.expect("no fault")).expect("a test");
+                    }
+                    Some(Event::Down(_)) => give.send(0).expect("a test"),
+                    other => panic!("{other:?}"),
+                }
+                if count == 6 { Next::DONE } else { Next::Wait }
+            }),
+        )?;
+        let heard: Vec<u32> = (0..4).map(|_| told.recv_timeout(LONG)).collect::<Result<_, _>>()?;
+        assert_eq!(heard, [1, 7, 2, 0], "desk {desk}");
+    }
+    assert_eq!(runtime.wait()?.panics, 0);
     Ok(())
 }
 

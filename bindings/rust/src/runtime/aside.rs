@@ -5,7 +5,7 @@ use super::behaviour::Event;
 use super::payloads::Values;
 use super::selection::Wanted;
 use super::{ANSWER, OVER};
-use crate::{Body, Item, Ref};
+use crate::{Body, Item, Pid, Ref};
 use std::collections::VecDeque;
 use std::sync::Arc;
 
@@ -28,6 +28,38 @@ pub(crate) struct Told<'a> {
     pub(crate) item: &'a Item,
     /// Its number, if it has one already.
     pub(crate) age: Option<u64>,
+    /// Whether the library has picked it out of what waits, so that older items may wait.
+    pub(crate) is_picked: bool,
+}
+
+/// Who has sent an item, or of whom it tells.
+fn sender(item: &Item) -> Option<Pid> {
+    match *item {
+        Item::User(pid, _) | Item::Exit(pid, _) | Item::Down(_, pid, _) => Some(pid),
+        Item::Alive(..) => None,
+    }
+}
+
+/// How many of the items that wait are to come before one that was picked out from among them: those that its sender has sent
+/// before, and what is before these. Behind them what others have sent before comes first, too.
+pub(crate) fn older<M>(values: &Values<M>, waiting: impl Iterator<Item = Item>, picked: &Item) -> usize {
+    let (from, age) = (sender(picked), values.age_of(picked));
+    let mut count = 0;
+    for (place, item) in waiting.enumerate() {
+        let is_of_sender = sender(&item) == from;
+        let is_older = match (values.age_of(&item), age) {
+            (Some(age), Some(than)) => age < than,
+            (None, Some(_)) => !is_of_sender || matches!(item, Item::User(..)),
+            (Some(_), None) => true,
+            (None, None) => !is_of_sender,
+        };
+        match (is_of_sender, is_older) {
+            (true, false) => break,
+            (true, true) => count = place + 1,
+            (false, is_older) => count += usize::from(is_older && count == place),
+        }
+    }
+    count
 }
 
 /// The items that wait for one process, the oldest first.
@@ -82,7 +114,7 @@ impl<M> Aside<M> {
     }
 
     /// Keeps what the handler is told now, in its place, until the process retries it.
-    pub(crate) fn postpone(&mut self, Told { age, item }: Told<'_>, event: Event<M>, values: &Values<M>) {
+    pub(crate) fn postpone(&mut self, Told { age, item, .. }: Told<'_>, event: Event<M>, values: &Values<M>) {
         let (age, item) = (age.unwrap_or_else(|| self.count()), *item);
         let event = match (event, item) {
             (Event::Message(message), Item::User(_, Body { num, .. })) => {

@@ -10,6 +10,7 @@ use super::group::Group;
 use super::hub::Origin;
 use super::inbox::Task;
 use super::payloads::{News, Slot};
+use super::process::keep_older;
 use super::room::Ticket;
 use super::target::Target;
 use super::timing::{Alarm, Key, Timer};
@@ -269,6 +270,9 @@ impl<M: Send + 'static> Context<'_, M> {
     /// before.
     pub fn postpone(&mut self, event: Event<M>) -> bool {
         let Some(told) = self.told.take() else { return false };
+        if told.is_picked {
+            keep_older(self.worker, self.me, self.aside, told.item);
+        }
         self.aside.postpone(told, event, &self.me.mailbox);
         self.me.look_at_bound();
         true

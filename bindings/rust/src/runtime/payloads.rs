@@ -3,7 +3,6 @@
 //! A value is put before its letter is sent, and taken as the letter's item is. If the process exits, all of its values
 //! are dropped, and one that is put later comes back: a pid is never used again, so no letter can ask for them.
 
-use super::PANIC;
 use super::asked::{Fails, tell_dropped};
 use super::behaviour::Bound;
 use super::calls::CallFault;
@@ -12,7 +11,8 @@ use super::numbers::Numbered;
 use super::room::Ticket;
 use super::selection::letter;
 use super::sending::SendFault;
-use crate::{Pid, Reason, Ref};
+use super::{ANSWER, GONE, GONE_LINK, MORE, OVER, PANIC};
+use crate::{Body, Item, Pid, Reason, Ref};
 use std::any::Any;
 use std::collections::HashMap;
 use std::panic::{AssertUnwindSafe, catch_unwind};
@@ -53,7 +53,8 @@ struct Kept<M> {
     calls: Numbered<Arc<dyn Fails>>,
     /// The text of its own panic.
     crash: Option<Arc<str>>,
-    answers: Numbered<Given>,
+    /// The answers of calls, each with the number of the last message before it.
+    answers: Numbered<(i64, Given)>,
     /// The texts of panics, each with the epoch in which it was put.
     panics: HashMap<News, (u64, Arc<str>)>,
 }
@@ -198,7 +199,19 @@ impl<M> Values<M> {
     }
 
     pub(crate) fn take_answer(&self, call: i64) -> Option<Given> {
-        self.lock().as_mut()?.answers.remove(&call)
+        self.lock().as_mut()?.answers.remove(&call).map(|(_, given)| given)
+    }
+
+    /// The age of a message or of an answer: what a process has sent later has a greater one.
+    pub(crate) fn age_of(&self, item: &Item) -> Option<i64> {
+        match *item {
+            Item::User(_, Body { kind: ANSWER, num, .. }) => {
+                self.lock().as_ref()?.answers.get(&num).map(|(age, _)| *age)
+            }
+            Item::User(_, Body { kind: OVER | MORE | GONE | GONE_LINK, .. }) => None,
+            Item::User(_, Body { num, .. }) => Some(num),
+            Item::Down(..) | Item::Exit(..) | Item::Alive(..) => None,
+        }
     }
 
     pub(crate) fn take_panic(&self, news: News) -> Option<Arc<str>> {
@@ -218,7 +231,7 @@ impl<M: Send + 'static> Slot for Values<M> {
     fn put_answer(&self, call: i64, given: Given) -> bool {
         let back = match &mut *self.lock() {
             Some(kept) => {
-                kept.answers.insert(call, given);
+                kept.answers.insert(call, (kept.last, given));
                 None
             }
             None => Some(given),
@@ -269,7 +282,7 @@ impl<M: Send + 'static> Slot for Values<M> {
             let fault = why.map_or(CallFault::Over, |why| CallFault::Down(why, kept.crash));
             kept.calls.into_values().for_each(|call| call.fail(fault.clone()));
             kept.messages.into_values().for_each(drop_quietly);
-            kept.answers.into_values().for_each(drop_quietly);
+            kept.answers.into_values().for_each(|(_, given)| drop_quietly(given));
         }
     }
 

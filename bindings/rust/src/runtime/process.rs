@@ -1,7 +1,7 @@
 //! A process with its behaviour, whatever the type of that is.
 
 use super::address::Address;
-use super::aside::{Aside, Held, Told};
+use super::aside::{Aside, Held, Told, older};
 use super::behaviour::{Behaviour, Bound, Down, Event, Exit};
 use super::calls::{Answer, CallFault, Calls, number_of};
 use super::context::{Context, demonitor};
@@ -57,6 +57,11 @@ impl<B: Behaviour> Process<B> {
             aside: Aside::new(),
             takes_aside: false,
         }
+    }
+
+    /// Whether the library picks out what the process takes.
+    fn picks(&self) -> bool {
+        !matches!(self.next, Next::Wait(Pick::Any) | Next::WaitUntil(Pick::Any, _))
     }
 
     /// What the handler is told of an item that the library has handed out. `None` if it is told nothing, also since the
@@ -152,6 +157,19 @@ impl<B: Behaviour> Process<B> {
     }
 }
 
+/// Keeps what waits and is older than an item that the library has picked out, so that it comes first later.
+pub(crate) fn keep_older<M: Send + 'static>(worker: &mut Worker, me: &Address<M>, aside: &mut Aside<M>, picked: &Item) {
+    let pid = me.pid();
+    let waiting = worker.desk().waiting(pid);
+    let count = waiting.map_or(0, |waiting| older(&me.mailbox, waiting, picked));
+    for _ in 0..count {
+        let taken = worker.desk().receive(pid, Pick::Any);
+        let Ok(Some(item)) = worker.noted(taken) else { return };
+        let panic = news_of(item).and_then(|news| me.mailbox.take_panic(news));
+        aside.keep(item, panic);
+    }
+}
+
 /// Whether an item ends a call that is open.
 fn ends_call(calls: &Calls, item: &Item) -> bool {
     match *item {
@@ -170,13 +188,13 @@ impl<B: Behaviour> Actor for Process<B> {
             What::Proceed if mem::take(&mut self.takes_aside) => {
                 let Some((event, item, age)) = self.event_from_aside(worker) else { return self.next };
                 held = item;
-                told = Some(Told { item: &held, age: Some(age) });
+                told = Some(Told { item: &held, age: Some(age), is_picked: false });
                 Some(event)
             }
             What::Proceed => Some(Event::Proceed),
             What::Timeout => Some(Event::Timeout),
             What::Item(item) => {
-                told = Some(Told { item, age: None });
+                told = Some(Told { item, age: None, is_picked: self.picks() });
                 match self.event_from_table(worker, *item) {
                     Some(event) => Some(event),
                     None => return self.next,
