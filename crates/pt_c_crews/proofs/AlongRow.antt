@@ -1,10 +1,10 @@
 -- Rows of handles: whether each crew is that of its desk, and how the crews go on.
-use Rattle.std.proofs.Common.{◌≡◌, ℕ, ◌+◌, ◌<◌, true, List, [], ◌∷◌, ◌++◌, length, map, set, get_or, refl, sym, ap, ◌∙◌, subst}
-use Rattle.std.proofs.lemmas.List.{append-nil, append_assoc, length-append}
+use Rattle.std.proofs.Common.{◌≡◌, ℕ, ◌+◌, ◌<◌, true, List, [], ◌∷◌, ◌++◌, length, map, set, get_or, refl, sym, ap, ◌∙◌}
+use Rattle.std.proofs.lemmas.List.{append_assoc, length-append}
 use Rattle.pt_events.specs.declared.event.Stamped.{Stamped}
 use Rattle.pt_c_values.specs.Places.{HandlePlace}
 use Rattle.pt_c_values.proofs.InRow.{changed}
-use Rattle.pt_c_values.proofs.AlongRow.{Looked, looked_all, nothing_more}
+use Rattle.pt_c_values.proofs.AlongRow.{Looked, looked_all}
 use Rattle.pt_scheduler.specs.declared.scheduler.Scheduler.{Scheduler}
 use Rattle.pt_c_crews.specs.GoingOn.{AllCrewsGoOn, CrewGoesOn}
 use Rattle.pt_c_crews.specs.Owning.{are_own}
@@ -53,10 +53,3 @@ module _ {H : Type 0} (st : H → HandlePlace Scheduler) where
         as_long = length-append g.olds (st h ∷ []) ∙ ap (λ n. n + 1) g.as_long;
         all = both_more past g.olds g.news (st h) (st h') g.all one;
       }
-
-pub all_gone_on : (past : List Stamped) (whole now : List (HandlePlace Scheduler)) (k : ℕ) → GoneOn past whole now k → k ≡ length now → AllCrewsGoOn past whole now
-all_gone_on past whole now k g is =
-    let none = nothing_more now g.news g.rest g.now_is (g.long ∙ is) in
-    let whole_is : whole ≡ g.olds = g.whole_is ∙ ap (λ z. g.olds ++ z) none ∙ append-nil g.olds in
-    let now_is : now ≡ g.news = g.now_is ∙ ap (λ z. g.news ++ z) none ∙ append-nil g.news in
-    subst (λ (xs : List (HandlePlace Scheduler)). AllCrewsGoOn past xs now) (sym whole_is) (subst (λ (ys : List (HandlePlace Scheduler)). AllCrewsGoOn past g.olds ys) (sym now_is) g.all)

@@ -1,15 +1,12 @@
 -- A call through handles that have something.
 use Rattle.std.proofs.Common.{◌≡◌, ℕ, sym, subst}
-use Rattle.pt_c_values.specs.Places.{CallsThrough, HandlePlace, ReadsThrough, full}
+use Rattle.pt_c_values.specs.Places.{CallsThrough, HandlePlace, full}
 
 module _ {S : Type 0} (before after : HandlePlace S) (old : S) (code : ℕ) (kept : Type 0) where
   pub calls_through : (new : S) (P : S → S → Type 0) → before ≡ full old → after ≡ full new → P old new → CallsThrough before after code kept P
   calls_through new P was is p =
       subst (λ (b : HandlePlace S). CallsThrough b after code kept P) (sym was)
       (subst (λ (a : HandlePlace S). CallsThrough (full old) a code kept P) (sym is) p)
-
-  pub reads_through : (P : S → Type 0) → before ≡ full old → after ≡ full old → P old → ReadsThrough before after code kept P
-  reads_through P was is p = subst (λ (b : HandlePlace S). ReadsThrough b after code kept P) (sym was) (is, p)
 
 -- and through two
 pub calls_both : {D S : Type 0} (h k : HandlePlace D) (a b : HandlePlace S) (d e : D) (old new : S) (code told : ℕ) (kept : Type 0) (keeps : D → D → Type 0) (Q : D → D → S → S → Type 0)

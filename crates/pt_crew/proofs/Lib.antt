@@ -7,7 +7,6 @@ pub mod Answering
 pub mod Beginning
 pub mod Reading
 pub mod Room
-pub mod Idle
 pub mod Visiting
 pub mod Redirecting
 pub mod Getting

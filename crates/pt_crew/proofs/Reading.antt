@@ -1,5 +1,5 @@
 -- One more event of the journal is read.
-use Rattle.std.proofs.Common.{◌≡◌, ◌+◌, ◌<◌, ◌≤◌, Bool, true, false, ◌&&◌, ◌||◌, Result, Ok, Err, OnOk, List, [], ◌∷◌, ◌++◌, length, reverse, get_or, Option, Some, None, refl, sym, ap, subst, ◌∙◌, append_assoc, append-nil, length-append, arith}
+use Rattle.std.proofs.Common.{◌≡◌, ◌+◌, ◌<◌, ◌≤◌, false, ◌&&◌, ◌||◌, Result, Ok, Err, OnOk, List, [], ◌∷◌, ◌++◌, length, reverse, get_or, Option, Some, None, refl, sym, ap, subst, ◌∙◌, append_assoc, append-nil, length-append, arith}
 use Rattle.std.specs.Prelude.{is_err}
 use Rattle.std.proofs.lemmas.List.{length-reverse, get_or_default}
 use Rattle.std.proofs.lemmas.List.Folds.{list_any-append}
@@ -23,10 +23,6 @@ use Rattle.pt_behaviour.proofs.Cases.{some_none, by_cases}
 use Rattle.pt_crew.proofs.Waking.{or_right, same_queue}
 use Rattle.pt_crew.proofs.Places.{same_pid_sym}
 use Rattle.pt_crew.proofs.Timing.{timers_is}
-
-or_nil : (b : Bool) → (b || false) ≡ b
-or_nil true = refl
-or_nil false = refl
 
 -- whoever is of the crew was so before
 held_before : {B : Type 0} (was now : Option (Member B)) (m : Member B) → now ≡ Some m → option_map role now ≡ option_map role was → (v : Member B) × (was ≡ Some v)

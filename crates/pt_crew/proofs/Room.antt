@@ -63,11 +63,6 @@ pub on_err : {A E : Type 0} (P : Type 0) (r : Result A E) → P → OnErr r P
 on_err P (Ok a) h = tt
 on_err P (Err e) h = h
 
--- a call that is refused for want of a place alone
-pub not_refused : {A E : Type 0} (r : Result A E) (P : Type 0) → OnErr r P → (P → ⊥) → is_err r ≡ false
-not_refused (Ok a) P h never = refl
-not_refused (Err e) P h never = absurd (never h)
-
 pub ok_not_err : {A E : Type 0} (r : Result A E) → IsOk r → is_err r ≡ true → ⊥
 ok_not_err (Ok a) h e = cc
 ok_not_err (Err x) h e = cc

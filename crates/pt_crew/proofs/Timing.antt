@@ -1,5 +1,5 @@
 -- The timers of a crew's members.
-use Rattle.std.proofs.Common.{◌≡◌, ℕ, ◌+◌, ◌<◌, ◌≤◌, Bool, true, false, cond, List, [], ◌∷◌, length, Option, Some, None, IsSome, refl, sym, ap, subst, ◌∙◌, arith}
+use Rattle.std.proofs.Common.{◌≡◌, ℕ, ◌+◌, Bool, true, false, cond, List, length, Option, Some, None, IsSome, refl, sym, ap, subst, ◌∙◌, arith}
 use Rattle.std.specs.Option.{option_map}
 use Rattle.pt_signal.specs.declared.pid.Pid.{Pid}
 use Rattle.pt_signal.specs.Values.{same_pid}
@@ -258,11 +258,3 @@ pub rung_as : {B : Type 0} (old now : Crew B) (time : ℕ) (stands : List Pid) �
 rung_as old now time stands same rung p m n is until come =
     let v = same_wait (members old p) (members now p) m is (same p) in
     rung p v.0 n v.1 (ap limit_of v.2 ∙ until) come
-
--- where nothing is pending nothing is due
-pub none_due : (s : TimersState Pid) (time : ℕ) → length s.pending ≤ 0 → NoneDue time s
-none_due s time none t pending = go s.pending none (some_body (body_of s t) pending)
-  where
-    go : (es : List (Timer × Pid)) → length es ≤ 0 → (p : Pid) × (body_of (record { started = s.started; pending = es }) t ≡ Some p) → time < t.at
-    go [] none p = absurd (let bad = p.1 in cc)
-    go (e ∷ es) none p = absurd (omega (arith, none))

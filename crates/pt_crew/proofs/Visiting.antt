@@ -303,10 +303,6 @@ module _ {B : Type 0} (answers : Answers B) where
     time = ends.time ∙ so.time;
   }
 
--- nobody stands in the queue
-pub serves_none : {B : Type 0} (answers : Answers B) (start : List Pid) (old new : Crew B) (d : ShardState) → start ≡ [] → IsSame old new → Serves answers start old d new d
-serves_none answers start old new d none same = subst (λ (ps : List Pid). Serves answers ps old d new d) (sym none) (same, refl)
-
 -- those that were born entered, and what was new was read
 pub ends_step : {B : Type 0} (old mid new : Crew B) (d : ShardState) → Admits (lives d) old mid → AreSame (roles mid) (roles new) → QueueIsLonger (queue mid) (queue new) → KeepsRest mid new
     → (Attends old d → IsAwake (members new) (queue new) d) → EndsStep old d new

@@ -4,7 +4,7 @@ use Rattle.std.specs.Map.{lookup, keys_of, set_value}
 use Rattle.std.specs.List.{list_any, IsDistinct}
 use Rattle.std.specs.Option.{option_map, option_map_or}
 use Rattle.std.specs.declared.alloc.AllocError.{AllocError}
-use Rattle.std.proofs.lemmas.Bool.{eqb-true, eq-eqb, lt-ltb, ltb-true, ltb-false}
+use Rattle.std.proofs.lemmas.Bool.{eqb-true, eq-eqb, lt-ltb}
 use Rattle.std.proofs.lemmas.List.Folds.{list_any-append}
 use Rattle.std.proofs.lemmas.Map.Made.{is_some-lookup}
 use Rattle.std.proofs.lemmas.Map.Steps.{set_value_same}
@@ -15,7 +15,7 @@ use Rattle.pt_signal.proofs.Same.{same_pid_refl, same_pid_is}
 use Rattle.pt_names.specs.declared.group.Group.{Group}
 use Rattle.pt_names.specs.declared.group.Left.TheVariants.{Stays}
 use Rattle.pt_names.specs.Groups.{same_group, Counts, AreThereOnce, SetsCount, count_in, Placed, counts_at, counts_in, times_in, NoneIsEmpty, PlacesMember, Clears}
-use Rattle.pt_names.specs.Groups.{Watched, GroupsState, times_of, watched_of, monitor_kept, groups_of, is_in, AreKept}
+use Rattle.pt_names.specs.Groups.{Watched, GroupsState, times_of, watched_of, groups_of, is_in, AreKept}
 use Rattle.pt_names.specs.Grouping.{GroupsChange, EntersGroup, LeavesGroup}
 use Rattle.pt_names.proofs.Sound.{by_test}
 use Rattle.pt_names.proofs.Naming.{some_is, both}
@@ -222,16 +222,6 @@ begun g p m w old new kept none places its puts = kept_after old new kept p (Som
 
 -- a process that leaves -------------------------------------------------------------------
 
--- who is in a group has a monitor
-pub has_monitor : (s : GroupsState) (g : Group) (p : Pid) → AreKept s → 0 < times_of s g p → (w : Watched) × (watched_of s p ≡ Some w)
-has_monitor s g p kept more = go (watched_of s p) refl
-  where
-    go : (o : Option Watched) → watched_of s p ≡ o → (w : Watched) × (watched_of s p ≡ Some w)
-    go (Some w) e = (w, e)
-    go None e =
-        let no : false ≡ true = sym (ap (λ o. list_any (same_group g) (groups_in o)) e) ∙ kept.agree g p ∙ lt-ltb 0 (times_of s g p) more in
-        absurd (cc)
-
 pub cannot_fail : {E : Type 0} (P Q : Type 0) (r : Result (Unit {0}) E) → OnOk r P → OnErr r Q → (Q → ⊥) → P
 cannot_fail P Q (Ok u) p q never = p
 cannot_fail P Q (Err e) p q never = absurd (never q)
@@ -287,9 +277,6 @@ module _ (g : Group) (p : Pid) (was «is» : Watched) (old new : GroupsState) (k
       again false q = refl
 
 -- a process that leaves all its groups ----------------------------------------------------------
-
-pub cleared_none : (p : Pid) (placed : Placed) → Clears [] p placed placed
-cleared_none p placed = record { cleared = λ g e. absurd (cc); others = λ g e. refl }
 
 pub cleared_one : (xs : List Group) (g : Group) (p : Pid) (old mid new : Placed) → Clears xs p old mid → PlacesMember g p 0 mid new
     → Clears (xs ++ g ∷ []) p old new

@@ -5,11 +5,6 @@ ghost use Rattle.std.specs.List.{list_any, IsDistinct};
 ghost use Rattle.pt_signal.specs.Values.{same_pid};
 ghost use Rattle.pt_names.specs.Groups.{Clears, groups_of, is_in, members_of, monitor_kept, same_group, times_of, watched_of};
 ghost use Rattle.pt_names.specs.Grouping.{AreNone, EntersGroup, JoinsGroup, LeavesAll, Leaving, LeavesGroup};
-ghost use Rattle.std.specs.Prelude.{◌≡◌, ◌+◌, length, None};
-ghost use Rattle.std.specs.List.{list_any, IsDistinct};
-ghost use Rattle.pt_signal.specs.Values.{same_pid};
-ghost use Rattle.pt_names.specs.Groups.{Clears, groups_of, is_in, members_of, monitor_kept, same_group, times_of, watched_of};
-ghost use Rattle.pt_names.specs.Grouping.{AreNone, EntersGroup, JoinsGroup, LeavesAll, Leaving, LeavesGroup};
 
 use crate::group::{Group, JoinError, Left};
 use crate::places::Table;

@@ -1,6 +1,6 @@
 //! How often each process is in each group.
 
-ghost use Rattle.std.specs.Prelude.{◌≡◌, ◌<◌, ◌↔◌, ◌∷◌, [], length, nat_lt, IfOk, OnOk, OnErr, IsTrue};
+ghost use Rattle.std.specs.Prelude.{◌≡◌, ◌<◌, ◌↔◌, ◌∷◌, [], nat_lt, IfOk, OnOk, OnErr, IsTrue};
 ghost use Rattle.std.specs.List.{list_any, IsDistinct};
 ghost use Rattle.std.specs.Map.{keys_of};
 ghost use Rattle.pt_signal.specs.Values.{same_pid};

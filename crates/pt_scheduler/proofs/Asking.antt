@@ -210,18 +210,6 @@ module _ (p : Pid) (boss later : Supervisor Plan) (rest : Member) (old mid new :
 -- it is put back --------------------------------------------------------------------------------
 
 module _ (p : Pid) (boss : Supervisor Plan) (member put : Member) (old mid : Scheduler) (put_is : put ≡ record member { boss = Some boss }) (sets : SetsMember p put old mid) (other : StaysElse old mid) where
-  -- one that has refused what it was asked
-  pub puts_back : PutsBoss p boss member false old mid
-  puts_back = record {
-    set = λ was n here. subst (λ (m : Member). AreWith p (Some (m, n)) (roles old.crew) (roles mid.crew)) put_is (sets.set was n here);
-    longer = ([], other.queue ∙ sym (append-nil (queue old.crew)));
-    stays = λ e. other.queue;
-    read = other.read;
-    desk = other.desk;
-    rest = other.rest;
-    attends = other.attends;
-  }
-
   -- where it stands then
   put_role : (was : Member) (n : Next) → roles old.crew p ≡ Some (was, n) → roles mid.crew p ≡ Some (put, n)
   put_role was n here = there (roles old.crew) (roles mid.crew) p (Some (put, n)) (sets.set was n here) p (same_pid_refl p)

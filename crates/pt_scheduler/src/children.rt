@@ -1,7 +1,6 @@
 //! What a program asks of a supervisor about its children, at run time.
 
 ghost use Rattle.std.specs.Prelude.{◌≡◌};
-ghost use Rattle.std.specs.Option.{option_copied};
 ghost use Rattle.pt_events.specs.History.{Past};
 ghost use Rattle.pt_shard.specs.ShardState.{ShardState};
 ghost use Rattle.pt_scheduler.specs.Owning.{desk_of};

@@ -4,9 +4,9 @@ ghost use Rattle.std.specs.Prelude.{◌≡◌, ◌∷◌, ◌++◌, [], IfOk, On
 ghost use Rattle.pt_behaviour.specs.declared.behaviour.Next.TheVariants.{Proceed};
 ghost use Rattle.pt_supervisor.specs.Hearing.{program_of, standing};
 ghost use Rattle.pt_supervisor.specs.Changed.{RemembersWhere};
-ghost use Rattle.pt_supervisor.specs.Keeping.{HoldsWhere, SupervisorBegins};
+ghost use Rattle.pt_supervisor.specs.Keeping.{HoldsWhere};
 ghost use Rattle.pt_scheduler.specs.Asking.{AddsOrNot, BossDeletes, BossStarts, posts_started};
-ghost use Rattle.pt_scheduler.specs.Planning.{begun_as, child_as, post_as, post_at, posts_of, starts_post, with_again};
+ghost use Rattle.pt_scheduler.specs.Planning.{begun_as, child_as, post_as, posts_of, starts_post, with_again};
 
 use crate::boss::Boss;
 use crate::member::Member;

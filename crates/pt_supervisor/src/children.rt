@@ -1,7 +1,6 @@
 //! The children of a supervisor.
 
 ghost use Rattle.std.specs.Prelude.{◌≡◌, ◌<◌, IfSome, None, Some, true, position, length};
-ghost use Rattle.std.specs.Option.{option_map};
 ghost use Rattle.pt_supervisor.specs.Children.{is_missing, last_alive, leaving, leaving_in, revived, revived_child};
 ghost use Rattle.pt_supervisor.specs.Hearing.{wanted_again};
 ghost use Rattle.pt_signal.specs.Values.{is_pid};

@@ -22,7 +22,7 @@ pub struct Limit {
 }
 
 impl Limit {
-    ghost use Rattle.std.specs.Prelude.{◌≡◌, IfOk, [], cond, false, nat_lt, length, true};
+    ghost use Rattle.std.specs.Prelude.{◌≡◌, IfOk, false, true};
     ghost use Rattle.pt_supervisor.specs.Limits.{Allows, gave_up_over, is_none, moment};
 
     /// At most `most` restarts within `span` stamps. Fails if there is no memory for their times.

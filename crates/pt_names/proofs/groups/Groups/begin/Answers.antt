@@ -1,5 +1,5 @@
 -- `Groups::begin`: the invariant of `self`.
-use Rattle.std.proofs.Common.{Some, cond, sym, ap, ◌∙◌}
+use Rattle.std.proofs.Common.{Some, cond, ap, ◌∙◌}
 use Rattle.std.specs.Map.{lookup}
 use Rattle.pt_signal.specs.Values.{same_pid}
 use Rattle.pt_names.specs.Groups.{GroupsState, watched_of}

@@ -1,5 +1,5 @@
 -- `Groups::enter`: its contract where the process is in a group, and the invariant of `self`.
-use Rattle.std.proofs.Common.{◌≡◌, ◌+◌, ap, sym, ◌∙◌, subst}
+use Rattle.std.proofs.Common.{◌+◌, ap, sym, ◌∙◌, subst}
 use Rattle.pt_names.specs.Groups.{GroupsState, times_of}
 use Rattle.pt_names.specs.Grouping.{EntersGroup}
 use Rattle.pt_names.proofs.Grouped.{enters, entered, is_there}

@@ -1,5 +1,5 @@
 -- `Groups::leave`: its contract where the process stays in the group, and the invariant of `self`.
-use Rattle.std.proofs.Common.{◌<◌, ◌-◌, refl, ap, sym, ◌∙◌, subst, arith}
+use Rattle.std.proofs.Common.{◌-◌, refl, ap, sym, ◌∙◌, subst, arith}
 use Rattle.pt_names.specs.declared.group.Left.TheVariants.{Stays}
 use Rattle.pt_names.specs.Groups.{GroupsState, PlacesMember, times_of}
 use Rattle.pt_names.specs.Grouping.{LeavesGroup}

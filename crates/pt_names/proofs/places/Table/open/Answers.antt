@@ -1,6 +1,5 @@
 -- `Table::open`: the invariant of `self`.
-use Rattle.std.proofs.Common.{◌≡◌, Some, ◌∷◌, [], ap, sym, ◌∙◌}
-use Rattle.pt_names.specs.Groups.{Counts}
+use Rattle.std.proofs.Common.{Some, ap, sym, ◌∙◌}
 use Rattle.pt_names.proofs.Grouped.{none_empty}
 use Rattle.pt_names.proofs.places.Table.open.Goals as goal
 
