@@ -18,10 +18,9 @@ ghost use Rattle.pt_c_crews.specs.Through.{AnswersInOrder, GoesOnIn, OpensCrew, 
 ghost use Rattle.pt_c_values.specs.Filling.{GivesUp};
 
 use pt_c_crews::crew_handle::CrewHandle;
-use pt_c_crews::{calls, crews};
+use pt_c_crews::{calls, children, crews};
 use pt_c_desks::desk_handle::DeskHandle;
 use pt_c_desks::history_handle::HistoryHandle;
-use pt_c_values::crossing::pid_in;
 use pt_c_values::types::{
     PtAnswer, PtChild, PtChildCounts, PtChildSpec, PtGaveUp, PtJob, PtNext, PtPid,
     PtSupervisorSpec, PtTurned,
@@ -118,7 +117,7 @@ pub extern "C" fn pt_crew_supervise(
     ensures { CallsThrough c.old.state c.new.state result (Unit {0})
         (λ old new. CrewSupervises (pid_crossed p) spec children.now result old new) }
 {
-    calls::supervise(alloc, c, pid_in(p), spec, children)
+    calls::supervise(alloc, c, p, spec, children)
 }
 
 /// Does a turn of the desk, and then a step of the crew, which hands out at most as many jobs as `jobs` has places.
@@ -220,7 +219,7 @@ pub extern "C" fn pt_crew_tag(alloc: Global, c: &mut CrewHandle, p: PtPid, out: 
     ensures { ReadsThrough c.old.state c.new.state result (out.new ≡ out.old)
         (λ crew. ShowsCode result out.old out.new (λ v. v.tag) (member_views crew (pid_crossed p))) }
 {
-    calls::tag(alloc, c, pid_in(p), out)
+    calls::tag(alloc, c, p, out)
 }
 
 /// What a process does next; 8 if it is none of the crew.
@@ -229,7 +228,7 @@ pub extern "C" fn pt_crew_next(alloc: Global, c: &mut CrewHandle, p: PtPid, out:
     ensures { ReadsThrough c.old.state c.new.state result (out.new ≡ out.old)
         (λ crew. ShowsCode result out.old out.new (λ v. next_out v.next) (member_views crew (pid_crossed p))) }
 {
-    calls::next(alloc, c, pid_in(p), out)
+    calls::next(alloc, c, p, out)
 }
 
 /// The number of processes of the crew, supervisors too.
@@ -285,7 +284,7 @@ pub extern "C" fn pt_crew_children(
     ensures { ReadsThrough c.old.state c.new.state result (out.new ≡ out.old)
         (λ crew. TellsChildCount crew (pid_crossed p) result out.old out.new) }
 {
-    calls::child_count(alloc, c, pid_in(p), out)
+    children::child_count(alloc, c, p, out)
 }
 
 /// The child at a place of a supervisor; 8 if the process is no supervisor of the crew, or has fewer children.
@@ -300,7 +299,7 @@ pub extern "C" fn pt_crew_child(
     ensures { ReadsThrough c.old.state c.new.state result (out.new ≡ out.old)
         (λ crew. TellsChild crew (pid_crossed p) place result out.old out.new) }
 {
-    calls::child_at(alloc, c, pid_in(p), place, out)
+    children::child_at(alloc, c, p, place, out)
 }
 
 /// Asks a supervisor for one more child, behind the others, as `Scheduler::start_child` does. It writes the place of the child
@@ -317,7 +316,7 @@ pub extern "C" fn pt_crew_start_child(
     ensures { CallsThrough c.old.state c.new.state result (out.new ≡ out.old)
         (λ old new. CrewStartsChild (pid_crossed p) child result out.old out.new old new) }
 {
-    calls::start_child(alloc, c, pid_in(p), child, out)
+    children::start_child(alloc, c, p, child, out)
 }
 
 /// Asks a supervisor to end the child with this tag, as `Scheduler::terminate_child` does; 8 if the process is no supervisor of
@@ -332,7 +331,7 @@ pub extern "C" fn pt_crew_terminate_child(
     ensures { CallsThrough c.old.state c.new.state result (Unit {0})
         (λ old new. CrewTerminatesChild (pid_crossed p) tag result old new) }
 {
-    calls::terminate_child(alloc, c, pid_in(p), tag)
+    children::terminate_child(alloc, c, p, tag)
 }
 
 /// Asks a supervisor to start the child with this tag, as `Scheduler::restart_child` does; 8 if the process is no supervisor of
@@ -347,7 +346,7 @@ pub extern "C" fn pt_crew_restart_child(
     ensures { CallsThrough c.old.state c.new.state result (Unit {0})
         (λ old new. CrewRestartsChild (pid_crossed p) tag result old new) }
 {
-    calls::restart_child(alloc, c, pid_in(p), tag)
+    children::restart_child(alloc, c, p, tag)
 }
 
 /// Has a supervisor forget the child with this tag, as `Scheduler::delete_child` does. It writes the place that the child had
@@ -363,7 +362,7 @@ pub extern "C" fn pt_crew_delete_child(
     ensures { CallsThrough c.old.state c.new.state result (out.new ≡ out.old)
         (λ old new. CrewDeletesChild (pid_crossed p) tag result out.old out.new old new) }
 {
-    calls::delete_child(alloc, c, pid_in(p), tag, out)
+    children::delete_child(alloc, c, p, tag, out)
 }
 
 /// How many children a supervisor has; 8 if the process is no supervisor of the crew.
@@ -377,7 +376,7 @@ pub extern "C" fn pt_crew_count_children(
     ensures { ReadsThrough c.old.state c.new.state result (out.new ≡ out.old)
         (λ crew. TellsCounts crew (pid_crossed p) result out.old out.new) }
 {
-    calls::count_children(alloc, c, pid_in(p), out)
+    children::count_children(alloc, c, p, out)
 }
 
 /// Why a supervisor gave up; 8 if it has not, or if the process is no supervisor of the crew.
@@ -391,5 +390,5 @@ pub extern "C" fn pt_crew_gave_up(
     ensures { ReadsThrough c.old.state c.new.state result (out.new ≡ out.old)
         (λ crew. TellsCause crew (pid_crossed p) result out.old out.new) }
 {
-    calls::gave_up(alloc, c, pid_in(p), out)
+    children::gave_up(alloc, c, p, out)
 }

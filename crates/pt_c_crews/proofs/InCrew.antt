@@ -14,12 +14,16 @@ use Rattle.pt_scheduler.specs.Scheduling.{SchedulerAttends}
 use Rattle.pt_scheduler.proofs.Filling.{FilledSo, all_filled, fills_into, none_filled}
 use Rattle.pt_c_values.specs.declared.types.PtAnswer.{PtAnswer}
 use Rattle.pt_c_values.specs.declared.types.PtJob.{PtJob}
+use Rattle.pt_c_values.specs.declared.types.PtPid.{PtPid}
+use Rattle.pt_c_values.specs.declared.types.PtTurned.{PtTurned}
+use Rattle.pt_behaviour.specs.declared.behaviour.Next.{Next}
+use Rattle.pt_desk.specs.DeskState.{DeskState}
 use Rattle.pt_c_values.specs.Crossing.{no_pid}
 use Rattle.pt_c_tools.specs.Nexts.{no_next}
 use Rattle.pt_c_values.specs.declared.types.PtChildSpec.{PtChildSpec}
 use Rattle.pt_c_crews.specs.Crossing.{child_in, child_or, children_in, job_out}
 use Rattle.pt_c_values.specs.Codes.{IfCrosses, IfOwn}
-use Rattle.pt_c_crews.specs.Crewing.{AnswersAll, AnswersOne, HandsOutRow, KeepsCrew, PullsRow, TakesAnswers}
+use Rattle.pt_c_crews.specs.Crewing.{AnswersAll, AnswersOne, CrewSteps, HandsOutRow, KeepsCrew, PullsRow, SpawnsChildNext, TakesAnswers}
 
 -- a row of jobs --------------------------------------------------------------------------
 
@@ -202,3 +206,17 @@ children_known cs is = ap (λ (b : Bool). cond b (Some (map (λ c. child_or (chi
 -- a crew is as it is
 pub is_itself : (t : Scheduler) → IsSame t.crew t.crew
 is_itself t = record { members = λ q. refl; queue = refl; read = refl; timers = refl; rest = search }
+
+-- a step, as it was written to the places that were passed in
+pub steps_as : (budget : ℕ) (jobs : List PtJob) (old : Scheduler) (d : DeskState) (out told : PtTurned) (count filled : ℕ) (later row : List PtJob) (new : Scheduler) (e : DeskState)
+    → out ≡ told → count ≡ filled → later ≡ row → CrewSteps budget jobs old d told filled row new e → CrewSteps budget jobs old d out count later new e
+steps_as budget jobs old d out told count filled later row new e is as_many same steps =
+    subst (λ (t : PtTurned). CrewSteps budget jobs old d t count later new e) (sym is)
+    (subst (λ (n : ℕ). CrewSteps budget jobs old d told n later new e) (sym as_many)
+    (subst (λ (l : List PtJob). CrewSteps budget jobs old d told filled l new e) (sym same) steps))
+
+-- a child is spawned, where q is the pid that was passed in, crossed, and so is what it does first
+pub child_as : (p q : Pid) (linked : Bool) (tag code : ℕ) (before after : PtPid) (old : Scheduler) (d : DeskState) (new : Scheduler) (e : DeskState) (next first : Next)
+    → q ≡ p → SpawnsChildNext q linked tag code before after old d new e first → first ≡ next → SpawnsChildNext p linked tag code before after old d new e next
+child_as p q linked tag code before after old d new e next first is h same =
+    subst (λ (x : Pid). SpawnsChildNext x linked tag code before after old d new e next) is (subst (λ (n : Next). SpawnsChildNext q linked tag code before after old d new e n) same h)

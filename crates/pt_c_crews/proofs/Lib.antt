@@ -2,4 +2,6 @@
 pub mod InCrew
 pub mod AlongRow
 mod Handles
+pub mod Through
+pub mod Asking
 pub mod NodeGoingOn

@@ -67,7 +67,7 @@ SpawnsChildNext parent linked tag code before after old d new e next =
     SpawnsAs code before after
     (λ r. EntersChild parent linked (new_member tag None) next (crew_of old) d.shard r (crew_of new) e.shard) old d new
     × StaysWithDesk old d new e
-    × (IsNoBoss old parent → StillUpholds old d new e)
+    × ((past : Past) → IsNoBoss old parent → SchedulerUpholds past old d.shard → SchedulerUpholds past new e.shard)
 
 abbrev pub SpawnsChildInCrew : Pid → Bool → ℕ → PtNext → ℕ → PtPid → PtPid → Scheduler → DeskState → Scheduler → DeskState
     → Type 0

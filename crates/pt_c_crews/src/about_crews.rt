@@ -10,9 +10,9 @@ use pt_c_tools::about::{BLANK, NOBODY, PtCodes, codes_below};
 use pt_c_tools::about_supervisors::PtSupervisorCodes;
 use pt_c_values::codes::{CHILD_PRESENT, CHILD_RESTARTING, CHILD_RUNNING};
 use pt_c_values::types::{PtChild, PtChildCounts, PtChildSpec, PtGaveUp, PtSupervisorSpec};
-use pt_node::{Item, Reason};
 use pt_scheduler::{Job, What};
 use pt_supervisor::{Restart, Shutdown, Strategy};
+use pt_workers::{Item, Reason};
 use std::mem::size_of;
 
 /// Writes each code, from the same functions as the calls.

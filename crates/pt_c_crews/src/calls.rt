@@ -1,34 +1,30 @@
-//! The calls of a crew through its handle.
+//! The calls of a crew alone.
 //!
-//! Each makes the call of `crewing` that has its name on the crew of the handle, and returns its code. It returns `EMPTY`
+//! Each makes the call of `Scheduler` that has its name on the crew of the handle, and returns its code. It returns `EMPTY`
 //! if the handle has none, and nothing has changed then.
 
 ghost use Rattle.std.specs.Prelude.{◌≡◌, length};
-ghost use Rattle.pt_c_values.specs.Places.{CallsThrough, ReadsThrough, ShowsCode};
-ghost use Rattle.pt_c_values.specs.Filling.{GivesUp};
 ghost use Rattle.pt_crew.specs.Crews.{crew_size, queue, was_refused};
-ghost use Rattle.pt_c_tools.specs.Nexts.{next_out};
 ghost use Rattle.pt_scheduler.specs.Scheduling.{member_views, crew_of};
-ghost use Rattle.pt_c_crews.specs.Crewing.{NotesIfOwn, SpawnsBossInCrew, SpawnsChildInCrew, SpawnsInCrew};
-ghost use Rattle.pt_c_crews.specs.Crewing.{CrewBeginsAgain, CrewSupervises, CrewTells, TellsChild, TellsChildCount, TellsTime};
-ghost use Rattle.pt_c_crews.specs.Children.{CrewDeletesChild, CrewRestartsChild, CrewStartsChild, CrewTerminatesChild};
-ghost use Rattle.pt_c_crews.specs.Children.{TellsCause, TellsCounts};
-ghost use Rattle.pt_c_crews.specs.Through.{AnswersInOrder, GoesOnIn, OpensCrew, SetsCrewTime, StepsIfOwn};
+ghost use Rattle.pt_c_values.specs.Places.{CallsThrough, ReadsThrough, ShowsCode};
+ghost use Rattle.pt_c_values.specs.Crossing.{pid_crossed};
+ghost use Rattle.pt_c_values.specs.Filling.{GivesUp};
+ghost use Rattle.pt_c_tools.specs.Nexts.{next_out};
+ghost use Rattle.pt_c_crews.specs.Crewing.{CrewBeginsAgain, CrewSupervises, TellsTime};
+ghost use Rattle.pt_c_crews.specs.Through.{AnswersInOrder, OpensCrew, SetsCrewTime};
 
+use crate::batches::answer_all;
 use crate::crew_handle::{CrewHandle, claim, filled, hold, is_full, spare};
-use crate::{children, crewing};
-use pt_c_values::codes::{DONE, EMPTY, FILLED, MEMORY};
+use crate::crossing::{are_children, children_in, spec_in};
+use pt_c_tools::crossing_nexts::next_out;
+use pt_c_values::codes::{BAD_CODE, DONE, EMPTY, FILLED, MEMORY, NOT_RUNNING, NOTHING};
+use pt_c_values::crossing::pid_in;
 use pt_c_values::ending::end_code;
-use pt_c_values::types::{
-    PtAnswer, PtChild, PtChildCounts, PtChildSpec, PtGaveUp, PtJob, PtNext, PtPid,
-    PtSupervisorSpec, PtTurned,
-};
-use pt_events::Stamped;
-use pt_node::{Desk, Pid};
+use pt_c_values::types::{PtAnswer, PtChildSpec, PtNext, PtPid, PtSupervisorSpec};
 use pt_scheduler::Scheduler;
 use std::alloc::Global;
 
-/// Begins a crew.
+/// Begins a crew. The handle must be empty: it returns 10 if it is not.
 pub fn open(alloc: Global, c: &mut CrewHandle) -> u32
     ensures { OpensCrew result c.old.state c.new.state }
 {
@@ -42,7 +38,7 @@ pub fn open(alloc: Global, c: &mut CrewHandle) -> u32
     DONE
 }
 
-/// Gives up the crew.
+/// Gives up the crew. Its processes stay on their desk, and are of no crew.
 pub fn give_up(alloc: Global, c: &mut CrewHandle) -> u32
     ensures { GivesUp result c.old.state c.new.state }
 {
@@ -52,121 +48,41 @@ pub fn give_up(alloc: Global, c: &mut CrewHandle) -> u32
     }
 }
 
-pub fn spawn(
-    alloc: Global,
-    c: &mut CrewHandle,
-    desk: &mut Desk,
-    tag: u64,
-    first: PtNext,
-    out: &mut PtPid,
-) -> u32
-    ensures { CallsThrough c.old.state c.new.state result ((desk.new ≡ desk.old) × (out.new ≡ out.old))
-        (λ old new. SpawnsInCrew tag first result out.old out.new old desk.old new desk.new) }
-{
-    let Some(mut held) = claim(alloc, c) else {
-        return EMPTY;
-    };
-    let code = match &mut held.crew {
-        Some(crew) => crewing::spawn(crew, desk, tag, first, out),
-        None => EMPTY,
-    };
-    *c = hold(held);
-    code
-}
-
-pub fn spawn_child(
-    alloc: Global,
-    c: &mut CrewHandle,
-    desk: &mut Desk,
-    parent: Pid,
-    linked: bool,
-    tag: u64,
-    first: PtNext,
-    out: &mut PtPid,
-) -> u32
-    ensures { CallsThrough c.old.state c.new.state result ((desk.new ≡ desk.old) × (out.new ≡ out.old))
-        (λ old new. SpawnsChildInCrew parent linked tag first result out.old out.new old desk.old new desk.new) }
-{
-    let Some(mut held) = claim(alloc, c) else {
-        return EMPTY;
-    };
-    let code = match &mut held.crew {
-        Some(crew) => crewing::spawn_child(crew, desk, parent, linked, tag, first, out),
-        None => EMPTY,
-    };
-    *c = hold(held);
-    code
-}
-
-pub fn spawn_supervisor(
-    alloc: Global,
-    c: &mut CrewHandle,
-    desk: &mut Desk,
-    tag: u64,
-    spec: PtSupervisorSpec,
-    children: &[PtChildSpec],
-    out: &mut PtPid,
-) -> u32
-    ensures { CallsThrough c.old.state c.new.state result ((desk.new ≡ desk.old) × (out.new ≡ out.old))
-        (λ old new. SpawnsBossInCrew tag spec children.now result out.old out.new old desk.old new desk.new) }
-{
-    let Some(mut held) = claim(alloc, c) else {
-        return EMPTY;
-    };
-    let code = match &mut held.crew {
-        Some(crew) => crewing::spawn_supervisor(alloc, crew, desk, tag, spec, children, out),
-        None => EMPTY,
-    };
-    *c = hold(held);
-    code
-}
-
+/// Says that a running process is a supervisor from now on. It returns 16 if a code of it or of a child is none of its
+/// enumeration, and 17 if the process is not running or is none of the crew.
 pub fn supervise(
     alloc: Global,
     c: &mut CrewHandle,
-    p: Pid,
+    p: PtPid,
     spec: PtSupervisorSpec,
     children: &[PtChildSpec],
 ) -> u32
     ensures { CallsThrough c.old.state c.new.state result (Unit {0})
-        (λ old new. CrewSupervises p spec children.now result old new) }
+        (λ old new. CrewSupervises (pid_crossed p) spec children.now result old new) }
 {
     let Some(mut held) = claim(alloc, c) else {
         return EMPTY;
     };
     let code = match &mut held.crew {
-        Some(crew) => crewing::supervise(alloc, crew, p, spec, children),
+        Some(crew) => match spec_in(spec) {
+            Some(known) if are_children(children) => match children_in(alloc, children) {
+                Ok(list) => match crew.supervise(alloc, pid_in(p), known, list.as_slice()) {
+                    Ok(true) => DONE,
+                    Ok(false) => NOT_RUNNING,
+                    Err(_) => MEMORY,
+                },
+                Err(_) => MEMORY,
+            },
+            _ => BAD_CODE,
+        },
         None => EMPTY,
     };
     *c = hold(held);
     code
 }
 
-pub fn step(
-    alloc: Global,
-    c: &mut CrewHandle,
-    desk: &mut Desk,
-    budget: u32,
-    jobs: &mut [PtJob],
-    count: &mut usize,
-    turned: &mut PtTurned,
-) -> u32
-    ensures { CallsThrough c.old.state c.new.state result ((desk.new ≡ desk.old) × (jobs.new ≡ jobs.old)
-        × (count.new ≡ count.old) × (turned.new ≡ turned.old))
-        (λ old new. StepsIfOwn budget result jobs.old jobs.new count.old count.new turned.old turned.new old desk.old
-        new desk.new) }
-{
-    let Some(mut held) = claim(alloc, c) else {
-        return EMPTY;
-    };
-    let code = match &mut held.crew {
-        Some(crew) => crewing::step(crew, desk, budget, jobs, count, turned),
-        None => EMPTY,
-    };
-    *c = hold(held);
-    code
-}
-
+/// Takes the answers in order, up to the first that is refused. `taken` is the number of those taken then. It returns the
+/// code of the one that was refused, if there is one.
 pub fn answer(alloc: Global, c: &mut CrewHandle, answers: &[PtAnswer], taken: &mut usize) -> u32
     ensures { CallsThrough c.old.state c.new.state result (taken.new ≡ taken.old)
         (λ old new. AnswersInOrder answers.now result taken.new old new) }
@@ -175,13 +91,14 @@ pub fn answer(alloc: Global, c: &mut CrewHandle, answers: &[PtAnswer], taken: &m
         return EMPTY;
     };
     let code = match &mut held.crew {
-        Some(crew) => crewing::answer_all(crew, answers, taken),
+        Some(crew) => answer_all(crew, answers, taken),
         None => EMPTY,
     };
     *c = hold(held);
     code
 }
 
+/// Says what time it is in the calls that follow.
 pub fn set_time(alloc: Global, c: &mut CrewHandle, now: u64) -> u32
     ensures { CallsThrough c.old.state c.new.state result (Unit {0}) (λ old new. SetsCrewTime now result old new) }
 {
@@ -199,21 +116,7 @@ pub fn set_time(alloc: Global, c: &mut CrewHandle, now: u64) -> u32
     code
 }
 
-pub fn note_loss(alloc: Global, c: &mut CrewHandle, desk: &Desk, place: usize) -> u32
-    ensures { CallsThrough c.old.state c.new.state result (Unit {0})
-        (λ old new. NotesIfOwn place result old desk.now new) }
-{
-    let Some(mut held) = claim(alloc, c) else {
-        return EMPTY;
-    };
-    let code = match &mut held.crew {
-        Some(crew) => crewing::note_loss(crew, desk, place),
-        None => EMPTY,
-    };
-    *c = hold(held);
-    code
-}
-
+/// Continues over the desk of the same number in a node that was resumed. It may be called again if it returns 2.
 pub fn begin_again(alloc: Global, c: &mut CrewHandle) -> u32
     ensures { CallsThrough c.old.state c.new.state result (Unit {0}) (λ old new. CrewBeginsAgain result old new) }
 {
@@ -221,47 +124,17 @@ pub fn begin_again(alloc: Global, c: &mut CrewHandle) -> u32
         return EMPTY;
     };
     let code = match &mut held.crew {
-        Some(crew) => crewing::begin_again(crew),
+        Some(crew) => match crew.begin_again() {
+            Ok(()) => DONE,
+            Err(_) => MEMORY,
+        },
         None => EMPTY,
     };
     *c = hold(held);
     code
 }
 
-/// Continues over the desk of the same number in a node that was resumed, with the history of the node before, the oldest
-/// event first.
-pub fn go_on(alloc: Global, c: &mut CrewHandle, history: &[Stamped]) -> u32
-    ensures { CallsThrough c.old.state c.new.state result (Unit {0}) (λ old new. GoesOnIn history.now result old new) }
-{
-    let Some(mut held) = claim(alloc, c) else {
-        return EMPTY;
-    };
-    let code = match &mut held.crew {
-        Some(crew) => {
-            crew.go_on(history);
-            DONE
-        }
-        None => EMPTY,
-    };
-    *c = hold(held);
-    code
-}
-
-pub fn is_idle(alloc: Global, c: &mut CrewHandle, desk: &Desk, out: &mut bool) -> u32
-    ensures { ReadsThrough c.old.state c.new.state result (out.new ≡ out.old)
-        (λ crew. CrewTells result crew desk.now out.old out.new) }
-{
-    let Some(held) = claim(alloc, c) else {
-        return EMPTY;
-    };
-    let code = match &held.crew {
-        Some(crew) => crewing::is_idle(crew, desk, out),
-        None => EMPTY,
-    };
-    *c = hold(held);
-    code
-}
-
+/// The earliest time until which a process waits that is not in the queue; 8 if there is no such process.
 pub fn next_time(alloc: Global, c: &mut CrewHandle, out: &mut u64) -> u32
     ensures { ReadsThrough c.old.state c.new.state result (out.new ≡ out.old)
         (λ crew. TellsTime crew result out.old out.new) }
@@ -270,43 +143,64 @@ pub fn next_time(alloc: Global, c: &mut CrewHandle, out: &mut u64) -> u32
         return EMPTY;
     };
     let code = match &held.crew {
-        Some(crew) => crewing::next_time(crew, out),
+        Some(crew) => match crew.next_time() {
+            Some(time) => {
+                *out = time;
+                DONE
+            }
+            None => NOTHING,
+        },
         None => EMPTY,
     };
     *c = hold(held);
     code
 }
 
-pub fn tag(alloc: Global, c: &mut CrewHandle, p: Pid, out: &mut u64) -> u32
+/// The tag of a process; 8 if it is none of the crew.
+pub fn tag(alloc: Global, c: &mut CrewHandle, p: PtPid, out: &mut u64) -> u32
     ensures { ReadsThrough c.old.state c.new.state result (out.new ≡ out.old)
-        (λ crew. ShowsCode result out.old out.new (λ v. v.tag) (member_views crew p)) }
+        (λ crew. ShowsCode result out.old out.new (λ v. v.tag) (member_views crew (pid_crossed p))) }
 {
     let Some(held) = claim(alloc, c) else {
         return EMPTY;
     };
     let code = match &held.crew {
-        Some(crew) => crewing::tag(crew, p, out),
+        Some(crew) => match crew.tag(pid_in(p)) {
+            Some(tag) => {
+                *out = tag;
+                DONE
+            }
+            None => NOTHING,
+        },
         None => EMPTY,
     };
     *c = hold(held);
     code
 }
 
-pub fn next(alloc: Global, c: &mut CrewHandle, p: Pid, out: &mut PtNext) -> u32
+/// What a process does next; 8 if it is none of the crew.
+pub fn next(alloc: Global, c: &mut CrewHandle, p: PtPid, out: &mut PtNext) -> u32
     ensures { ReadsThrough c.old.state c.new.state result (out.new ≡ out.old)
-        (λ crew. ShowsCode result out.old out.new (λ v. next_out v.next) (member_views crew p)) }
+        (λ crew. ShowsCode result out.old out.new (λ v. next_out v.next) (member_views crew (pid_crossed p))) }
 {
     let Some(held) = claim(alloc, c) else {
         return EMPTY;
     };
     let code = match &held.crew {
-        Some(crew) => crewing::next(crew, p, out),
+        Some(crew) => match crew.next(pid_in(p)) {
+            Some(next) => {
+                *out = next_out(next);
+                DONE
+            }
+            None => NOTHING,
+        },
         None => EMPTY,
     };
     *c = hold(held);
     code
 }
 
+/// The number of processes of the crew, supervisors too.
 pub fn len(alloc: Global, c: &mut CrewHandle, out: &mut usize) -> u32
     ensures { ReadsThrough c.old.state c.new.state result (out.new ≡ out.old)
         (λ crew. (result ≡ 0) × (out.new ≡ crew_size (crew_of crew))) }
@@ -325,6 +219,7 @@ pub fn len(alloc: Global, c: &mut CrewHandle, out: &mut usize) -> u32
     code
 }
 
+/// The number of processes of the crew that may have something to do.
 pub fn queued(alloc: Global, c: &mut CrewHandle, out: &mut usize) -> u32
     ensures { ReadsThrough c.old.state c.new.state result (out.new ≡ out.old)
         (λ crew. (result ≡ 0) × (out.new ≡ length (queue (crew_of crew)))) }
@@ -343,6 +238,7 @@ pub fn queued(alloc: Global, c: &mut CrewHandle, out: &mut usize) -> u32
     code
 }
 
+/// Whether a process was refused memory or a stamp in the last step.
 pub fn refused(alloc: Global, c: &mut CrewHandle, out: &mut bool) -> u32
     ensures { ReadsThrough c.old.state c.new.state result (out.new ≡ out.old)
         (λ crew. (result ≡ 0) × (out.new ≡ was_refused (crew_of crew))) }
@@ -355,132 +251,6 @@ pub fn refused(alloc: Global, c: &mut CrewHandle, out: &mut bool) -> u32
             *out = crew.refused();
             DONE
         }
-        None => EMPTY,
-    };
-    *c = hold(held);
-    code
-}
-
-pub fn child_count(alloc: Global, c: &mut CrewHandle, p: Pid, out: &mut usize) -> u32
-    ensures { ReadsThrough c.old.state c.new.state result (out.new ≡ out.old)
-        (λ crew. TellsChildCount crew p result out.old out.new) }
-{
-    let Some(held) = claim(alloc, c) else {
-        return EMPTY;
-    };
-    let code = match &held.crew {
-        Some(crew) => crewing::child_count(crew, p, out),
-        None => EMPTY,
-    };
-    *c = hold(held);
-    code
-}
-
-pub fn child_at(alloc: Global, c: &mut CrewHandle, p: Pid, place: usize, out: &mut PtChild) -> u32
-    ensures { ReadsThrough c.old.state c.new.state result (out.new ≡ out.old)
-        (λ crew. TellsChild crew p place result out.old out.new) }
-{
-    let Some(held) = claim(alloc, c) else {
-        return EMPTY;
-    };
-    let code = match &held.crew {
-        Some(crew) => crewing::child_at(crew, p, place, out),
-        None => EMPTY,
-    };
-    *c = hold(held);
-    code
-}
-
-pub fn start_child(
-    alloc: Global,
-    c: &mut CrewHandle,
-    p: Pid,
-    child: PtChildSpec,
-    out: &mut usize,
-) -> u32
-    ensures { CallsThrough c.old.state c.new.state result (out.new ≡ out.old)
-        (λ old new. CrewStartsChild p child result out.old out.new old new) }
-{
-    let Some(mut held) = claim(alloc, c) else {
-        return EMPTY;
-    };
-    let code = match &mut held.crew {
-        Some(crew) => children::start_child(crew, p, child, out),
-        None => EMPTY,
-    };
-    *c = hold(held);
-    code
-}
-
-pub fn terminate_child(alloc: Global, c: &mut CrewHandle, p: Pid, tag: u64) -> u32
-    ensures { CallsThrough c.old.state c.new.state result (Unit {0})
-        (λ old new. CrewTerminatesChild p tag result old new) }
-{
-    let Some(mut held) = claim(alloc, c) else {
-        return EMPTY;
-    };
-    let code = match &mut held.crew {
-        Some(crew) => children::terminate_child(crew, p, tag),
-        None => EMPTY,
-    };
-    *c = hold(held);
-    code
-}
-
-pub fn restart_child(alloc: Global, c: &mut CrewHandle, p: Pid, tag: u64) -> u32
-    ensures { CallsThrough c.old.state c.new.state result (Unit {0})
-        (λ old new. CrewRestartsChild p tag result old new) }
-{
-    let Some(mut held) = claim(alloc, c) else {
-        return EMPTY;
-    };
-    let code = match &mut held.crew {
-        Some(crew) => children::restart_child(crew, p, tag),
-        None => EMPTY,
-    };
-    *c = hold(held);
-    code
-}
-
-pub fn delete_child(alloc: Global, c: &mut CrewHandle, p: Pid, tag: u64, out: &mut usize) -> u32
-    ensures { CallsThrough c.old.state c.new.state result (out.new ≡ out.old)
-        (λ old new. CrewDeletesChild p tag result out.old out.new old new) }
-{
-    let Some(mut held) = claim(alloc, c) else {
-        return EMPTY;
-    };
-    let code = match &mut held.crew {
-        Some(crew) => children::delete_child(crew, p, tag, out),
-        None => EMPTY,
-    };
-    *c = hold(held);
-    code
-}
-
-pub fn count_children(alloc: Global, c: &mut CrewHandle, p: Pid, out: &mut PtChildCounts) -> u32
-    ensures { ReadsThrough c.old.state c.new.state result (out.new ≡ out.old)
-        (λ crew. TellsCounts crew p result out.old out.new) }
-{
-    let Some(held) = claim(alloc, c) else {
-        return EMPTY;
-    };
-    let code = match &held.crew {
-        Some(crew) => children::count_children(crew, p, out),
-        None => EMPTY,
-    };
-    *c = hold(held);
-    code
-}
-
-pub fn gave_up(alloc: Global, c: &mut CrewHandle, p: Pid, out: &mut PtGaveUp) -> u32
-    ensures { ReadsThrough c.old.state c.new.state result (out.new ≡ out.old)
-        (λ crew. TellsCause crew p result out.old out.new) }
-{
-    let Some(held) = claim(alloc, c) else {
-        return EMPTY;
-    };
-    let code = match &held.crew {
-        Some(crew) => children::gave_up(crew, p, out),
         None => EMPTY,
     };
     *c = hold(held);

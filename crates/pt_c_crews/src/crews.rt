@@ -1,22 +1,53 @@
 //! The calls of a crew that get a desk or a history, too.
 //!
-//! Each returns 9 if a handle has none, and nothing has changed then. Of those that get a desk each returns 18 if the crew
-//! is that of a desk with another number, and nothing has changed then either.
+//! Each makes the call of `Scheduler` that has its name on the crew of the handle, and returns its code. It returns 9 if a
+//! handle has none, and nothing has changed then. Of those that get a desk each returns 18 if the crew is that of a desk
+//! with another number, and nothing has changed then either. So 9 comes before 16, and 16 before 18 and each other refusal.
 
 ghost use Rattle.std.specs.Prelude.{◌≡◌};
 ghost use Rattle.pt_c_values.specs.Places.{CallsThrough, ReadsThrough};
-ghost use Rattle.pt_c_values.specs.Crossing.{pid_crossed};
+ghost use Rattle.pt_c_values.specs.Codes.{code_at, told_or};
+ghost use Rattle.pt_c_values.specs.Crossing.{pid_crossed, pid_out};
 ghost use Rattle.pt_c_crews.specs.Crewing.{NotesIfOwn, SpawnsBossInCrew, SpawnsChildInCrew, SpawnsInCrew, CrewTells};
+ghost use Rattle.pt_c_crews.specs.Owning.{is_own};
 ghost use Rattle.pt_c_crews.specs.Through.{GoesOnIn, StepsIfOwn};
 
-use crate::calls;
-use crate::crew_handle::CrewHandle;
-use pt_c_desks::desk_handle::{DeskHandle, claim, hold};
+use crate::batches::fill;
+use crate::crew_handle::{CrewHandle, claim, hold};
+use crate::crossing::{are_children, children_in, spec_in};
+use pt_c_desks::desk_handle::{DeskHandle, claim as claim_desk, hold as hold_desk};
 use pt_c_desks::history_handle::{HistoryHandle, claim as claim_history, hold as hold_history};
-use pt_c_values::codes::EMPTY;
-use pt_c_values::crossing::pid_in;
+use pt_c_tools::crossing_nexts::next_in;
+use pt_c_values::codes::{BAD_CODE, DONE, EMPTY, MEMORY, NOTHING, WRONG_DESK, code_of, stop_code};
+use pt_c_values::crossing::{pid_in, pid_out};
 use pt_c_values::types::{PtChildSpec, PtJob, PtNext, PtPid, PtSupervisorSpec, PtTurned};
+use pt_scheduler::Scheduler;
+use pt_workers::{Desk, Fault, Pid};
 use std::alloc::Global;
+
+/// Whether the desk is the crew's own, or the crew may be that of any desk.
+fn is_own(crew: &Scheduler, desk: &Desk) -> bool
+    ensures { result ≡ is_own crew.now desk.now }
+{
+    match crew.desk() {
+        Some(number) => number == desk.number(),
+        None => true,
+    }
+}
+
+/// The code of a spawn. It writes the pid, if there is one.
+fn spawn_code(spawned: Result<Pid, Fault>, out: &mut PtPid) -> u32
+    ensures code { result ≡ code_at spawned }
+    ensures wrote { out.new ≡ told_or pid_out out.old spawned }
+{
+    match spawned {
+        Ok(pid) => {
+            *out = pid_out(pid);
+            DONE
+        }
+        Err(fault) => code_of(fault),
+    }
+}
 
 /// Spawns a process on the desk with this tag, which does `first` next, as `Scheduler::spawn` does. It writes the pid to
 /// `out` if it returns 0. It returns 16 if a code in `first` is none of its enumeration.
@@ -32,14 +63,23 @@ pub fn spawn(
         (λ d e. CallsThrough c.old.state c.new.state result ((e ≡ d) × (out.new ≡ out.old))
         (λ old new. SpawnsInCrew tag first result out.old out.new old d new e)) }
 {
-    let Some(mut place) = claim(alloc, h) else {
+    let Some(mut place) = claim_desk(alloc, h) else {
         return EMPTY;
     };
-    let code = match &mut place.desk {
-        Some(desk) => calls::spawn(alloc, c, desk, tag, first, out),
-        None => EMPTY,
+    let Some(mut held) = claim(alloc, c) else {
+        *h = hold_desk(place);
+        return EMPTY;
     };
-    *h = hold(place);
+    let code = match (&mut held.crew, &mut place.desk) {
+        (Some(crew), Some(desk)) => match next_in(first) {
+            Some(_) if !is_own(crew, desk) => WRONG_DESK,
+            Some(next) => spawn_code(crew.spawn(desk, tag, next), out),
+            None => BAD_CODE,
+        },
+        _ => EMPTY,
+    };
+    *c = hold(held);
+    *h = hold_desk(place);
     code
 }
 
@@ -59,14 +99,26 @@ pub fn spawn_child(
         (λ d e. CallsThrough c.old.state c.new.state result ((e ≡ d) × (out.new ≡ out.old))
         (λ old new. SpawnsChildInCrew (pid_crossed parent) linked tag first result out.old out.new old d new e)) }
 {
-    let Some(mut place) = claim(alloc, h) else {
+    let Some(mut place) = claim_desk(alloc, h) else {
         return EMPTY;
     };
-    let code = match &mut place.desk {
-        Some(desk) => calls::spawn_child(alloc, c, desk, pid_in(parent), linked, tag, first, out),
-        None => EMPTY,
+    let Some(mut held) = claim(alloc, c) else {
+        *h = hold_desk(place);
+        return EMPTY;
     };
-    *h = hold(place);
+    let code = match (&mut held.crew, &mut place.desk) {
+        (Some(crew), Some(desk)) => match next_in(first) {
+            Some(_) if !is_own(crew, desk) => WRONG_DESK,
+            Some(next) => {
+                let child = crew.spawn_child(desk, pid_in(parent), linked, tag, next);
+                spawn_code(child, out)
+            }
+            None => BAD_CODE,
+        },
+        _ => EMPTY,
+    };
+    *c = hold(held);
+    *h = hold_desk(place);
     code
 }
 
@@ -85,14 +137,30 @@ pub fn spawn_supervisor(
         (λ d e. CallsThrough c.old.state c.new.state result ((e ≡ d) × (out.new ≡ out.old))
         (λ old new. SpawnsBossInCrew tag spec children.now result out.old out.new old d new e)) }
 {
-    let Some(mut place) = claim(alloc, h) else {
+    let Some(mut place) = claim_desk(alloc, h) else {
         return EMPTY;
     };
-    let code = match &mut place.desk {
-        Some(desk) => calls::spawn_supervisor(alloc, c, desk, tag, spec, children, out),
-        None => EMPTY,
+    let Some(mut held) = claim(alloc, c) else {
+        *h = hold_desk(place);
+        return EMPTY;
     };
-    *h = hold(place);
+    let code = match (&mut held.crew, &mut place.desk) {
+        (Some(crew), Some(desk)) => match spec_in(spec) {
+            Some(_) if !are_children(children) => BAD_CODE,
+            Some(_) if !is_own(crew, desk) => WRONG_DESK,
+            Some(known) => match children_in(alloc, children) {
+                Ok(list) => {
+                    let boss = crew.spawn_supervisor(alloc, desk, tag, known, list.as_slice());
+                    spawn_code(boss, out)
+                }
+                Err(_) => MEMORY,
+            },
+            None => BAD_CODE,
+        },
+        _ => EMPTY,
+    };
+    *c = hold(held);
+    *h = hold_desk(place);
     code
 }
 
@@ -113,14 +181,31 @@ pub fn step(
         × (count.new ≡ count.old) × (turned.new ≡ turned.old))
         (λ old new. StepsIfOwn budget result jobs.old jobs.new count.old count.new turned.old turned.new old d new e)) }
 {
-    let Some(mut place) = claim(alloc, h) else {
+    let Some(mut place) = claim_desk(alloc, h) else {
         return EMPTY;
     };
-    let code = match &mut place.desk {
-        Some(desk) => calls::step(alloc, c, desk, budget, jobs, count, turned),
-        None => EMPTY,
+    let Some(mut held) = claim(alloc, c) else {
+        *h = hold_desk(place);
+        return EMPTY;
     };
-    *h = hold(place);
+    let code = match (&mut held.crew, &mut place.desk) {
+        (Some(crew), Some(desk)) if !is_own(crew, desk) => WRONG_DESK,
+        (Some(crew), Some(desk)) => {
+            let turn = desk.turn(budget);
+            crew.begin_step(desk);
+            *count = fill(crew, desk, jobs);
+            crew.end_step(desk);
+            *turned = PtTurned {
+                posted: turn.posted,
+                handled: turn.handled,
+                stopped: stop_code(turn.stopped),
+            };
+            DONE
+        }
+        _ => EMPTY,
+    };
+    *c = hold(held);
+    *h = hold_desk(place);
     code
 }
 
@@ -130,14 +215,26 @@ pub fn note_loss(alloc: Global, c: &mut CrewHandle, h: &mut DeskHandle, place: u
     ensures { ReadsThrough h.old.state h.new.state result (c.new.state ≡ c.old.state)
         (λ d. CallsThrough c.old.state c.new.state result (Unit {0}) (λ old new. NotesIfOwn place result old d new)) }
 {
-    let Some(held) = claim(alloc, h) else {
+    let Some(desk_place) = claim_desk(alloc, h) else {
         return EMPTY;
     };
-    let code = match &held.desk {
-        Some(desk) => calls::note_loss(alloc, c, desk, place),
-        None => EMPTY,
+    let Some(mut held) = claim(alloc, c) else {
+        *h = hold_desk(desk_place);
+        return EMPTY;
     };
-    *h = hold(held);
+    let code = match (&mut held.crew, &desk_place.desk) {
+        (Some(crew), Some(desk)) if !is_own(crew, desk) => WRONG_DESK,
+        (Some(crew), Some(desk)) => match desk.loss(place) {
+            Some(loss) => {
+                crew.note_loss(loss);
+                DONE
+            }
+            None => NOTHING,
+        },
+        _ => EMPTY,
+    };
+    *c = hold(held);
+    *h = hold_desk(desk_place);
     code
 }
 
@@ -150,10 +247,18 @@ pub fn go_on(alloc: Global, c: &mut CrewHandle, history: &mut HistoryHandle) -> 
     let Some(place) = claim_history(alloc, history) else {
         return EMPTY;
     };
-    let code = match &place.history {
-        Some(told) => calls::go_on(alloc, c, told.events.as_slice()),
-        None => EMPTY,
+    let Some(mut held) = claim(alloc, c) else {
+        *history = hold_history(place);
+        return EMPTY;
     };
+    let code = match (&mut held.crew, &place.history) {
+        (Some(crew), Some(told)) => {
+            crew.go_on(told.events.as_slice());
+            DONE
+        }
+        _ => EMPTY,
+    };
+    *c = hold(held);
     *history = hold_history(place);
     code
 }
@@ -164,13 +269,22 @@ pub fn is_idle(alloc: Global, c: &mut CrewHandle, h: &mut DeskHandle, out: &mut 
         (λ d. ReadsThrough c.old.state c.new.state result (out.new ≡ out.old)
         (λ crew. CrewTells result crew d out.old out.new)) }
 {
-    let Some(held) = claim(alloc, h) else {
+    let Some(place) = claim_desk(alloc, h) else {
         return EMPTY;
     };
-    let code = match &held.desk {
-        Some(desk) => calls::is_idle(alloc, c, desk, out),
-        None => EMPTY,
+    let Some(held) = claim(alloc, c) else {
+        *h = hold_desk(place);
+        return EMPTY;
     };
-    *h = hold(held);
+    let code = match (&held.crew, &place.desk) {
+        (Some(crew), Some(desk)) if !is_own(crew, desk) => WRONG_DESK,
+        (Some(crew), Some(desk)) => {
+            *out = crew.is_idle(desk);
+            DONE
+        }
+        _ => EMPTY,
+    };
+    *c = hold(held);
+    *h = hold_desk(place);
     code
 }

@@ -11,9 +11,9 @@ use pt_c_values::crossing::{
     item_out, no_item, no_reason, pid_in, pid_or_none, pid_out, reason_out,
 };
 use pt_c_values::types::{PtChild, PtChildSpec, PtJob, PtPid, PtSupervisorSpec};
-use pt_node::Pid;
 use pt_scheduler::{ChildSpec, Job, Origin, SupervisorSpec, What};
 use pt_supervisor::{Child, Restart, Shutdown, Strategy};
+use pt_workers::Pid;
 use std::alloc::{AllocError, Global};
 
 fn strategy_in(code: u32) -> Option<Strategy>

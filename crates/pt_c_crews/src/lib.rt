@@ -34,10 +34,10 @@
 #![tactic(auto)]
 
 pub mod about_crews;
+mod batches;
 pub mod calls;
 pub mod children;
 pub mod crew_handle;
-pub mod crewing;
 pub mod crews;
 pub mod crossing;
 pub mod going_on;

@@ -1,13 +1,25 @@
 -- `delete_child`: its contract.
+use Rattle.std.proofs.Common.{◌≡◌, Some, ap, ◌∙◌, rules}
+use Rattle.pt_scheduler.specs.Asking.{BossDeletes}
+use Rattle.pt_scheduler.specs.declared.scheduler.Scheduler.{Scheduler}
+use Rattle.pt_c_values.specs.Crossing.{pid_crossed}
+use Rattle.pt_c_crews.specs.Children.{CrewDeletesChild, place_after}
+use Rattle.pt_c_crews.proofs.Asking.{asked}
+use Rattle.pt_c_crews.proofs.Through.{calls_through}
+use Rattle.pt_c_crews.proofs.children.delete_child.Goals.{in-Some-crew, in-None}
 use Rattle.pt_c_crews.proofs.children.delete_child.Goals as goal
 
 pub returns : goal.returns
 returns c =
-    let r = c.delete_child.ensures in
-    record {
-      answer = c.delete_child.result;
-      told = c.place_code.ensures.code;
-      wrote = c.place_code.ensures.wrote;
-      does = r.asks;
-      keeps = record { attends = r.attends; upholds = r.upholds; desk = r.desk };
-    }
+    elim c.match-deref_mut.branch [
+      | in-Some-crew w ↦
+          let r = w.delete_child.ensures in
+          let p = pid_crossed c.args.p in
+          calls_through c.args.c.now.state c.hold.result.state w.in-Some-crew.crew c.match-deref_mut.code _ w.delete_child.new.self
+          (λ (old new : Scheduler). CrewDeletesChild p c.args.tag c.match-deref_mut.code c.args.out.now c.match-deref_mut.out old new)
+          (cc (c.in-Some.ensures.value, c.deref_mut.ensures.value, c.behind-held.view_is, w.in-Some-crew.is))
+          (c.hold.ensures ∙ ap (λ b. Some b.value) w.held-is)
+          (asked p w.pid_in.result (λ r was is. BossDeletes c.args.tag was r is) (λ r. c.match-deref_mut.out ≡ place_after r c.args.out.now) c.match-deref_mut.code w.in-Some-crew.crew w.delete_child.new.self w.delete_child.result
+          w.pid_in.ensures (w.code-is ∙ w.place_code-code.ensures.code) (w.out-is ∙ w.place_code-code.ensures.wrote) r.asks r.attends r.upholds r.desk)
+      | in-None w ↦ search rules
+    ]

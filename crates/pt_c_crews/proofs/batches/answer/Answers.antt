@@ -3,7 +3,7 @@ use Rattle.std.proofs.Common.{◌≡◌, inr, refl, sym, subst, ◌∙◌}
 use Rattle.pt_c_values.specs.Crossing.{pid_crossed}
 use Rattle.pt_c_values.specs.Codes.{IfCrosses}
 use Rattle.pt_c_crews.specs.Crewing.{AnswersNext}
-use Rattle.pt_c_crews.proofs.crewing.answer.Goals as goal
+use Rattle.pt_c_crews.proofs.batches.answer.Goals as goal
 
 pub returns-in-Err-clause-does : goal.returns-in-Err-clause-does
 returns-in-Err-clause-does c =

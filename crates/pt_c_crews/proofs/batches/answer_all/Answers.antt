@@ -2,7 +2,7 @@
 use Rattle.std.proofs.Common.{get_or, subst, refl, arith}
 use Rattle.pt_c_crews.specs.Crewing.{AnswersOne}
 use Rattle.pt_c_crews.proofs.InCrew.{keeps_none, keeps_then, no_answer, none_taken, refused_one, took_all, took_one}
-use Rattle.pt_c_crews.proofs.crewing.answer_all.Goals as goal
+use Rattle.pt_c_crews.proofs.batches.answer_all.Goals as goal
 
 pub loop-place-init : goal.loop-place-init
 loop-place-init c = record { so_far = none_taken c.args.answers.now c.args.crew.now; keeps = keeps_none c.args.crew.now }

@@ -4,7 +4,7 @@ use Rattle.pt_desk.proofs.Turning.{goes_on_then}
 use Rattle.pt_workers.proofs.GoingOn.{stays}
 use Rattle.pt_crew.specs.Crews.{queue}
 use Rattle.pt_c_crews.proofs.InCrew.{all_handed, none_row, row_into}
-use Rattle.pt_c_crews.proofs.crewing.fill.Goals as goal
+use Rattle.pt_c_crews.proofs.batches.fill.Goals as goal
 
 pub loop-place-init : goal.loop-place-init
 loop-place-init c = record {

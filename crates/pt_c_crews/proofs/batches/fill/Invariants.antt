@@ -5,7 +5,7 @@ use Rattle.pt_desk.specs.DeskState.{GoesOn}
 use Rattle.pt_crew.specs.Crews.{queue, time_of}
 use Rattle.pt_scheduler.specs.Scheduling.{SchedulerAttends, SchedulerUpholds}
 use Rattle.pt_c_crews.proofs.InCrew.{RowSo}
-use Rattle.pt_c_crews.proofs.crewing.fill.Given as goal
+use Rattle.pt_c_crews.proofs.batches.fill.Given as goal
 
 abbrev pub invariant-loop-place : goal.invariant-loop-place
 invariant-loop-place l = record {
