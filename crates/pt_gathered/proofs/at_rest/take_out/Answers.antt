@@ -10,6 +10,18 @@ use Rattle.pt_gathered.proofs.Stepping.{hold_is, lane_is, takes_hold, takes_lane
 use Rattle.pt_gathered.proofs.Places.{held_is, held_is_not}
 use Rattle.pt_gathered.proofs.Shards.{set_shard}
 use Rattle.pt_gathered.proofs.at_rest.take_out.Goals as goal
+use Rattle.pt_gathered.proofs.at_rest.take_out.Goals.{After-len-2}
+
+-- no letter of the desk is held
+none_held : (c : After-len-2) → held_from c.args.d (hold_at c.args.shards.now.items c.args.e) ≡ []
+none_held c = held_is_not c.args.d (hold_at c.args.shards.now.items c.args.e)
+    (ap (λ z. is_some (slice_get (held_from c.args.d (hold_at z c.args.e)) 0)) (sym c.as_slice.ensures.value) ∙ ap is_some (sym c.held_from.ensures) ∙ sym c.is_some.ensures ∙ c.if-is_some.false)
+
+-- the place of the lane between the desks
+lane_at : (c : After-len-2) → c.from-2.result * c.len.result + c.from-3.result ≡ c.args.d * length c.args.shards.now.items + c.args.e
+lane_at c =
+    let long : c.len.result ≡ length c.args.shards.now.items = omega (arith, c.len.ensures, c.args.shards.now.ok.0) in
+    ap (λ k. k * c.len.result + c.from-3.result) c.from-2.ensures ∙ ap (λ k. c.args.d * k + c.from-3.result) long ∙ ap (λ k. c.args.d * length c.args.shards.now.items + k) c.from-3.ensures
 
 pub returns-then-is_some-clause-takes : goal.returns-then-is_some-clause-takes
 returns-then-is_some-clause-takes c =
@@ -30,11 +42,9 @@ returns-then-len-gt0-clause-takes c =
     let lanes = c.args.lanes.now.items in
     let d = c.args.d in
     let e = c.args.e in
-    let none : held_from d (hold_at shards e) ≡ [] = held_is_not d (hold_at shards e)
-    (ap (λ z. is_some (slice_get (held_from d (hold_at z e)) 0)) (sym c.as_slice.ensures.value) ∙ ap is_some (sym c.held_from.ensures) ∙ sym c.is_some.ensures ∙ c.if-is_some.false) in
+    let none = none_held (goal.at.returns-then-len-gt0-clause-takes c).After-len-2 in
     let n = c.from-2.result * c.len.result + c.from-3.result in
-    let len_is : c.len.result ≡ length shards = omega (arith, c.len.ensures, c.args.shards.now.ok.0) in
-    let at : n ≡ d * length shards + e = ap (λ k. k * c.len.result + c.from-3.result) c.from-2.ensures ∙ ap (λ k. d * k + c.from-3.result) len_is ∙ ap (λ k. d * length shards + k) c.from-3.ensures in
+    let at = lane_at (goal.at.returns-then-len-gt0-clause-takes c).After-len-2 in
     let x = c.index_mut-then-len-gt0.result.now in
     let y = c.index.result.now in
     let x_is : x ≡ get_or lanes n x = c.index_mut-then-len-gt0.ensures.value in
@@ -49,11 +59,9 @@ returns-clause-takes c =
     let lanes = c.args.lanes.now.items in
     let d = c.args.d in
     let e = c.args.e in
-    let none : held_from d (hold_at shards e) ≡ [] = held_is_not d (hold_at shards e)
-    (ap (λ z. is_some (slice_get (held_from d (hold_at z e)) 0)) (sym c.as_slice.ensures.value) ∙ ap is_some (sym c.held_from.ensures) ∙ sym c.is_some.ensures ∙ c.if-is_some.false) in
+    let none = none_held (goal.at.returns-clause-takes c).After-len-2 in
     let n = c.from-2.result * c.len.result + c.from-3.result in
-    let len_is : c.len.result ≡ length shards = omega (arith, c.len.ensures, c.args.shards.now.ok.0) in
-    let at : n ≡ d * length shards + e = ap (λ k. k * c.len.result + c.from-3.result) c.from-2.ensures ∙ ap (λ k. d * k + c.from-3.result) len_is ∙ ap (λ k. d * length shards + k) c.from-3.ensures in
+    let at = lane_at (goal.at.returns-clause-takes c).After-len-2 in
     let y = c.index.result.now in
     let within : d * length shards + e < length lanes = let t = place_before d e (length shards) (length shards) c.requires.within.0 c.requires.within.1 in omega (arith, c.requires.lanes) in
     let empty : get_or lanes (d * length shards + e) [] ≡ [] = lane_is lanes n (d * length shards + e) y at within c.index.ensures ∙ nil_from_length y (omega (arith, c.len-2.ensures, c.if-len-gt0.false)) in
