@@ -71,8 +71,8 @@
 //! - **Gathering.** `gather` returns the node with the journals as they were, or gives all desks back as they were.
 //! - **Resuming.** `resume` continues from a quiet node with empty journals, or gives it back as it was. Pids, versions
 //!   and clocks continue. `resume_settled` does the same from a settled node without a list of its pids. (`AreResumed`)
-//! - **Keeping.** `gather` keeps the node's directory, which has the exit of each process that had exited by then
-//!   (`IsKeptOf`). Both go on in it if it is there, and promise the same if it is not.
+//! - **Keeping.** `gather` keeps the node's directory, which has the exit of each process that had exited by then.
+//!   Resuming promises the same whether it goes on in that directory or makes a new one. (`IsKeptOf`)
 //! - **Forgetting reasons.** `resume_forgetting` makes the same desks, but each exited process has the reason `noproc`.
 //!   The laws of a quiet node hold over them, and its history goes on. (`ResumesForgetful`)
 //! - **The node's calls.** Each call of `Node` does what the call of the pid's desk does, and the other desks stay. It
