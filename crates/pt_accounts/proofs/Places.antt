@@ -108,31 +108,9 @@ at_changed slots i w old new f h e k s v = ap (λ z. of_version z v) (slot_at-se
         let here : slot_at slots s ≡ old = subst (λ z. slot_at slots z ≡ old) same (sym e) in
         rw (m, here) (k v)
 
--- the slot is none of the table's
-pub at_unchanged : (slots : Slots) (i w : ℕ) (f : LifeState → LifeState) → length slots ≤ i
-    → (s v : ℕ) → life_at slots s v ≡ cond ((i == s) && (w == v)) (option_map f (life_at slots s v)) (life_at slots s v)
-at_unchanged slots i w f h s v = go (i == s) refl (w == v) refl
-  where
-    go : (b : Bool) → (i == s) ≡ b → (c : Bool) → (w == v) ≡ c → life_at slots s v ≡ cond ((i == s) && (w == v)) (option_map f (life_at slots s v)) (life_at slots s v)
-    go false m c n = rw m refl
-    go true m false n = rw (m, n) refl
-    go true m true n =
-        let same : i ≡ s = eqb-true i s m in
-        let none : life_at slots s v ≡ None = ap (λ z. of_version z v) (slot_at-past slots s (omega arith)) ∙ none_of_none v in
-        rw (m, n, none) refl
-
 -- the next version of a slot
 pub version_push : (lives : List LifeState) (l : LifeState) (w : ℕ) → w ≡ length lives + 1
     → (v : ℕ) → of_version (lives ++ l ∷ []) v ≡ cond (w == v) (Some l) (of_version lives v)
 version_push lives l zero e v = absurd (omega arith)
 version_push lives l (suc w) e zero = rw suc_zero refl
 version_push lives l (suc w) e (suc v) = let k : w ≡ length lives = omega arith in rw (suc_suc, k) (slice_get-push lives l v)
-
-pub born_in : (old mid : Slots) (i w : ℕ) (l : LifeState) (lives new : List LifeState) → i < length mid → ((s : ℕ) → slot_at mid s ≡ slot_at old s)
-    → lives ≡ get_or mid i lives → new ≡ lives ++ l ∷ [] → w ≡ length (slot_at old i) + 1
-    → (s v : ℕ) → life_at (set mid i new) s v ≡ cond ((i == s) && (w == v)) (Some l) (life_at old s v)
-born_in old mid i w l lives new h same e k n s v =
-    let here : lives ≡ slot_at mid i = e ∙ get_or-any mid i lives [] h in
-    let len : w ≡ length lives + 1 = n ∙ ap (λ z. length z + 1) (sym (same i) ∙ sym here) in
-    at_changed mid i w lives new (λ o. Some l) h here (λ v. ap (λ z. of_version z v) k ∙ version_push lives l w len v) s v
-    ∙ ap (λ z. cond ((i == s) && (w == v)) (Some l) (of_version z v)) (same s)

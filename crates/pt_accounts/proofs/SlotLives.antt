@@ -379,9 +379,6 @@ module _ (d s capacity : ℕ) (rs : List Reason) (lives : List LifeState) (newes
 
   -- an event -----------------------------------------------------------------------------------------
 
-  abbrev past_len : ℕ
-  past_len = length rs + length lives
-
   length_past : length (ended_from d s 1 rs ++ lives) ≡ length rs + length lives
   length_past = length-append (ended_from d s 1 rs) lives ∙ ap (λ n. n + length lives) (length_ends d s 1 rs)
 

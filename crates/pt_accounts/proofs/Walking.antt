@@ -112,15 +112,3 @@ reads_alike start past t u desks read same up = record {
       subst (λ d. AreTold start d u.slots (events (oldest u.read past))) (sym desks)
       (subst (λ m. AreTold start t.desk u.slots (events (oldest m past))) (sym read) (told_alike start t.desk t.slots u.slots (events (oldest t.read past)) same up.told));
 }
-
--- what others know of it ---------------------------------------------------------------------------
-
--- one more event on the journal changes nothing of what was read
-pub read_still : (start : Start) (journal : List Stamped) (t : DeskTable) (s : Stamped) → IsReadUpTo start journal t → IsReadUpTo start (s ∷ journal) t
-read_still start journal t s up = record {
-  within = let w = up.within in omega arith;
-  told = subst (λ (j : List Stamped). AreTold start t.desk t.slots (events j)) (sym (older (length (s ∷ journal) - t.read) (length journal - t.read) (let w = up.within in omega arith))) up.told;
-}
-  where
-    older : (n m : ℕ) → n ≡ suc m → drop n (s ∷ journal) ≡ drop m journal
-    older n m e = rw e refl

@@ -49,10 +49,6 @@ is_life_of p s v = (p.slot == s) && (p.version == v)
 abbrev pub ChangesLife : Pid → (LifeState → LifeState) → Slots → Slots → Type 0
 ChangesLife p f old new = (s v : ℕ) → life_at new s v ≡ cond (is_life_of p s v) (option_map f (life_at old s v)) (life_at old s v)
 
--- each slot has had as many
-abbrev pub KeepsLengths : Slots → Slots → Type 0
-KeepsLengths old new = (s : ℕ) → length (slot_at new s) ≡ length (slot_at old s)
-
 -- l stands in the place of p, and all else is as before
 abbrev pub PutsLife : Pid → LifeState → Slots → Slots → Type 0
 PutsLife p l old new = (s v : ℕ) → life_at new s v ≡ cond (is_life_of p s v) (Some l) (life_at old s v)
