@@ -1,5 +1,5 @@
 -- Lemmas on single calls.
-use Rattle.std.proofs.Common.{◌≡◌, ℕ, ℤ, true, false, Option, Some, Result, Ok, Err, refl}
+use Rattle.std.proofs.Common.{◌≡◌, ℕ, ℤ, true, false, Some, Result, Ok, refl}
 use Rattle.std.specs.Prelude.{slice_get}
 use Rattle.indexmap.specs.IndexMap.{set_value_at}
 use Rattle.pt_signal.specs.declared.pid.Pid.{Pid}

@@ -9,7 +9,7 @@ use Rattle.pt_events.specs.declared.event.Event.{Event}
 use Rattle.pt_events.specs.declared.event.Event.TheVariants.{Said}
 use Rattle.pt_events.specs.declared.event.Stamped.{Stamped}
 use Rattle.pt_events.specs.History.{Start, state, MaySay}
-use Rattle.pt_events.specs.Journal.{events, clock, IsNext, IsLocal, IsNewAt, MayHere}
+use Rattle.pt_events.specs.Journal.{events, IsNext, IsLocal, IsNewAt, MayHere}
 use Rattle.pt_events.proofs.InOrder.{reverse_take, reverse_split}
 use Rattle.pt_events.specs.OldRefs.{HasOldRefs}
 use Rattle.pt_events.proofs.Orders.{clock_above}

@@ -6,7 +6,7 @@
 //! # Cost
 //! `push` takes constant time. `get` finds its run by halves.
 
-ghost use Rattle.std.specs.Prelude.{◌≡◌, ◌+◌, ◌-◌, ◌*◌, ◌≤◌, ◌<◌, ◌^◌, ◌++◌, ◌∷◌, [], OnOk, OnErr, None, length, slice_get};
+ghost use Rattle.std.specs.Prelude.{◌≡◌, ◌+◌, ◌-◌, ◌≤◌, ◌<◌, ◌^◌, ◌++◌, ◌∷◌, [], OnOk, OnErr, None, length, slice_get};
 ghost use Rattle.std.specs.Prelude.{min, replicate};
 ghost use Rattle.pt_accounts.specs.Runs.{AreRuns, expanded};
 ghost use Rattle.pt_accounts.specs.Runs as spec;

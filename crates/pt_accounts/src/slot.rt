@@ -2,7 +2,7 @@
 
 ghost use Rattle.std.specs.Prelude.{◌≡◌, ◌+◌, ◌-◌, ◌≤◌, ◌<◌, ◌^◌, ◌++◌, ◌∷◌};
 ghost use Rattle.std.specs.Prelude.{[], ◌==◌, false, ℕ, List, cond, length, map};
-ghost use Rattle.std.specs.Prelude.{slice_get, option_to_list, None, IfSome, OnOk, OnErr, vec_len, vec_capacity};
+ghost use Rattle.std.specs.Prelude.{slice_get, option_to_list, None, IfSome, OnOk, OnErr};
 ghost use Rattle.std.specs.Option.{option_map};
 ghost use Rattle.pt_events.specs.History.{is_ended};
 ghost use Rattle.pt_accounts.specs.LifeState.{LifeState, account_of};

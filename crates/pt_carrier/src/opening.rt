@@ -1,6 +1,6 @@
 //! Making all lanes of a node.
 
-ghost use Rattle.std.specs.Prelude.{◌≡◌, ℕ, ◌<◌, ◌≤◌, length, map, [], ◌∷◌, ◌++◌, IfOk, slice_index_or, vec_len};
+ghost use Rattle.std.specs.Prelude.{◌≡◌, ℕ, ◌<◌, ◌≤◌, map, [], ◌∷◌, ◌++◌, IfOk, slice_index_or, vec_len};
 ghost use Rattle.pt_carrier.specs.Lanes.{Sending, new_sending, new_receiving};
 ghost use Rattle.pt_carrier.specs.Ends.{OutEnds, InEnds};
 ghost use Rattle.pt_carrier.specs.Node.{places, IsNode, IsNew, lists};

@@ -1,5 +1,5 @@
 -- Where things stand on the page, in pixels.
-use Rattle.std.specs.Prelude.{ℕ, ◌+◌, ◌-◌, ◌*◌, ◌/◌, ◌^◌, min, max, Option, Some, None}
+use Rattle.std.specs.Prelude.{ℕ, ◌+◌, ◌-◌, ◌*◌, ◌/◌, max, Option, Some, None}
 use Rattle.pt_chart.specs.declared.page.Page.{Page}
 use Rattle.pt_events.specs.Counting.{capped}
 

@@ -4,8 +4,6 @@ use Rattle.std.specs.Prelude.{◌≡◌, ℕ, ◌+◌, ◌<◌, ◌≤◌, ◌==
 use Rattle.std.specs.Prelude.{position, unwrap_or, slice_index, Option, Some, None}
 use Rattle.std.specs.List.{list_any}
 use Rattle.std.specs.Option.{option_map}
-use Rattle.pt_events.specs.declared.event.Event.{Event}
-use Rattle.pt_events.specs.declared.event.Event.TheVariants.{Born}
 use Rattle.pt_events.specs.declared.event.Stamped.{Stamped}
 use Rattle.pt_chart.specs.declared.layout.Arrow.{Arrow}
 use Rattle.pt_chart.specs.declared.layout.Column.{Column}

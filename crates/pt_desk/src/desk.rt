@@ -1,6 +1,6 @@
 //! A desk of a node.
 
-ghost use Rattle.std.specs.Prelude.{◌≡◌, ◌<◌, ◌+◌, ◌-◌, ◌^◌, ◌∷◌, ◌++◌, ℕ, [], length, min, true, Some, None, IfSome};
+ghost use Rattle.std.specs.Prelude.{◌≡◌, ◌<◌, ◌+◌, ◌-◌, ◌^◌, ◌++◌, ℕ, [], length, min, true, Some, None, IfSome};
 ghost use Rattle.std.specs.Prelude.{IfOk, IsOk, cond, drop, is_some, slice_get, slice_index_or, ◌==◌};
 ghost use Rattle.std.specs.Option.{option_copied};
 ghost use Rattle.pt_signal.specs.declared.signal.Signal.{Signal};

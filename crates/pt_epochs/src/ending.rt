@@ -1,6 +1,6 @@
 //! The end of an epoch: the node is gathered and settled, its history goes to the sink, and it is resumed.
 
-ghost use Rattle.std.specs.Prelude.{◌≡◌, IsOk, OnErr, OnOk};
+ghost use Rattle.std.specs.Prelude.{IsOk, OnErr, OnOk};
 ghost use Rattle.pt_epochs.specs.Epochs.{AllHaveRoom, CrewBegins, AllBeginAs, EachCrew, EndsAs, GoesOnAs, Hands, HandsAs};
 ghost use Rattle.pt_epochs.specs.Epochs.{CrewMayBegin, ResumesAllAs, SettlesAs};
 

@@ -2,7 +2,7 @@
 //! processes.
 
 ghost use Rattle.pt_signal.specs.declared.config.TheConstants.{MAX_DESKS};
-ghost use Rattle.std.specs.Prelude.{◌≡◌, ◌*◌, ◌<◌, ◌≤◌, ◌-◌, ◌^◌, ◌++◌, min, [], length, map, reverse, drop, slice_get};
+ghost use Rattle.std.specs.Prelude.{◌≡◌, ◌*◌, ◌<◌, ◌≤◌, ◌-◌, ◌++◌, length, reverse, drop, slice_get};
 ghost use Rattle.std.specs.Prelude.{IfOk, OnOk, IfSome, IfNone};
 ghost use Rattle.pt_events.specs.Journal.{IsMerge};
 ghost use Rattle.pt_laws.specs.Laws.{LegalWithLeftOver};

@@ -1,6 +1,6 @@
 -- In a merge of local journals whose lanes agree the letters on their way, each with its stamp, are what the lanes leave
 -- over, and each receipt is of the oldest letter of its lane.
-use Rattle.std.proofs.Common.{◌≡◌, ℕ, ◌≤◌, Bool, true, false, cond, ◌==◌, List, [], ◌∷◌, ◌++◌, map, filter, drop, refl, sym, ap, ◌∙◌, subst, append-nil, ⊎_elim, arith}
+use Rattle.std.proofs.Common.{◌≡◌, ℕ, Bool, true, false, cond, ◌==◌, List, [], ◌∷◌, ◌++◌, map, drop, refl, sym, ap, ◌∙◌, subst, arith}
 use Rattle.std.specs.Prelude.{slice_get, ⊤}
 use Rattle.std.proofs.lemmas.Bool.{eq-eqb, eqb-true, both_ways}
 use Rattle.std.proofs.lemmas.List.Elements.{filter-append}
@@ -13,9 +13,7 @@ use Rattle.pt_events.specs.declared.event.Event.{Event}
 use Rattle.pt_events.specs.declared.event.Event.TheVariants.{Born, Said, Came, Took, Flag, Left, Refused}
 use Rattle.pt_events.specs.declared.event.Stamped.{Stamped}
 use Rattle.pt_events.specs.History.{is_between, sent_by}
-use Rattle.pt_events.specs.Journal.{events, of_desk, letter, content, in_lane, IsHome, IsNext, letters, posts, got, got_of, gots, Agrees, LanesAgree, IsAfter, AllBefore, IsRising}
-use Rattle.pt_events.specs.Locality.{AllHome}
-use Rattle.pt_events.proofs.Homes.{AllFrom, from_home, sent_home}
+use Rattle.pt_events.specs.Journal.{events, of_desk, letter, content, in_lane, IsHome, IsNext, posts, got_of, gots, Agrees, LanesAgree, IsRising}
 use Rattle.pt_events.proofs.Telling.{AllLocal, head_local, tail_local, all_home}
 use Rattle.pt_laws.proofs.lanes.Lanes.{AllAt-letters, Back, back}
 use Rattle.pt_laws.proofs.lanes.Newest.{new_posts, new_gots, posts_step, gots_step, gots_up_to, new_up_to}

@@ -1,9 +1,9 @@
 -- The merge of local journals whose lanes agree is legal.
-use Rattle.std.proofs.Common.{◌≡◌, ℕ, ◌≤◌, Bool, true, false, cond, ◌==◌, List, [], ◌∷◌, ◌++◌, Option, Some, None, map, filter, refl, sym, ap, ◌∙◌, subst, append-nil, ⊎_elim, arith, le_refl}
+use Rattle.std.proofs.Common.{◌≡◌, ℕ, ◌≤◌, Bool, true, false, cond, ◌==◌, List, [], ◌∷◌, ◌++◌, Option, Some, None, map, filter, refl, sym, ap, ◌∙◌, subst, ⊎_elim, arith, le_refl}
 use Rattle.std.specs.Map.{lookup}
 use Rattle.std.proofs.lemmas.List.{map-append}
 use Rattle.std.proofs.lemmas.List.Elements.{filter-append}
-use Rattle.std.proofs.lemmas.Bool.{eq-eqb, eqb-true, and_parts, and_from, and_right}
+use Rattle.std.proofs.lemmas.Bool.{eq-eqb, and_parts, and_from, and_right}
 use Rattle.std.proofs.lemmas.Bool.Decides.{nat_tests}
 use Rattle.std.specs.List.{find}
 use Rattle.std.specs.Prelude.{nat_lt}
@@ -19,16 +19,15 @@ use Rattle.pt_events.specs.declared.event.Stamped.{Stamped}
 use Rattle.pt_signal.specs.Values.{same_pid, same_ref, same_link, without_first, fits}
 use Rattle.pt_signal.specs.Process.{Sent, sent, held}
 use Rattle.pt_events.specs.History.{Start, life, alive, state, is_living, is_ended, state_of, is_between, flying, landed, sent_by, made_link, made_ref, makes_link, makes_ref, is_this, May, MaySay, MayBear, IsLegal}
-use Rattle.pt_events.specs.Journal.{Journals, IsMerge, events, of_desk, letter, content, IsHome, IsOf, IsNewAt, IsLinkAt, MayHere, IsNext, letters, posts, got, got_of, gots, Agrees, LanesAgree, IsAfter, AllBefore, IsRising}
+use Rattle.pt_events.specs.Journal.{Journals, IsMerge, events, of_desk, content, IsHome, IsOf, IsNewAt, IsLinkAt, MayHere, IsNext, posts, got_of, gots, Agrees, LanesAgree, AllBefore, IsRising}
 use Rattle.pt_events.specs.Refusals.{stamped_below, IsTrueRefusal, AllTrueRefusals, RefusalsAreTrue}
 use Rattle.pt_signal.proofs.Same.{same_pid_is, same_pid_refl, same_ref_is, same_link_is}
-use Rattle.pt_events.proofs.Local.{AllHome}
 use Rattle.pt_events.proofs.Telling.{AllLocal, head_local, tail_local, all_home}
 use Rattle.pt_signal.proofs.Firsts.{filter_wider, filter_other, first_wider}
 use Rattle.pt_laws.proofs.lanes.Lanes.{AllAt-letters, Back, back, contents}
 use Rattle.pt_laws.proofs.lanes.Newest.{new_posts, new_gots, posts_step, gots_step, before_le, gots_up_to, new_up_to}
 use Rattle.pt_events.proofs.Refusals.{ended_below}
-use Rattle.pt_events.proofs.Homes.{AllFrom, from_home, in_lane, life_home, sent_home}
+use Rattle.pt_events.proofs.Homes.{in_lane, life_home}
 
 module _ (start : Start) (low top : ℕ) where
   -- new ids and references ----------------------------------------------------------------

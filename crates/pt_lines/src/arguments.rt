@@ -1,7 +1,6 @@
 //! The words after the name of a call, as values. A function takes them, and the column after the line.
 
-ghost use Rattle.std.specs.Prelude.{◌≡◌, ℕ, map, None, Ok, option_map};
-ghost use Rattle.std.specs.Option.{option_copied};
+ghost use Rattle.std.specs.Prelude.{◌≡◌, map, None, Ok};
 ghost use Rattle.pt_lines.specs.Arguments as spec;
 ghost use Rattle.pt_lines.specs.Values.{pid_read, ref_of, reason_read, truth_of, u8_of, u32_of, u64_of};
 ghost use Rattle.pt_lines.specs.Words.{told_word};

@@ -10,7 +10,7 @@ use Rattle.pt_shard.specs.declared.stop.Stop.{Stop}
 use Rattle.pt_shard.specs.Known.{knows}
 use Rattle.pt_signal.specs.Settings.{IsFirstOut, IsInRange}
 use Rattle.pt_shard.specs.ShardState.{ShardState}
-use Rattle.pt_desk.specs.DeskState.{DeskState, GoesOn, HasSameEnds}
+use Rattle.pt_desk.specs.DeskState.{DeskState, HasSameEnds}
 use Rattle.pt_desk.specs.declared.turned.Turned.{Turned}
 use Rattle.pt_desk.specs.Turns.{Turns}
 use Rattle.pt_workers.specs.Desks.{OnDesk}

@@ -1,6 +1,6 @@
 //! The desks of a new node.
 
-ghost use Rattle.std.specs.Prelude.{◌≡◌, IfOk};
+ghost use Rattle.std.specs.Prelude.{IfOk};
 ghost use Rattle.pt_signal.specs.Settings.{IsInRange};
 ghost use Rattle.pt_node.specs.Opening.{Opens, AreFreshShards, AreFreshTables};
 

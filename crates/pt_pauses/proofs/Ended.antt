@@ -1,7 +1,7 @@
 -- Who told of its end by a link or a monitor has ended, and who was found so by a call that was refused.
-use Rattle.std.proofs.Common.{◌≡◌, Bool, true, false, cond, ◌||◌, ◌&&◌, List, [], ◌∷◌, ◌++◌, map, Option, Some, None, refl, sym, ap, subst, ◌∙◌}
+use Rattle.std.proofs.Common.{◌≡◌, Bool, true, false, cond, ◌||◌, ◌&&◌, List, [], ◌∷◌, Option, Some, None, refl, sym, ap, subst, ◌∙◌}
 use Rattle.std.specs.Prelude.{⊤}
-use Rattle.std.specs.List.{find, list_any}
+use Rattle.std.specs.List.{list_any}
 use Rattle.std.proofs.lemmas.Bool.{and_parts}
 use Rattle.pt_signal.specs.declared.pid.Pid.{Pid}
 use Rattle.pt_signal.specs.declared.ids.Ref.{Ref}
@@ -9,14 +9,14 @@ use Rattle.pt_signal.specs.declared.ids.Ids.{Ids}
 use Rattle.pt_signal.specs.declared.reason.Reason.{Reason}
 use Rattle.pt_signal.specs.declared.signal.Signal.{Signal}
 use Rattle.pt_signal.specs.declared.signal.Signal.TheVariants.{Link, LinkExit, Monitor, Demonitor, AliveAsk}
-use Rattle.pt_signal.specs.Values.{same_pid, without_first}
+use Rattle.pt_signal.specs.Values.{same_pid}
 use Rattle.pt_signal.specs.Process.{ProcessState, handle, Sent, sent, estate, bounce}
 use Rattle.pt_signal.proofs.Same.{same_pid_is, same_pid_refl}
 use Rattle.pt_signal.proofs.Handling.{living_answer, handle_answer}
 use Rattle.pt_events.specs.declared.event.Event.{Event}
 use Rattle.pt_events.specs.declared.event.Event.TheVariants.{Said, Came, Left, Refused}
 use Rattle.pt_events.specs.History.{Past, Start, Phase, unborn, living, ended, after, is_unborn, is_ended, is_living, life, state, leaves, gets, live_or_end, is_between, landed, flying, sent_by, got_sends, left_sends, end_sends, MaySay, May, IsLegal}
-use Rattle.pt_events.proofs.Phases.{each_branch, after_ended, after_born}
+use Rattle.pt_events.proofs.Phases.{after_ended, after_born}
 use Rattle.pt_laws.specs.Links.{IsKnownSaid}
 use Rattle.pt_laws.proofs.order.Each.{Each, each-append, each-without, each-found, each-map, each-weaker}
 use Rattle.pt_behaviour.proofs.Cases.{by_cases}

@@ -17,14 +17,10 @@ use Rattle.pt_events.specs.declared.event.Stamped.{Stamped}
 use Rattle.pt_events.specs.History.{Past, Phase, unborn, living, ended, at_start, is_unborn, is_ended, is_living, state_of, life, alive, IsLegal}
 use Rattle.pt_events.specs.Counting.{count}
 use Rattle.pt_events.specs.Journal.{IsLocal, IsMerge, events}
-use Rattle.pt_events.specs.Locality.{JournalsSay}
-use Rattle.pt_laws.specs.JournalLaws.{MergeIsThere}
-use Rattle.pt_laws.specs.Laws.{MergeLegal}
 use Rattle.pt_laws.specs.Links.{IsKnownSaid}
-use Rattle.pt_laws.specs.LinkLaws.{MergeKnown, MergeLinksOver}
+use Rattle.pt_laws.specs.LinkLaws.{MergeLinksOver}
 use Rattle.pt_laws.specs.LoadLaws.{EmptyIsQuiet}
-use Rattle.pt_laws.specs.MonitorLaws.{MadeOnceOver, QuietMonitorSince, QuietWatchOver, times_made}
-use Rattle.pt_laws.specs.ResumedLaws.{StampsAreNew}
+use Rattle.pt_laws.specs.MonitorLaws.{QuietMonitorSince, QuietWatchOver, times_made}
 use Rattle.pt_laws.specs.Watch.{is_down_item, is_open, open_in}
 use Rattle.pt_laws.proofs.monitoring.Monitors.{said_to_one}
 use Rattle.pt_shard.specs.Begun.{Every}

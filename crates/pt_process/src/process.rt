@@ -1,7 +1,7 @@
 //! One process.
 
-ghost use Rattle.std.specs.Prelude.{◌≡◌, ◌+◌, ◌<◌, ◌≤◌, ◌^◌, ◌∷◌, ◌++◌, [], false, length, is_some, slice_get, remove};
-ghost use Rattle.std.specs.Prelude.{find, IsOk, IsSome, OnOk, OnErr, IfOk, IfSome, IfNone, OnSome};
+ghost use Rattle.std.specs.Prelude.{◌≡◌, ◌+◌, ◌<◌, ◌≤◌, ◌∷◌, ◌++◌, [], false, length, is_some, slice_get, remove};
+ghost use Rattle.std.specs.Prelude.{find, IsOk, IsSome, OnOk, OnErr, IfSome, IfNone};
 ghost use Rattle.std.specs.List.{list_any};
 ghost use Rattle.std.specs.Map.{lookup, remove_entry};
 ghost use Rattle.pt_signal.specs.Values.{fits, same_pid, same_ref, without_first};

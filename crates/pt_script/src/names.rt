@@ -1,6 +1,6 @@
 //! Names of processes and tags of monitors, and what each means.
 
-ghost use Rattle.std.specs.Prelude.{◌≡◌, ◌++◌, [], None, Some, List, ℕ, OnOk, codes, ◌<◌, length};
+ghost use Rattle.std.specs.Prelude.{◌≡◌, None, Some, OnOk, ◌<◌, length};
 ghost use Rattle.std.specs.Str.{bytes_eq};
 ghost use Rattle.std.specs.List.{list_all};
 ghost use Rattle.std.specs.Map.{update};

@@ -1,6 +1,6 @@
 //! A script as a whole.
 
-ghost use Rattle.std.specs.Prelude.{◌≡◌, ◌≤◌, IfOk, [], map};
+ghost use Rattle.std.specs.Prelude.{◌≡◌, ◌≤◌, IfOk, map};
 ghost use Rattle.serde_json.specs.View.{view};
 ghost use Rattle.pt_script.specs.declared.fault.ScriptError.TheVariants.{Refused};
 ghost use Rattle.pt_script.specs.Lists.{at_script};

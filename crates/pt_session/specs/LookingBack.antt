@@ -5,7 +5,6 @@ use Rattle.std.specs.List.{list_any}
 use Rattle.std.specs.Map.{lookup}
 use Rattle.pt_signal.specs.Values.{same_ref}
 use Rattle.pt_signal.specs.Process.{held}
-use Rattle.pt_signal.specs.declared.reason.Reason.{Reason}
 use Rattle.pt_events.specs.declared.event.Event.{Event}
 use Rattle.pt_events.specs.declared.event.Stamped.{Stamped}
 use Rattle.pt_events.specs.History.{IsLegal, state, life, open_monitors}

@@ -1,8 +1,7 @@
 //! Looks at a node that was gathered, or settled.
 
 ghost use Rattle.std.specs.Prelude.{◌≡◌, IfOk, Some};
-ghost use Rattle.pt_accounts.specs.LivesState.{account_in, ended_with};
-ghost use Rattle.pt_gathered.specs.Gathered.{begins};
+ghost use Rattle.pt_accounts.specs.LivesState.{ended_with};
 ghost use Rattle.pt_session.specs.Looking.{IfItems};
 ghost use Rattle.pt_session.specs.LookingBack as spec;
 ghost use Rattle.pt_session.specs.Stepping.{without_stamps};

@@ -12,7 +12,7 @@ ghost use Rattle.std.specs.Option.{option_copied, option_to_list};
 ghost use Rattle.pt_shard.specs.ShardState.{came_event};
 ghost use Rattle.pt_signal.specs.declared.config.TheConstants.{MAX_DESKS};
 ghost use Rattle.pt_signal.specs.Boxes.{one_more};
-ghost use Rattle.pt_shard.specs.LedgerState.{Book, wrote, restarted_book, forgetful_book, Prepares, HasNoNeed};
+ghost use Rattle.pt_shard.specs.LedgerState.{wrote, restarted_book, forgetful_book, Prepares, HasNoNeed};
 ghost use Rattle.pt_shard.specs.LedgerState.{HasRoomAt, HasRoomFor};
 ghost use Rattle.pt_shard.specs.LedgerState.{HasLossRoom, HasRoomToAll, HasRoomToEnd, is_of_desk, losing};
 ghost use Rattle.pt_shard.specs.declared.loss.Loss.TheVariants.{Exited};

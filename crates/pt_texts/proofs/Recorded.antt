@@ -1,5 +1,5 @@
 -- Lines of a state are read as they are printed.
-use Rattle.std.proofs.Common.{◌≡◌, ℕ, ◌-◌, ◌^◌, ◌<◌, Bool, Result, Ok, Err, List, [], ◌∷◌, ◌++◌, decimal, codes, refl, ap, append_assoc, ◌∙◌, sym, IfOk}
+use Rattle.std.proofs.Common.{◌≡◌, ℕ, ◌^◌, ◌<◌, Bool, Result, Ok, Err, List, [], ◌∷◌, ◌++◌, decimal, codes, refl, ap, append_assoc, ◌∙◌, IfOk}
 use Rattle.pt_signal.specs.declared.pid.Pid.{Pid}
 use Rattle.pt_signal.specs.declared.ids.Ref.{Ref}
 use Rattle.pt_signal.specs.declared.ids.Ids.{Ids}

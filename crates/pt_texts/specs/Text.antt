@@ -1,6 +1,6 @@
 -- The printed text of a line of a state.
 use Rattle.std.specs.Prelude.{ℕ, List, [], ◌∷◌, ◌++◌, codes, decimal}
-use Rattle.pt_signal.specs.Text.{pid_text, ref_text, ids_text, reason_text, yes_or_no_text, item_text, letter_text}
+use Rattle.pt_signal.specs.Text.{pid_text, ref_text, ids_text, reason_text, yes_or_no_text, item_text}
 use Rattle.pt_events.specs.Text.{stamped_text}
 use Rattle.pt_texts.specs.declared.records.Record.{Record}
 use Rattle.pt_texts.specs.declared.records.Record.TheVariants.{Head, Last, Clock, Seen, Lives, Waits, Linked, Watches}

@@ -1,6 +1,6 @@
 //! Decimal numbers without zeros in front.
 
-ghost use Rattle.std.specs.Prelude.{◌≡◌, ◌<◌, ◌≤◌, ◌-◌, ◌^◌, IfOk};
+ghost use Rattle.std.specs.Prelude.{◌≡◌, ◌<◌, ◌≤◌, ◌-◌, IfOk};
 ghost use Rattle.pt_texts.specs.Numbers.{is_digit, digits_at, number_at, u8_at, u16_at, u32_at, u64_at, i64_at};
 ghost use Rattle.pt_texts.specs.Steps.{ReaderGives};
 

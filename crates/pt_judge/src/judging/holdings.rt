@@ -1,7 +1,6 @@
 //! What one process holds.
 
-ghost use Rattle.std.specs.Prelude.{◌≡◌, [], IfOk, OnOk};
-ghost use Rattle.pt_signal.specs.Values.{same_pid};
+ghost use Rattle.std.specs.Prelude.{◌≡◌, IfOk, OnOk};
 ghost use Rattle.pt_signal.specs.declared.signal.Signal.TheVariants.{LinkExit, Down};
 ghost use Rattle.pt_signal.specs.Process.{fresh, enter, say};
 ghost use Rattle.pt_events.specs.History.{living, live_or_end, change};

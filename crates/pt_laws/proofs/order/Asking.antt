@@ -1,8 +1,7 @@
 -- Each answer to the question whether a process is alive is true.
-use Rattle.std.proofs.Common.{◌≡◌, Bool, true, false, cond, ◌&&◌, ◌⊎◌, inl, inr, ⊎_elim, List, [], ◌∷◌, ◌++◌, Option, Some, None, map, refl, sym, ap, ◌∙◌, subst, append-nil, arith}
+use Rattle.std.proofs.Common.{◌≡◌, Bool, true, false, cond, ◌&&◌, ◌⊎◌, inl, inr, ⊎_elim, List, [], ◌∷◌, ◌++◌, Option, Some, None, refl, sym, ap, ◌∙◌, subst, append-nil, arith}
 use Rattle.std.specs.Prelude.{⊤, Contains}
 use Rattle.std.specs.Map.{lookup}
-use Rattle.std.specs.List.{find}
 use Rattle.std.proofs.lemmas.Bool.{and_parts}
 use Rattle.pt_signal.specs.declared.pid.Pid.{Pid}
 use Rattle.pt_signal.specs.declared.ids.Ref.{Ref}
@@ -14,12 +13,11 @@ use Rattle.pt_signal.specs.declared.signal.Signal.{Signal}
 use Rattle.pt_signal.specs.declared.signal.Signal.TheVariants.{Message, Link, LinkExit, Monitor, Demonitor, AliveAsk, AliveSay}
 use Rattle.pt_events.specs.declared.event.Event.{Event}
 use Rattle.pt_events.specs.declared.event.Event.TheVariants.{Said, Came, Left}
-use Rattle.pt_signal.specs.Values.{same_pid, same_ref, without_first}
+use Rattle.pt_signal.specs.Values.{same_pid, same_ref}
 use Rattle.pt_signal.specs.Process.{ProcessState, verdict, obey, holds_any, held, link_exit, down, handle, Sent, sent, estate, bounce}
 use Rattle.pt_events.specs.History.{Past, Start, Phase, unborn, living, ended, is_living, life, alive, state, is_between, landed, flying, sent_by, got_sends, left_sends, end_sends, items_of, arrives, arrived_since, emitted, came, MaySay, May, IsLegal}
 use Rattle.pt_signal.proofs.Same.{same_pid_is}
 use Rattle.pt_signal.proofs.Handling.{living_answer, handle_answer}
-use Rattle.pt_events.proofs.Phases.{each_branch}
 use Rattle.pt_laws.specs.Asking.{IsAnswer}
 use Rattle.pt_laws.proofs.order.Flight.{between, between-append, landed_same, came_or_flies}
 use Rattle.pt_laws.proofs.order.Each.{Each, each-append, each-without, each-found, each-at, each-contains, each-map, each-weaker}

@@ -1,5 +1,5 @@
 -- What holds of each element of a list.
-use Rattle.std.proofs.Common.{◌≡◌, Bool, true, false, ⊎_elim, refl, List, [], ◌∷◌, ◌++◌, Option, Some, map, subst, arith}
+use Rattle.std.proofs.Common.{◌≡◌, Bool, true, false, ⊎_elim, refl, List, [], ◌∷◌, ◌++◌, Some, map, subst, arith}
 use Rattle.std.specs.Prelude.{⊤, Contains}
 use Rattle.std.specs.List.{find}
 use Rattle.pt_signal.specs.Values.{without_first}

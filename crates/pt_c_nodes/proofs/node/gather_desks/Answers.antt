@@ -1,5 +1,5 @@
 -- `gather_desks`: its contract, and what its call of `gather_whole` asks.
-use Rattle.std.proofs.Common.{List, length, map, refl, sym, ◌∙◌, subst, arith}
+use Rattle.std.proofs.Common.{List, map, refl, sym, ◌∙◌, subst, arith}
 use Rattle.std.proofs.lemmas.List.{length-map}
 use Rattle.pt_desk.specs.DeskState.{DeskState}
 use Rattle.pt_workers.specs.Desks.{AreDesks}

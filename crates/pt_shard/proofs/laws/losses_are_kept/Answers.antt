@@ -1,9 +1,9 @@
 -- `losses_are_kept`: its contract.
-use Rattle.std.proofs.Common.{◌≡◌, Bool, true, false, cond, List, [], ◌∷◌, ◌++◌, Option, Some, None, sym, ap, ◌∙◌, append-nil, append_assoc}
+use Rattle.std.proofs.Common.{◌≡◌, true, List, [], ◌∷◌, ◌++◌, Option, Some, None, sym, ap, ◌∙◌, append-nil, append_assoc}
 use Rattle.std.specs.Option.{option_to_list}
 use Rattle.pt_shard.specs.declared.loss.Loss.{Loss}
 use Rattle.pt_shard.specs.Losses.{losses, with_loss}
-use Rattle.pt_shard.specs.ShardState.{ShardState, past, lost_by, AddsLosses}
+use Rattle.pt_shard.specs.ShardState.{past, lost_by}
 use Rattle.pt_shard.proofs.laws.losses_are_kept.Goals as goal
 
 one_more : (told kept all : List Loss) (o : Option Loss) → told ++ kept ≡ all → told ++ with_loss true o kept ≡ all ++ option_to_list o

@@ -1,5 +1,5 @@
 -- `read_record`: its contract.
-use Rattle.std.proofs.Common.{◌≡◌, Result, Ok, Err, ℕ, List, ◌+◌, sym, ap, ◌∙◌}
+use Rattle.std.proofs.Common.{Result, Err, ℕ, List, ◌+◌, sym, ap, ◌∙◌}
 use Rattle.pt_texts.specs.declared.records.Record.{Record}
 use Rattle.pt_texts.specs.declared.parse.Refused.{Refused}
 use Rattle.pt_texts.specs.Parsing.{told_column}

@@ -1,5 +1,5 @@
 -- `all_rounds`: its clauses `each`, `turns` and `rounds`, and its loop over `turn`.
-use Rattle.std.proofs.Common.{◌≡◌, ◌+◌, false, length, replicate, refl, ◌∙◌, subst, arith}
+use Rattle.std.proofs.Common.{◌≡◌, ◌+◌, false, length, replicate, refl, subst, arith}
 use Rattle.pt_workers.specs.Running.{HaveEnded, Rounds, Workers, begins_by}
 use Rattle.pt_workers.proofs.GoingOn.{all_stay, all_go_on_then}
 use Rattle.pt_workers.proofs.Rounding.{AllSoFar, none_so_far, one_round_more, rounds_ended, all_done, all_ended}

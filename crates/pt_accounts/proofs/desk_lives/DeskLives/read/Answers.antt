@@ -1,5 +1,5 @@
 -- `DeskLives::read`: its clauses `next` and `on`, and its loop over `place`, and what its call of `step` asks.
-use Rattle.std.proofs.Common.{◌≡◌, ◌∙◌, ◌+◌, ◌≤◌, None, refl, sym, subst, arith, length, reverse, slice_index_or}
+use Rattle.std.proofs.Common.{◌≡◌, ◌∙◌, None, refl, arith, length, slice_index_or}
 use Rattle.std.proofs.lemmas.List.{length-reverse}
 use Rattle.pt_events.specs.declared.event.Stamped.{Stamped}
 use Rattle.pt_events.specs.declared.event.Event.TheVariants.{Born}

@@ -3,7 +3,6 @@ use Rattle.std.proofs.Common.{[], Some, cond, ap, sym, refl, ◌∙◌, append-n
 use Rattle.std.specs.Option.{option_map}
 use Rattle.pt_signal.specs.Values.{same_pid}
 use Rattle.pt_behaviour.specs.declared.behaviour.Next.TheVariants.{Running}
-use Rattle.pt_crew.specs.declared.crew.Member.{Member}
 use Rattle.pt_crew.specs.Crews.{members, queue, role, roles}
 use Rattle.pt_crew.specs.Stepping.{is_running}
 use Rattle.pt_behaviour.specs.Behaving.{limit_of}
