@@ -7,6 +7,7 @@ The last line is 'N passed, M failed', and the status is 0 if nothing failed.
 """
 from __future__ import annotations
 
+import re
 import sys
 import tempfile
 import unittest
@@ -233,6 +234,29 @@ class Files(unittest.TestCase):
             self.assertNotEqual(first, now(edit=b"other"))
             (root / "crates/low/src/lib.rt").write_text("changed")
             self.assertNotEqual(first, now())
+
+    def test_a_checksum_has_no_answers_of_the_crates_below(self) -> None:
+        with tempfile.TemporaryDirectory() as room:
+            root = Path(room)
+            for path in ("low/proofs/lib/run/Answers.antt", "low/proofs/Runs.antt", "high/proofs/lib/run/Answers.antt"):
+                (root / "crates" / path).parent.mkdir(parents=True, exist_ok=True)
+                (root / "crates" / path).write_text("first")
+            (root / "deciding.py").write_text("")
+            seen = set()
+            for path, changes in (("low/proofs/lib/run/Answers.antt", False), ("low/proofs/Runs.antt", True), ("high/proofs/lib/run/Answers.antt", True)):
+                before = kept.Checksums(root, {"low": [], "high": ["low"]}, "kit", root / "deciding.py").of_edit("high", b"edit")
+                (root / "crates" / path).write_text("changed")
+                after = kept.Checksums(root, {"low": [], "high": ["low"]}, "kit", root / "deciding.py").of_edit("high", b"edit")
+                self.assertEqual(before != after, changes, path)
+                seen |= {before, after}
+            self.assertEqual(len(seen), 3)
+
+    def test_no_module_cites_the_answers_of_a_function(self) -> None:
+        crates = Path(__file__).resolve().parent.parent.parent / "crates"
+        cites = re.compile(r"use Rattle\.\w+\.proofs\.[\w.+]*\.(Answers|Invariants|Proof)\.\{")
+        files = [it for kind in ("antt", "rt") for it in crates.glob(f"*/*/**/*.{kind}") if "out" not in it.parts]
+        self.assertEqual([str(it) for it in files if cites.search(it.read_text())], [])
+        self.assertTrue(cites.search("use Rattle.pt_a.proofs.lib.run.Answers.{lemma}"))
 
     def test_a_tenth_is_drawn(self) -> None:
         drawn = sum(kept.is_drawn(f"crate/edit_{it}", "0123") for it in range(1000))
