@@ -17,7 +17,8 @@ use Rattle.pt_node.specs.Gathering.{Gathers}
 use Rattle.pt_node.specs.Pasts.{GoOnFrom, GathersPast, GathersOutline, IsOneHistory, Lengthens}
 use Rattle.pt_node.specs.Resuming.{Resumes}
 use Rattle.pt_workers.specs.Running.{AllGoOn}
-use Rattle.pt_workers.proofs.GoingOn.{same_starts, still_desks}
+use Rattle.pt_workers.proofs.Begun.{starts_stay}
+use Rattle.pt_workers.proofs.GoingOn.{still_desks}
 
 -- the desks of one node have one setting
 one_config : (one two : Config) (desks : List DeskState) → AreDesksOf one desks → AreDesksOf two desks → one ≡ two
@@ -51,8 +52,17 @@ module _ {W : Type 0} where
       record {
         config = from.config;
         node = subst (λ k. AreDesksOf k (map desk new)) same are.1;
-        begun = subst (IsBeginningOf past from.config.start) (sym (same_starts x xs new c)) from.begun;
+        begun = subst (IsBeginningOf past from.config.start) (sym begins) from.begun;
       }
+    where
+      begins : start_of (all_shards (map (λ (p : DeskState × W). p.0) new)) ≡ start_of (all_shards (map (λ (p : DeskState × W). p.0) (x ∷ xs)))
+      begins =
+          let old = x ∷ xs in
+          let desk : DeskState × W → DeskState = λ p. p.0 in
+          starts_stay (map desk old) (map desk new) (length-map new desk ∙ c.count ∙ sym (length-map old desk)) (λ d y l.
+          let before : d < length old = omega (arith, l, length-map old desk) in
+          ap (λ (z : DeskState). z.shard.start) (get_or-map desk new d x y (omega (arith, before, c.count)))
+          ∙ (c.each d x before).shard.start ∙ ap (λ (z : DeskState). z.shard.start) (sym (get_or-map desk old d x y before)))
 
 -- histories, one behind the other -------------------------------------------------------------------
 
