@@ -7,7 +7,7 @@ use Rattle.pt_supervisor.specs.declared.seen.ChildState.{ChildState}
 use Rattle.pt_supervisor.specs.declared.seen.ChildState.TheVariants.{Running, Restarting, Undefined}
 use Rattle.pt_supervisor.specs.declared.trial.Trial.TheVariants.{Asked}
 use Rattle.pt_supervisor.specs.Hearing.{Standing}
-use Rattle.pt_supervisor.specs.Seen.{state_of_child}
+use Rattle.pt_supervisor.specs.Seen.{child_state}
 
 -- the place of the first child with this id
 abbrev pub place_of_id : ℕ → List Child → Option ℕ
@@ -39,7 +39,7 @@ RestartsAs Undefined place s result t = (result ≡ Ok (tt {0})) × (t ≡ with_
 
 abbrev pub RestartsIn : Option Child → ℕ → Standing → Result (Unit {0}) ChildFault → Standing → Type 0
 RestartsIn None place s result t = ⊥
-RestartsIn (Some c) place s result t = RestartsAs (state_of_child c.pid c.wanted) place s result t
+RestartsIn (Some c) place s result t = RestartsAs (child_state c) place s result t
 
 abbrev pub RestartsAt : Option ℕ → Standing → Result (Unit {0}) ChildFault → Standing → Type 0
 RestartsAt None s result t = (result ≡ Err ChildFault.NotFound) × (t ≡ s)
@@ -60,7 +60,7 @@ with_last_child c s = record s { children = s.children ++ record c { pid = None;
 
 abbrev pub FindsPresent : Option Child → Standing → Result ℕ ChildFault → Standing → Type 0
 FindsPresent None s result t = ⊥
-FindsPresent (Some c) s result t = (result ≡ Err (present_fault (state_of_child c.pid c.wanted))) × (t ≡ s)
+FindsPresent (Some c) s result t = (result ≡ Err (present_fault (child_state c))) × (t ≡ s)
 
 abbrev pub AddsLast : Child → Standing → Result ℕ ChildFault → Standing → Type 0
 AddsLast c s (Ok place) t = (place ≡ length s.children) × (t ≡ with_last_child c s)
@@ -89,7 +89,7 @@ DeletesAs Undefined place s result t = (result ≡ Ok place) × (t ≡ without_c
 
 abbrev pub DeletesIn : Option Child → ℕ → Standing → Result ℕ ChildFault → Standing → Type 0
 DeletesIn None place s result t = ⊥
-DeletesIn (Some c) place s result t = DeletesAs (state_of_child c.pid c.wanted) place s result t
+DeletesIn (Some c) place s result t = DeletesAs (child_state c) place s result t
 
 abbrev pub DeletesAt : Option ℕ → Standing → Result ℕ ChildFault → Standing → Type 0
 DeletesAt None s result t = (result ≡ Err ChildFault.NotFound) × (t ≡ s)

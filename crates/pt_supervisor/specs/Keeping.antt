@@ -68,10 +68,10 @@ IsTied s q = (is_some (held s.links q) ≡ true) ⊎ (list_any (is_end_of q) s.w
 abbrev pub IsHeld : Past → Pid → Pid → ShardState → Type 0
 IsHeld past me q d = IsTied (state_in d me) q ⊎ (has_cut me q (all_events past d) ≡ true)
 
--- Children that live, by all that their supervisor me has heard: each was born, stands in one place alone, and is held
--- unless me is to stop.
+-- Children that live, by all that their supervisor me has heard: each that is of its desk was born, each stands in one
+-- place alone, and is held unless me is to stop.
 pub record Family (past : Past) (children : List Child) (stopping : Option Reason) (me : Pid) (d : ShardState) : Type 0 where
-  pub born : (place : ℕ) (q : Pid) → child_at children place ≡ Some q → is_unborn (phase_of d q) ≡ false
+  pub born : (place : ℕ) (q : Pid) → child_at children place ≡ Some q → q.shard ≡ me.shard → is_unborn (phase_of d q) ≡ false
   pub apart : (i j : ℕ) (q : Pid) → child_at children i ≡ Some q → child_at children j ≡ Some q → i ≡ j
   pub held : stopping ≡ None → (place : ℕ) (q : Pid) → child_at children place ≡ Some q → IsHeld past me q d
 

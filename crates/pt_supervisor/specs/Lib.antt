@@ -3,10 +3,13 @@ pub mod Restarts
 pub mod Limits
 pub mod Ending
 pub mod Children
+pub mod Homes
 pub mod Trying
 pub mod Seen
 pub mod Hearing
 pub mod Calling
+pub mod Answering
+pub mod Joining
 pub mod Supervising
 pub mod Keeping
 pub mod Changed

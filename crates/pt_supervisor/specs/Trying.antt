@@ -5,6 +5,7 @@ use Rattle.pt_signal.specs.declared.pid.Pid.{Pid}
 use Rattle.pt_shard.specs.declared.fault.Fault.{Fault}
 use Rattle.pt_shard.specs.declared.fault.Fault.TheVariants.{Memory, Worn}
 use Rattle.pt_supervisor.specs.declared.children.Child.{Child}
+use Rattle.pt_supervisor.specs.declared.home.Home.TheVariants.{Elsewhere}
 use Rattle.pt_supervisor.specs.declared.restart.Strategy.{Strategy}
 use Rattle.pt_supervisor.specs.declared.restart.Strategy.TheVariants.{OneForOne}
 use Rattle.pt_supervisor.specs.declared.trial.Trial.{Trial}
@@ -42,9 +43,25 @@ unstarted_child clock f c = cond (is_accident f) c (failed_child clock c)
 abbrev pub started_child : Pid → Child → Child
 started_child p c = record c { pid = Some p; trial = Again }
 
+-- the program has not started it on another desk; after an accident it is asked again
+abbrev pub refused_child : ℕ → Fault → Child → Child
+refused_child clock f c = unstarted_child clock f (record c { home = Elsewhere })
+
+-- the program has started it, and its supervisor was not linked with it; after an accident that is tried again
+abbrev pub missed_child : ℕ → Fault → Child → Child
+missed_child clock f c = cond (is_accident f) c (refused_child clock f c)
+
+-- its supervisor is linked with it, which the program has started on another desk as p
+abbrev pub joined_child : Pid → Child → Child
+joined_child p c = record (started_child p c) { home = Elsewhere }
+
+-- a start of it failed: it is tried again in its turn, or its supervisor gives up
+abbrev pub has_failed : Trial → Bool
+has_failed t = is_some (failed_at t) || has_failed_first t
+
 -- it is to be started now: it is missing, and none whose start failed
 abbrev pub is_startable : Child → Bool
-is_startable c = is_missing c && not (is_some (failed_at c.trial))
+is_startable c = is_missing c && not (has_failed c.trial)
 
 -- when its start failed, if it is to be tried again
 abbrev pub tried_at : Child → Option ℕ

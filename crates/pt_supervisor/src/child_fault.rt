@@ -25,6 +25,9 @@ pub enum ChildFault {
     /// There is a child with this id, and this is its process.
     #[error("the child has been started already: {0}")]
     AlreadyStarted(Pid),
+    /// The supervisor does not wait until the program has started the child on another desk.
+    #[error("the child is not awaited")]
+    NotAwaited,
     /// There is no memory for one more child.
     #[error("no memory")]
     Memory,

@@ -7,9 +7,11 @@ ghost use Rattle.pt_supervisor.specs.Hearing.{wanted_again};
 ghost use Rattle.pt_signal.specs.Values.{is_pid};
 ghost use Rattle.pt_supervisor.specs.Calling.{place_of_id};
 ghost use Rattle.pt_supervisor.specs.Ending.{bids, stage_told};
+ghost use Rattle.pt_supervisor.specs.declared.home.Home.TheVariants.{Here};
 ghost use Rattle.pt_supervisor.specs.declared.trial.Trial.{Trial};
 
 use crate::asked::Stage;
+use crate::home::Home;
 use crate::restart::Restart;
 use crate::trial::Trial;
 use pt_workers::{Pid, Reason, Ref};
@@ -66,10 +68,12 @@ pub struct Child {
     pub id: u64,
     /// Which start is the next one, and what follows if that fails.
     pub trial: Trial,
+    /// On which desk it is started.
+    pub home: Home,
 }
 
 impl Child {
-    /// A child that is to be started, and is ended by an exit signal `shutdown`. Its id is 0.
+    /// A child that is to be started on its supervisor's desk, and is ended by an exit signal `shutdown`. Its id is 0.
     pub fn new(restart: Restart) -> Child
         ensures { result ≡ record {
           pid = None;
@@ -78,6 +82,7 @@ impl Child {
           wanted = true;
           id = 0;
           trial = Trial.First;
+          home = Here;
         } }
     {
         Child {
@@ -87,6 +92,7 @@ impl Child {
             wanted: true,
             id: 0,
             trial: Trial::First,
+            home: Home::Here,
         }
     }
 

@@ -37,7 +37,9 @@
 mod asked;
 mod child_fault;
 mod children;
+mod elsewhere;
 mod gave_up;
+mod home;
 mod laws;
 mod limit;
 mod restart;
@@ -50,6 +52,7 @@ pub use asked::{Asked, Stage};
 pub use child_fault::ChildFault;
 pub use children::{Child, Shutdown};
 pub use gave_up::GaveUp;
+pub use home::Home;
 pub use laws::{changed_supervisors_tend, permanent_children_live};
 pub use limit::Limit;
 pub use restart::{Restart, Strategy};

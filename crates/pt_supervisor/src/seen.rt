@@ -3,7 +3,7 @@
 ghost use Rattle.std.specs.Prelude.{◌≡◌, IfOk, is_some, map};
 ghost use Rattle.std.specs.List.{count_by};
 ghost use Rattle.pt_supervisor.specs.Children.{is_missing};
-ghost use Rattle.pt_supervisor.specs.Seen.{child_seen, children_counted, has_process, state_of_child};
+ghost use Rattle.pt_supervisor.specs.Seen.{child_seen, child_state, children_counted, has_process};
 
 use crate::children::Child;
 use pt_workers::Pid;
@@ -14,7 +14,8 @@ use std::alloc::{AllocError, Global};
 pub enum ChildState {
     /// It is alive. Erlang's `which_children` has the pid then.
     Running(Pid),
-    /// Its supervisor is to start it: its time has not come, or a start failed. Erlang's `restarting`.
+    /// Its supervisor is to start it: its time has not come, or a start failed, or the program is starting it on another
+    /// desk. Erlang's `restarting`.
     Restarting,
     /// It is not alive, and is not to be started: Erlang's `undefined`.
     Undefined,
@@ -41,9 +42,9 @@ pub struct ChildCounts {
 impl Child {
     /// What has become of its process.
     pub fn state(&self) -> ChildState
-        ensures { result ≡ state_of_child self.now.pid self.now.wanted }
+        ensures { result ≡ child_state self.now }
     {
-        match (self.pid, self.wanted) {
+        match (self.pid, self.wanted || self.home.is_abroad()) {
             (Some(pid), _) => ChildState::Running(pid),
             (None, true) => ChildState::Restarting,
             (None, false) => ChildState::Undefined,

@@ -12,6 +12,7 @@ use crate::asked::{Asked, Stage, due_at, gone_in, is_noproc, stage_of, unless_by
 use crate::child_fault::{ChildFault, present};
 use crate::children::{Child, Shutdown, is_process, last_alive, place_of, place_of_id, revive};
 use crate::gave_up::GaveUp;
+use crate::home::place_coming;
 use crate::limit::Limit;
 use crate::restart::Strategy;
 use crate::seen::{ChildCounts, ChildSeen, ChildState, counted, seen};
@@ -59,7 +60,7 @@ pub struct Supervisor<S> {
 }
 
 impl<S> Supervisor<S> {
-    ghost use Rattle.std.specs.Prelude.{◌<◌, IfOk, IfSome, Some, true, cond, length, map, slice_get};
+    ghost use Rattle.std.specs.Prelude.{◌<◌, IfOk, IfSome, Some, true, cond, length, map, slice_get, slice_set};
     ghost use Rattle.pt_desk.specs.DeskState.{GoesOn};
     ghost use Rattle.pt_behaviour.specs.Births.{born, kept_roles, time_told};
     ghost use Rattle.pt_behaviour.specs.Behaving.{takes};
@@ -73,7 +74,8 @@ impl<S> Supervisor<S> {
     ghost use Rattle.pt_supervisor.specs.Hearing.{started_again, stopped};
     ghost use Rattle.pt_supervisor.specs.Seen.{child_seen, children_counted};
     ghost use Rattle.pt_supervisor.specs.Supervising.{Advances, EndsChild, SupervisorAttends, SupervisorHandles, TellsToEnd};
-    ghost use Rattle.pt_supervisor.specs.Supervising.{CountsBirths, SetsAt, StartsAll, StartsOne, Supervises, TriesAt, WatchesChild};
+    ghost use Rattle.pt_supervisor.specs.Supervising.{CountsBirths, SetsAt, SpawnsAt, StartsAll, StartsOne, Supervises, TriesAt};
+    ghost use Rattle.pt_supervisor.specs.Supervising.{WatchesChild};
     ghost use Rattle.pt_supervisor.specs.Trying.{is_startable};
     ghost use Rattle.pt_supervisor.specs.Supervising.{nursery, supervisor_scene};
     ghost use Rattle.pt_supervisor.specs.Keeping.{BearsFrom, HoldsWhere, Tends};
@@ -362,7 +364,10 @@ impl<S> Supervisor<S> {
         if !self.attend(desk, now, me, item) {
             return Next::Proceed;
         }
-        self.advance(desk, births, now, me)
+        match place_coming(self.children.as_slice()) {
+            Some(place) => self.meet(desk, me, place),
+            None => self.advance(desk, births, now, me),
+        }
     }
 
     /// Takes in an exit, or begins to trap exits. Returns whether no call failed.
@@ -460,8 +465,19 @@ impl<S> Supervisor<S> {
         self.hear(desk, now, from, reason);
     }
 
+    /// Puts a child into its place.
+    pub(crate) fn set_child(&mut self, place: usize, child: Child)
+        requires { place < length (standing self.old).children }
+        ensures standing { standing self.new ≡ record (standing self.old) {
+          children = slice_set (standing self.old).children place child;
+        } }
+        ensures start { program_of self.new ≡ program_of self.old }
+    {
+        self.children[place] = child;
+    }
+
     /// Notes which child it ends, and how far it has come.
-    fn set_asked(&mut self, asked: Option<Asked>)
+    pub(crate) fn set_asked(&mut self, asked: Option<Asked>)
         ensures standing { standing self.new ≡ record (standing self.old) { asked = asked } }
         ensures start { program_of self.new ≡ program_of self.old }
     {
@@ -541,7 +557,8 @@ impl<S> Supervisor<S> {
         }
     }
 
-    /// Ends the last of the children that are to end. If none is left, it exits, or starts the missing children.
+    /// Ends the last of the children that are to end. If none is left, it exits, or starts the missing children. None is
+    /// being started on another desk.
     #[tactic(auto, using(pt_workers::proofs::GoingOn::stays))]
     fn advance<B: Drop>(
         &mut self,
@@ -724,7 +741,7 @@ impl<S> Supervisor<S> {
         tried.goes_past(self.strategy)
     }
 
-    /// Starts the child at a place, or notes that it was not started.
+    /// Starts the child at a place, or notes that it was not started. The program is asked for one of another desk.
     fn try_at<B: Drop>(
         &mut self,
         desk: &mut Desk,
@@ -750,6 +767,39 @@ impl<S> Supervisor<S> {
         ensures kept { kept_roles births.new ≡ kept_roles births.old }
         ensures goes_on { GoesOn desk.old desk.new }
     {
+        if !child.home.is_here() {
+            self.children[place] = child.asked_for();
+            return;
+        }
+        self.spawn_at(desk, births, me, place, child);
+    }
+
+    /// Spawns the child at a place, or notes that it was not started.
+    fn spawn_at<B: Drop>(
+        &mut self,
+        desk: &mut Desk,
+        births: &mut Births<B>,
+        me: Pid,
+        place: usize,
+        child: Child,
+    )
+    where
+        S: Start<B>,
+        requires within { place < length (standing self.old).children }
+        requires at { slice_get (standing self.old).children place ≡ Some child }
+        requires due { is_startable child ≡ true }
+        ensures does { SpawnsAt S.starts me place child
+            (nursery (supervisor_scene self.old desk.old births.old))
+            (nursery (supervisor_scene self.new desk.new births.new)) }
+        ensures rest { standing self.new ≡ record (standing self.old) {
+          children = (standing self.new).children;
+          started = (standing self.new).started;
+        } }
+        ensures at { SetsAt place (standing self.old).children (standing self.new).children }
+        ensures takes { takes desk.new.shard.journal ≡ takes desk.old.shard.journal }
+        ensures kept { kept_roles births.new ≡ kept_roles births.old }
+        ensures goes_on { GoesOn desk.old desk.new }
+    {
         let (behaviour, first) = match self.start.start(me, place) {
             Ok(begins) => begins,
             Err(fault) => {
@@ -759,6 +809,8 @@ impl<S> Supervisor<S> {
         };
         match spawn_child(desk, births, me, true, behaviour, first) {
             Ok(pid) => {
+                // read for the proof alone: by a lawful journal the child is of its parent's desk
+                let _lawful = desk.journal();
                 self.children[place] = child.started(pid);
                 self.started = self.started.saturating_add(1);
             }

@@ -4,7 +4,8 @@ ghost use Rattle.std.specs.Prelude.{◌≡◌, ◌<◌, IfSome, Some, length, no
 ghost use Rattle.std.specs.List.{list_all};
 ghost use Rattle.pt_supervisor.specs.Children.{is_by_call, is_missing};
 ghost use Rattle.pt_supervisor.specs.Trying.{earlier, failed_at, failed_child, failed_trial, first_failed, goes_past, is_accident};
-ghost use Rattle.pt_supervisor.specs.Trying.{is_startable, has_failed_first, started_child, tried_at, unstarted_child};
+ghost use Rattle.pt_supervisor.specs.Trying.{has_failed, has_failed_first, is_startable, joined_child, started_child};
+ghost use Rattle.pt_supervisor.specs.Trying.{tried_at, unstarted_child};
 
 use crate::children::Child;
 use crate::restart::Strategy;
@@ -56,6 +57,13 @@ impl Trial {
         }
     }
 
+    /// Whether a start failed: it is tried again in its turn, or its supervisor gives up.
+    fn has_failed(&self) -> bool
+        ensures { result ≡ has_failed self.now }
+    {
+        self.failed_at().is_some() || self.has_failed_first()
+    }
+
     /// What is to come once a start has failed.
     fn failed(self, clock: u64) -> Trial
         ensures { result ≡ failed_trial clock self }
@@ -71,11 +79,11 @@ impl Trial {
 }
 
 impl Child {
-    /// Whether it is to be started now: it is missing, and is not one that is tried again in its turn.
+    /// Whether it is to be started now: it is missing, and no start of it has failed.
     pub(crate) fn is_startable(&self) -> bool
         ensures { result ≡ is_startable self.now }
     {
-        self.is_missing() && self.trial.failed_at().is_none()
+        self.is_missing() && !self.trial.has_failed()
     }
 
     /// The desk's clock as its start failed, if it is to be tried again.
@@ -98,6 +106,13 @@ impl Child {
             trial: Trial::Again,
             ..self
         }
+    }
+
+    /// The same child, with which its supervisor is linked, and which was started on another desk as this process.
+    pub(crate) fn joined(self, pid: Pid) -> Child
+        ensures { result ≡ joined_child pid self }
+    {
+        self.started(pid).elsewhere()
     }
 
     /// The same child, whose start has failed. If a call asked for that, it is not wanted any more.

@@ -1,0 +1,125 @@
+//! Children of a supervisor that the program starts on other desks.
+
+ghost use Rattle.std.specs.Prelude.{◌≡◌, ◌<◌, length, slice_get, Some};
+ghost use Rattle.pt_behaviour.specs.Behaving.{takes};
+ghost use Rattle.pt_desk.specs.DeskState.{GoesOn};
+ghost use Rattle.pt_supervisor.specs.Answering.{AnswersNotStarted, AnswersStarted};
+ghost use Rattle.pt_supervisor.specs.Changed.{RemembersWhere};
+ghost use Rattle.pt_supervisor.specs.Children.{PermanentAreWanted};
+ghost use Rattle.pt_supervisor.specs.Hearing.{program_of, standing};
+ghost use Rattle.pt_supervisor.specs.Joining.{Joins, LinksNew, MeetsIn, joined_as};
+ghost use Rattle.pt_supervisor.specs.Keeping.{HoldsWhere};
+
+use crate::child_fault::ChildFault;
+use crate::children::{Child, place_of};
+use crate::home::{Home, place_awaited};
+use crate::supervisor::Supervisor;
+use pt_behaviour::{CallFault, Next, link};
+use pt_workers::{Desk, Fault, Pick, Pid};
+
+/// The child as which this process was started on another desk, if its supervisor was linked with it. Else it was not
+/// started, or is to be linked with again.
+fn joined(child: Child, clock: u64, pid: Pid, linked: Result<(), CallFault>) -> Child
+    ensures { result ≡ joined_as clock pid child linked }
+{
+    match linked {
+        Ok(()) => child.joined(pid),
+        Err(CallFault::Unknown) => child.missed(clock, Fault::NoProc),
+        Err(CallFault::Refused(fault)) => child.missed(clock, fault),
+    }
+}
+
+/// Links a supervisor with a process that was started on another desk. It fails with `NoProc` if the process is of the
+/// supervisor's desk, or is a child already.
+fn link_new(desk: &mut Desk, me: Pid, pid: Pid, children: &[Child]) -> Result<(), CallFault>
+    ensures links { LinksNew me pid children.now desk.old result desk.new }
+    ensures takes { takes desk.new.shard.journal ≡ takes desk.old.shard.journal }
+    ensures goes_on { GoesOn desk.old desk.new }
+{
+    if pid.shard == me.shard || place_of(children, pid).is_some() {
+        return Err(CallFault::Refused(Fault::NoProc));
+    }
+    link(desk, me, pid)
+}
+
+impl<S> Supervisor<S> {
+    /// Tells the supervisor that the program has started the child with this id on another desk, as this process. The
+    /// supervisor links with it when it handles the next item, or proceeds.
+    ///
+    /// If the process has exited by then, or is of the supervisor's own desk, or is a child already, the child was not
+    /// started ([`Supervisor::child_not_started`]). It fails with `NotAwaited` if the supervisor does not wait for the
+    /// answer about this child. Then nothing has changed, and the program ends the process.
+    #[tactic(auto, using(crate::proofs::Changing::holds_same, crate::proofs::Changing::remembers_same))]
+    pub fn child_started(&mut self, id: u64, pid: Pid) -> Result<(), ChildFault>
+        ensures does { AnswersStarted id pid (standing self.old) result (standing self.new) }
+        ensures holds { HoldsWhere (standing self.old) (standing self.new) }
+        ensures remembers { RemembersWhere (standing self.old) (standing self.new) }
+        ensures start { program_of self.new ≡ program_of self.old }
+    {
+        let Some(place) = place_awaited(self.children(), id) else {
+            return Err(ChildFault::NotAwaited);
+        };
+        let child = self.children()[place];
+        self.set_child(place, child.arrived(pid));
+        Ok(())
+    }
+
+    /// Tells the supervisor that the program has not started the child with this id on another desk, for this reason, while
+    /// the clock of the supervisor's desk is so far. What follows is what follows a start that fails
+    /// ([`Trial`](crate::Trial)): after `Fault::Memory` and `Fault::Worn` the supervisor asks for the child again.
+    ///
+    /// It fails with `NotAwaited` if the supervisor does not wait for the answer about this child. Then nothing has changed.
+    #[tactic(auto, using(crate::proofs::Changing::holds_same, crate::proofs::Changing::remembers_same))]
+    pub fn child_not_started(&mut self, id: u64, clock: u64, fault: Fault) -> Result<(), ChildFault>
+        ensures does { AnswersNotStarted id clock fault (standing self.old) result (standing self.new) }
+        ensures holds { HoldsWhere (standing self.old) (standing self.new) }
+        ensures remembers { RemembersWhere (standing self.old) (standing self.new) }
+        ensures start { program_of self.new ≡ program_of self.old }
+    {
+        let Some(place) = place_awaited(self.children(), id) else {
+            return Err(ChildFault::NotAwaited);
+        };
+        let child = self.children()[place];
+        self.set_child(place, child.refused(clock, fault));
+        Ok(())
+    }
+
+    /// Links with the child at a place, if the program has started it on another desk. Else it waits for the answer.
+    #[tactic(auto, using(pt_workers::proofs::GoingOn::stays))]
+    pub(crate) fn meet(&mut self, desk: &mut Desk, me: Pid, place: usize) -> Next
+        requires { place < length (standing self.old).children }
+        ensures does { MeetsIn me place (slice_get (standing self.old).children place) (standing self.old) desk.old result
+            (standing self.new) desk.new }
+        ensures permanent { PermanentAreWanted (standing self.old).children
+            → PermanentAreWanted (standing self.new).children }
+        ensures start { program_of self.new ≡ program_of self.old }
+        ensures takes { takes desk.new.shard.journal ≡ takes desk.old.shard.journal }
+        ensures goes_on { GoesOn desk.old desk.new }
+    {
+        let child = self.children()[place];
+        match child.home {
+            Home::Arrived(pid) => {
+                self.join(desk, me, place, pid, child);
+                Next::Proceed
+            }
+            _ => Next::Wait(Pick::Any),
+        }
+    }
+
+    /// Links with the process that the program has started as the child at a place, or notes that it was not started.
+    #[tactic(auto, using(pt_workers::proofs::GoingOn::stays))]
+    fn join(&mut self, desk: &mut Desk, me: Pid, place: usize, pid: Pid, child: Child)
+        requires within { place < length (standing self.old).children }
+        requires at { slice_get (standing self.old).children place ≡ Some child }
+        ensures does { Joins me place pid child (standing self.old) desk.old (standing self.new) desk.new }
+        ensures permanent { PermanentAreWanted (standing self.old).children
+            → PermanentAreWanted (standing self.new).children }
+        ensures start { program_of self.new ≡ program_of self.old }
+        ensures takes { takes desk.new.shard.journal ≡ takes desk.old.shard.journal }
+        ensures goes_on { GoesOn desk.old desk.new }
+    {
+        let linked = link_new(desk, me, pid, self.children());
+        self.set_child(place, joined(child, desk.clock(), pid, linked));
+        self.set_asked(None);
+    }
+}

@@ -1,0 +1,143 @@
+//! The desk on which a child is started.
+
+ghost use Rattle.std.specs.Prelude.{◌≡◌, ◌<◌, IfSome, ◌&&◌, ◌==◌, length, position};
+ghost use Rattle.pt_supervisor.specs.declared.home.Home.TheVariants.{Elsewhere};
+ghost use Rattle.pt_supervisor.specs.Homes.{arrived_child, asked_child, is_abroad, is_awaited, is_coming, is_here};
+ghost use Rattle.pt_supervisor.specs.Homes.{is_unanswered, place_awaited, place_coming};
+ghost use Rattle.pt_supervisor.specs.Trying.{missed_child, refused_child};
+
+use crate::children::Child;
+use crate::trial::is_accident;
+use pt_workers::{Fault, Pid};
+
+/// On which desk a child is started, and how far that has come if the program starts it on another.
+#[derive(Clone, Copy, Debug, PartialEq, Eq)]
+pub enum Home {
+    /// On the desk of its supervisor, which spawns it.
+    Here,
+    /// On another desk, where the program starts it once its supervisor asks for that.
+    Elsewhere,
+    /// On another desk. Its supervisor has asked the program to start it, and waits for the answer.
+    Awaited,
+    /// On another desk, where the program has started this process. Its supervisor links with it next.
+    Arrived(Pid),
+}
+
+impl Home {
+    /// Whether its supervisor spawns it.
+    pub(crate) fn is_here(&self) -> bool
+        ensures { result ≡ is_here self.now }
+    {
+        match *self {
+            Home::Here => true,
+            _ => false,
+        }
+    }
+
+    /// Whether the program was asked to start it, and has not answered.
+    fn is_unanswered(&self) -> bool
+        ensures { result ≡ is_unanswered self.now }
+    {
+        match *self {
+            Home::Awaited => true,
+            _ => false,
+        }
+    }
+
+    /// Whether the program was asked to start it, and its supervisor is not linked with it.
+    pub(crate) fn is_abroad(&self) -> bool
+        ensures { result ≡ is_abroad self.now }
+    {
+        match *self {
+            Home::Awaited => true,
+            Home::Arrived(_) => true,
+            Home::Here | Home::Elsewhere => false,
+        }
+    }
+}
+
+impl Child {
+    /// The same child, to be started on another desk by the program. Its supervisor asks for that as its turn comes
+    /// ([`Child::is_awaited`]), and waits until [`Supervisor::child_started`](crate::Supervisor::child_started) or
+    /// [`Supervisor::child_not_started`](crate::Supervisor::child_not_started) answers.
+    pub fn elsewhere(self) -> Child
+        ensures { result ≡ record self { home = Elsewhere } }
+    {
+        Child {
+            home: Home::Elsewhere,
+            ..self
+        }
+    }
+
+    /// Whether it has no process, and is being started on another desk.
+    pub(crate) fn is_coming(&self) -> bool
+        ensures { result ≡ is_coming self.now }
+    {
+        self.pid.is_none() && self.home.is_abroad()
+    }
+
+    /// Whether the program is to start it on another desk, and then to say so. Its supervisor neither starts another child
+    /// nor exits before the answer.
+    pub fn is_awaited(&self) -> bool
+        ensures { result ≡ is_awaited self.now }
+    {
+        self.pid.is_none() && self.home.is_unanswered()
+    }
+
+    /// The same child, which the program is asked to start.
+    pub(crate) fn asked_for(self) -> Child
+        ensures { result ≡ asked_child self }
+    {
+        Child {
+            home: Home::Awaited,
+            ..self
+        }
+    }
+
+    /// The same child, which the program has started as this process.
+    pub(crate) fn arrived(self, pid: Pid) -> Child
+        ensures { result ≡ arrived_child pid self }
+    {
+        Child {
+            home: Home::Arrived(pid),
+            ..self
+        }
+    }
+
+    /// The same child, which the program has not started for this reason.
+    pub(crate) fn refused(self, clock: u64, fault: Fault) -> Child
+        ensures { result ≡ refused_child clock fault self }
+    {
+        self.elsewhere().unstarted(clock, fault)
+    }
+
+    /// The same child, with whose process its supervisor was not linked for this reason. After an accident it tries that
+    /// again.
+    pub(crate) fn missed(self, clock: u64, fault: Fault) -> Child
+        ensures { result ≡ missed_child clock fault self }
+    {
+        if is_accident(fault) {
+            self
+        } else {
+            self.refused(clock, fault)
+        }
+    }
+}
+
+/// The place of the first child that is being started on another desk.
+pub(crate) fn place_coming(children: &[Child]) -> Option<usize>
+    ensures place { result ≡ place_coming children.now }
+    ensures within { IfSome result (λ i. i < length children.now) }
+{
+    children.iter().position(|child| child.is_coming())
+}
+
+/// The place of the first child with this id of which the program is to say whether it was started.
+pub(crate) fn place_awaited(children: &[Child], id: u64) -> Option<usize>
+    ensures place { result ≡ place_awaited id children.now }
+    ensures within { IfSome result (λ i. i < length children.now) }
+{
+    children
+        .iter()
+        .position(|child| child.is_awaited() && child.id == id)
+}
