@@ -100,21 +100,22 @@ of_is (Some q) p h = ap Some (same_pid_is q p h)
 of_not : (c : Child) (q from : Pid) → c.pid ≡ Some q → is_pid c.pid from ≡ false → same_pid q from ≡ false
 of_not c q from is no_of = sym (ap (λ (o : Option Pid). is_pid o from) is) ∙ no_of
 
+-- who stands in no place, by the test of its pid
+pub none_of : (from : Pid) (children : List Child) → position (λ (c : Child). is_pid c.pid from) children ≡ None → (j : ℕ) (q : Pid) → child_at children j ≡ Some q → same_pid q from ≡ false
+none_of from children nowhere j q is =
+    let x = child_is children j q is in
+    let within : j < length children = slice_get_within children j x.0 x.1 in
+    let at : get_or children j x.0 ≡ x.0 = get_or_from_slice_get children j x.0 x.0 x.1 in
+    let past : length children ≤ position_or_len (λ (c : Child). is_pid c.pid from) children = past_end nowhere in
+    of_not x.0 q from x.2 (ap (λ (c : Child). is_pid c.pid from) (sym at) ∙ fails_before_first (λ (c : Child). is_pid c.pid from) children j x.0 (omega (arith, within, past)))
+  where
+    past_end : cond (nat_lt (position_or_len (λ (c : Child). is_pid c.pid from) children) (length children)) (Some (position_or_len (λ (c : Child). is_pid c.pid from) children)) None ≡ None
+        → length children ≤ position_or_len (λ (c : Child). is_pid c.pid from) children
+    past_end h = grind (arith, h)
+
 module _ (now : ℕ) (from : Pid) (reason : Reason) (s : Standing) (apart : (i j : ℕ) (q : Pid) → child_at s.children i ≡ Some q → child_at s.children j ≡ Some q → i ≡ j) where
   test : Child → Bool
   test c = is_pid c.pid from
-
-  none_of : position (λ (c : Child). is_pid c.pid from) s.children ≡ None → (j : ℕ) (q : Pid) → child_at s.children j ≡ Some q → same_pid q from ≡ false
-  none_of nowhere j q is =
-      let x = child_is s.children j q is in
-      let within : j < length s.children = slice_get_within s.children j x.0 x.1 in
-      let at : get_or s.children j x.0 ≡ x.0 = get_or_from_slice_get s.children j x.0 x.0 x.1 in
-      let past : length s.children ≤ position_or_len (λ (c : Child). is_pid c.pid from) s.children = past_end nowhere in
-      of_not x.0 q from x.2 (ap (λ (c : Child). is_pid c.pid from) (sym at) ∙ fails_before_first (λ (c : Child). is_pid c.pid from) s.children j x.0 (omega (arith, within, past)))
-    where
-      past_end : cond (nat_lt (position_or_len (λ (c : Child). is_pid c.pid from) s.children) (length s.children)) (Some (position_or_len (λ (c : Child). is_pid c.pid from) s.children)) None ≡ None
-          → length s.children ≤ position_or_len (λ (c : Child). is_pid c.pid from) s.children
-      past_end h = grind (arith, h)
 
   one_of : (place : ℕ) → position (λ (c : Child). is_pid c.pid from) s.children ≡ Some place → (d : Child) → (slice_get s.children place ≡ Some (get_or s.children place d)) × (child_at s.children place ≡ Some from)
   one_of place found d =
@@ -184,7 +185,7 @@ module _ (now : ℕ) (from : Pid) (reason : Reason) (s : Standing) (apart : (i j
           let bad : None ≡ Some q = sym (set_at s.children place c v at) ∙ ap (child_at (slice_set s.children place v)) (sym same) ∙ before j q is in absurd (cc)
 
   less_at : (at : Option ℕ) → position (λ (x : Child). is_pid x.pid from) s.children ≡ at → (r : Reason) → Less (Item.Exit from r) s (heard_at at now reason s)
-  less_at None nowhere r = record { sub = λ j q is. is; stop = λ h. h; out = λ h j q is. none_of nowhere j q is; kept = λ j q is. inl is; count = refl }
+  less_at None nowhere r = record { sub = λ j q is. is; stop = λ h. h; out = λ h j q is. none_of from s.children nowhere j q is; kept = λ j q is. inl is; count = refl }
   less_at (Some place) found r = less_lost place (slice_get s.children place) found refl r
 
   less_parent : (is : Bool) (other : Standing) (r : Reason) → Less (Item.Exit from r) s other → Less (Item.Exit from r) s (cond is (stopped reason s) other)
@@ -310,7 +311,7 @@ pub record Kept (past : Past) (children : List Child) (started : ℕ) (stopping 
 pub family_step : (past : Past) (children : List Child) (stopping : Option Reason) (me : Pid) (d e : ShardState) → IsLater d e → ((q : Pid) → IsTied (state_in d me) q → IsHeld past me q e) → Family past children stopping me d
     → Family past children stopping me e
 family_step past children stopping me d e later ties f = record {
-  born = λ place q is. born_then d e later q (f.born place q is);
+  born = λ place q is own. born_then d e later q (f.born place q is own);
   apart = f.apart;
   held = λ none place q is. go q (f.held none place q is);
 }
@@ -339,11 +340,53 @@ kept_step past children started stopping me d e later bare k t now traps ties = 
 pub kept_is : (past : Past) (children : List Child) (started : ℕ) (stopping : Option Reason) (me : Pid) (d e : ShardState) → e ≡ d → Kept past children started stopping me d → Kept past children started stopping me e
 kept_is past children started stopping me d e is k = subst (Kept past children started stopping me) (sym is) k
 
+-- one more child, where there was none ---------------------------------------------------------------------
+
+module _ (p : Pid) (children : List Child) (place : ℕ) (c v : Child) (at : slice_get children place ≡ Some c) (missing : c.pid ≡ None) (now : v.pid ≡ Some p) where
+  pub still_placed : (q : Pid) → IsPlaced children q → IsPlaced (slice_set children place v) q
+  still_placed q placed = elim (cases_eq placed.0 place) [
+    | inl same ↦ absurd (let bad : None ≡ Some q = sym missing ∙ sym (ap pid_of_child at) ∙ sym (ap (child_at children) same) ∙ placed.1 in cc)
+    | inr other ↦ (placed.0, set_same_at children place placed.0 v q other placed.1)
+  ]
+
+  pub newly_placed : IsPlaced (slice_set children place v) p
+  newly_placed = (place, set_at children place c v at ∙ now)
+
+  is_new : (j : ℕ) (q : Pid) → child_at (slice_set children place v) j ≡ Some q → j ≡ place → p ≡ q
+  is_new j q is same =
+      let both : Some p ≡ Some q = sym (set_at children place c v at ∙ now) ∙ ap (child_at (slice_set children place v)) (sym same) ∙ is in cc
+
+  pub joins_family : (past : Past) (stopping : Option Reason) (me : Pid) (e : ShardState) → ((j : ℕ) → child_at children j ≡ Some p → ⊥) → (p.shard ≡ me.shard → is_unborn (phase_of e p) ≡ false) → IsHeld past me p e
+      → Family past children stopping me e → Family past (slice_set children place v) stopping me e
+  joins_family past stopping me e fresh born held old = record {
+    born = λ j q is. elim (cases_eq j place) [
+      | inl same ↦ subst (λ (x : Pid). x.shard ≡ me.shard → is_unborn (phase_of e x) ≡ false) (is_new j q is same) born
+      | inr other ↦ old.born j q (set_beside children place j v q other is)
+    ];
+    apart = λ a b q is_a is_b. elim (cases_eq a place) [
+      | inl same ↦ elim (cases_eq b place) [
+        | inl also ↦ same ∙ sym also
+        | inr other ↦ absurd (not_both b q (set_beside children place b v q other is_b) (is_new a q is_a same))
+      ]
+      | inr apart ↦ elim (cases_eq b place) [
+        | inl also ↦ absurd (not_both a q (set_beside children place a v q apart is_a) (is_new b q is_b also))
+        | inr other ↦ old.apart a b q (set_beside children place a v q apart is_a) (set_beside children place b v q other is_b)
+      ]
+    ];
+    held = λ none j q is. elim (cases_eq j place) [
+      | inl same ↦ subst (λ (x : Pid). IsHeld past me x e) (is_new j q is same) held
+      | inr other ↦ old.held none j q (set_beside children place j v q other is)
+    ];
+  }
+    where
+      not_both : (j : ℕ) (q : Pid) → child_at children j ≡ Some q → p ≡ q → ⊥
+      not_both j q is same = fresh j (is ∙ ap Some (sym same))
+
 -- an event of its own
 pub own_phase : (me : Pid) (ev : Event) (d : ShardState) (s : ProcessState) (own : touches me ev ≡ true) → phase_of d me ≡ living s → phase_of (shard_after ev d) me ≡ change me ev (living s)
 own_phase me ev d s own is i = cond (own i) (change me ev (is i)) (is i)
 
-said_own : (me p : Pid) (x : Signal) (q : Pid) → same_pid me q ≡ false → touches q (Said me p x) ≡ false
+pub said_own : (me p : Pid) (x : Signal) (q : Pid) → same_pid me q ≡ false → touches q (Said me p x) ≡ false
 said_own me p x q other = same_pid_sym me q other
 
 -- what a desk has noted as me told p to end was answered so
@@ -394,7 +437,7 @@ module _ (me p : Pid) where
   monitored_as d e (Err Full) h = absurd h
   monitored_as d e (Err NoProc) h = absurd h
 
-  refused_as : (n : ℕ) (d e : ShardState) (f : Fault) → Refuses me p n d f e → WatchedAs me p d e (Err (CallFault.Refused f))
+  pub refused_as : (n : ℕ) (d e : ShardState) (f : Fault) → Refuses me p n d f e → WatchedAs me p d e (Err (CallFault.Refused f))
   refused_as n d e NoProc h = (max d.clock n + 1, h.1)
   refused_as n d e Worn h = h.1
   refused_as n d e Memory h = h.1
@@ -435,6 +478,16 @@ module _ (me p : Pid) where
   watched_goes d e (Err (CallFault.Refused Full)) h = goes_is me d e h
   watched_goes d e (Err (CallFault.Refused Myself)) h = goes_is me d e h
   watched_goes d e (Err Unknown) h = goes_is me d e h
+
+  pub watched_bare : (d e : ShardState) (result : Result Ref CallFault) → WatchedAs me p d e result → children_by me e.journal ≡ children_by me d.journal
+  watched_bare d e (Ok m) h = ap (λ (f : ShardState). children_by me f.journal) h
+  watched_bare d e (Err (CallFault.Refused NoProc)) h = ap (λ (f : ShardState). children_by me f.journal) h.1
+  watched_bare d e (Err (CallFault.Refused Gone)) h = ap (λ (f : ShardState). children_by me f.journal) h
+  watched_bare d e (Err (CallFault.Refused Worn)) h = ap (λ (f : ShardState). children_by me f.journal) h
+  watched_bare d e (Err (CallFault.Refused Memory)) h = ap (λ (f : ShardState). children_by me f.journal) h
+  watched_bare d e (Err (CallFault.Refused Full)) h = ap (λ (f : ShardState). children_by me f.journal) h
+  watched_bare d e (Err (CallFault.Refused Myself)) h = ap (λ (f : ShardState). children_by me f.journal) h
+  watched_bare d e (Err Unknown) h = ap (λ (f : ShardState). children_by me f.journal) h
 
   pub watched_kept : (past : Past) (children : List Child) (started : ℕ) (stopping : Option Reason) (d e : ShardState) (result : Result Ref CallFault) → WatchedAs me p d e result → Kept past children started stopping me d → Kept past children started stopping me e
   watched_kept past children started stopping d e (Ok m) h k =
@@ -492,35 +545,17 @@ module _ (me p : Pid) (d e : ShardState) (i : LinkId) (unborn_is : is_unborn (ph
       ap (λ (j : List Stamped). children_by me j ++ flat_map (child_by me) past) journal
       ∙ ap (λ (b : Bool). (cond b (p ∷ []) [] ++ children_by me d.journal) ++ flat_map (child_by me) past) (same_pid_refl me)
 
-  pub born_kept : (past : Past) (children : List Child) (started top place : ℕ) (c : Child) → slice_get children place ≡ Some c → c.pid ≡ None → Kept past children started None me d
+  pub born_kept : (past : Past) (children : List Child) (started top place : ℕ) (c : Child) → slice_get children place ≡ Some c → c.pid ≡ None → p.shard ≡ me.shard → Kept past children started None me d
       → Kept past (slice_set children place (started_child p c)) (min (started + 1) top) None me e
-  born_kept past children started top place c at missing k = record {
+  born_kept past children started top place c at missing near k = record {
     remembers = λ were q was. remembered were q (one_taken started top q p (all_children past me d)
         (ap (λ (qs : List Pid). list_any (same_pid q) (take (min (started + 1) top) qs)) (sym (one_more past)) ∙ was));
     state = t;
     living_is = linked_now k.state k.living_is;
     traps = k.traps;
-    family = record {
-      born = λ j q is. elim (cases_eq j place) [
-        | inl same ↦ subst (λ (x : Pid). is_unborn (phase_of e x) ≡ false) (is_new j q is same) born_here
-        | inr other ↦ old.born j q (set_beside children place j v q other is)
-      ];
-      apart = λ a b q is_a is_b. elim (cases_eq a place) [
-        | inl same ↦ elim (cases_eq b place) [
-          | inl also ↦ same ∙ sym also
-          | inr other ↦ absurd (not_both b q (set_beside children place b v q other is_b) (is_new a q is_a same))
-        ]
-        | inr apart ↦ elim (cases_eq b place) [
-          | inl also ↦ absurd (not_both a q (set_beside children place a v q apart is_a) (is_new b q is_b also))
-          | inr other ↦ k.family.apart a b q (set_beside children place a v q apart is_a) (set_beside children place b v q other is_b)
-        ]
-      ];
-      held = λ none j q is. elim (cases_eq j place) [
-        | inl same ↦ inl (subst (λ (f : Phase). IsTied (state_of f) q) (sym (linked_now k.state k.living_is))
-            (subst (λ (x : Pid). IsTied t x) (is_new j q is same) (inl (ap is_some (held-enter p i k.state.links)))))
-        | inr other ↦ old.held none j q (set_beside children place j v q other is)
-      ];
-    };
+    family = joins_family p children place c v at missing refl past None me e fresh (λ own. born_here)
+        (inl (subst (λ (f : Phase). IsTied (state_of f) p) (sym (linked_now k.state k.living_is)) (inl (ap is_some (held-enter p i k.state.links)))))
+        (family_kept past children started None me d e born_goes.later k t (linked_now k.state k.living_is) (λ q h. entered_tied k.state p q i h));
   }
     where
       v : Child
@@ -529,28 +564,14 @@ module _ (me p : Pid) (d e : ShardState) (i : LinkId) (unborn_is : is_unborn (ph
       t : ProcessState
       t = record (k.state) { links = enter p i k.state.links }
 
-      old : Family past children None me e
-      old = family_kept past children started None me d e born_goes.later k t (linked_now k.state k.living_is) (λ q h. entered_tied k.state p q i h)
-
-      still_placed : (q : Pid) → IsPlaced children q → IsPlaced (slice_set children place v) q
-      still_placed q placed = elim (cases_eq placed.0 place) [
-        | inl same ↦ absurd (let bad : None ≡ Some q = sym missing ∙ sym (ap pid_of_child at) ∙ sym (ap (child_at children) same) ∙ placed.1 in cc)
-        | inr other ↦ (placed.0, set_same_at children place placed.0 v q other placed.1)
-      ]
+      fresh : (j : ℕ) → child_at children j ≡ Some p → ⊥
+      fresh j is = let bad : false ≡ true = sym (k.family.born j p is near) ∙ unborn_is in absurd (cc)
 
       onward : (q : Pid) → IsPlaced children q ⊎ (has_told me q (all_events past d) ≡ true) → IsPlaced (slice_set children place v) q ⊎ (has_told me q (all_events past e) ≡ true)
-      onward q (inl placed) = inl (still_placed q placed)
+      onward q (inl placed) = inl (still_placed p children place c v at missing refl q placed)
       onward q (inr told) = inr (told_later past me q d e born_goes.later told)
 
       remembered : WereTold past me e.start → (q : Pid) → (same_pid q p ≡ true) ⊎ (list_any (same_pid q) (take started (all_children past me d)) ≡ true)
           → IsPlaced (slice_set children place v) q ⊎ (has_told me q (all_events past e) ≡ true)
       remembered were q (inl same) = inl (place, set_at children place c v at ∙ ap Some (sym (same_pid_is q p same)))
       remembered were q (inr was) = onward q (k.remembers (subst (WereTold past me) start were) q was)
-
-      is_new : (j : ℕ) (q : Pid) → child_at (slice_set children place v) j ≡ Some q → j ≡ place → p ≡ q
-      is_new j q is same =
-          let both : Some p ≡ Some q = sym (set_at children place c v at) ∙ ap (child_at (slice_set children place v)) (sym same) ∙ is in cc
-
-      not_both : (j : ℕ) (q : Pid) → child_at children j ≡ Some q → p ≡ q → ⊥
-      not_both j q is same =
-          let bad : false ≡ true = sym (k.family.born j q is) ∙ ap (λ (x : Pid). is_unborn (phase_of d x)) (sym same) ∙ unborn_is in absurd (cc)

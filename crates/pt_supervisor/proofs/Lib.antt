@@ -10,6 +10,7 @@ pub mod Families
 pub mod Changing
 pub mod Asking
 pub mod Advancing
+pub mod Joining
 pub mod Tending
 pub mod Bearing
 pub mod Counted

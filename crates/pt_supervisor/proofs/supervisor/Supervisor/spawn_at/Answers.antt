@@ -1,10 +1,10 @@
--- `Supervisor::try_at`: its clause `at`.
+-- `Supervisor::spawn_at`: its clause `at`.
 use Rattle.std.proofs.Common.{slice_set, sym, subst}
 use Rattle.pt_supervisor.specs.declared.children.Child.{Child}
 use Rattle.pt_supervisor.specs.Hearing.{standing}
 use Rattle.pt_supervisor.specs.Supervising.{SetsAt}
 use Rattle.pt_supervisor.proofs.Starting.{started_sets, unstarted_sets}
-use Rattle.pt_supervisor.proofs.supervisor.Supervisor.try_at.Goals as goal
+use Rattle.pt_supervisor.proofs.supervisor.Supervisor.spawn_at.Goals as goal
 
 pub returns-in-Err-clause-at : goal.returns-in-Err-clause-at
 returns-in-Err-clause-at g c =
