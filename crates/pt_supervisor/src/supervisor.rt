@@ -1,6 +1,9 @@
 //! A supervisor.
 
-ghost use Rattle.std.specs.Prelude.{◌≡◌, ⊤, ℕ, Result};
+ghost use Rattle.std.specs.Prelude.{◌≡◌, ⊤, ℕ, IfOk, Result};
+ghost use Rattle.pt_behaviour.specs.Behaving.{takes};
+ghost use Rattle.pt_behaviour.specs.Births.{Bore, born, kept_roles};
+ghost use Rattle.pt_desk.specs.DeskState.{GoesOn};
 ghost use Rattle.pt_shard.specs.ShardState.{phase_of};
 ghost use Rattle.pt_supervisor.specs.Ending.{next_tried};
 ghost use Rattle.std.specs.Option.{ForSome};
@@ -60,10 +63,8 @@ pub struct Supervisor<S> {
 }
 
 impl<S> Supervisor<S> {
-    ghost use Rattle.std.specs.Prelude.{◌<◌, IfOk, IfSome, Some, true, cond, length, map, slice_get, slice_set};
-    ghost use Rattle.pt_desk.specs.DeskState.{GoesOn};
-    ghost use Rattle.pt_behaviour.specs.Births.{born, kept_roles, time_told};
-    ghost use Rattle.pt_behaviour.specs.Behaving.{takes};
+    ghost use Rattle.std.specs.Prelude.{◌<◌, IfSome, Some, true, cond, length, map, slice_get, slice_set};
+    ghost use Rattle.pt_behaviour.specs.Births.{time_told};
     ghost use Rattle.pt_supervisor.specs.Calling.{AddsChild, DeletesChild, RestartsChild, TerminatesChild, with_wanted, without_child};
     ghost use Rattle.pt_supervisor.specs.Children.{AreStarted, NoneUnwanted, PermanentAreWanted};
     ghost use Rattle.pt_supervisor.specs.declared.asked.Stage.TheVariants.{Gone};
@@ -807,10 +808,8 @@ impl<S> Supervisor<S> {
                 return;
             }
         };
-        match spawn_child(desk, births, me, true, behaviour, first) {
+        match spawn_linked(desk, births, me, behaviour, first) {
             Ok(pid) => {
-                // read for the proof alone: by a lawful journal the child is of its parent's desk
-                let _lawful = desk.journal();
                 self.children[place] = child.started(pid);
                 self.started = self.started.saturating_add(1);
             }
@@ -832,6 +831,26 @@ impl<S> Supervisor<S> {
             None => Next::Proceed,
         }
     }
+}
+
+/// Spawns a child that is linked with its supervisor. It is of the supervisor's desk.
+fn spawn_linked<B: Drop>(
+    desk: &mut Desk,
+    births: &mut Births<B>,
+    me: Pid,
+    behaviour: B,
+    first: Next,
+) -> Result<Pid, Fault>
+    ensures does { Bore me true behaviour first desk.old.shard (born births.old) result desk.new.shard (born births.new) }
+    ensures near { IfOk result (λ p. p.shard ≡ me.shard) }
+    ensures takes { takes desk.new.shard.journal ≡ takes desk.old.shard.journal }
+    ensures kept { kept_roles births.new ≡ kept_roles births.old }
+    ensures goes_on { GoesOn desk.old desk.new }
+{
+    let born = spawn_child(desk, births, me, true, behaviour, first);
+    // read for the proof alone: by a lawful journal a child is of the desk of its parent
+    let _lawful = desk.journal();
+    born
 }
 
 /// What a supervisor does next whose children are not all started: it takes the first item that is there, or goes on
