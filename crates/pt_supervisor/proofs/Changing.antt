@@ -11,7 +11,6 @@ use Rattle.pt_supervisor.specs.declared.trial.Trial.TheVariants.{Again, Asked}
 use Rattle.pt_supervisor.specs.Hearing.{Standing, started_again, to_try, tried_again, tried_child, tried_where}
 use Rattle.pt_supervisor.specs.Keeping.{HoldsChildren, HoldsWhere, IsPlaced, Remembers, child_at, pid_of_child, was_started}
 use Rattle.pt_supervisor.specs.Changed.{RemembersWhere}
-use Rattle.pt_supervisor.specs.Answering.{changed_at, changed_in}
 use Rattle.pt_supervisor.specs.Calling.{wanted_in, with_last_child, with_wanted, without_child}
 use Rattle.pt_supervisor.specs.Homes.{is_abroad}
 use Rattle.pt_supervisor.specs.Seen.{child_state, state_of_child}
@@ -143,18 +142,14 @@ pub with_wanted_remembers : (wanted : Bool) (place : ℕ) (s t : Standing) → t
 with_wanted_remembers wanted place s t is =
     subst (RemembersWhere s) (sym is) (remembers_where s (with_wanted wanted place s) (wanted_live wanted place (slice_get s.children place) s.children refl) refl)
 
--- an answer of the program about a child
-changed_live : (place : ℕ) (change : Child → Child) → ((c : Child) → (change c).pid ≡ c.pid) → (o : Option Child) (xs : List Child) → slice_get xs place ≡ o → SameLive xs (changed_in place change o xs)
-changed_live place change same None xs at = same_live xs
-changed_live place change same (Some c) xs at = set_live xs place c (change c) at (same c)
+-- an answer of the program about a child, which has the same process
+pub set_holds : (place : ℕ) (c v : Child) (s t : Standing) → slice_get s.children place ≡ Some c → v.pid ≡ c.pid → t ≡ record s { children = slice_set s.children place v } → HoldsWhere s t
+set_holds place c v s t at pid is =
+    subst (HoldsWhere s) (sym is) (holds_where s (record s { children = slice_set s.children place v }) (set_live s.children place c v at pid) refl refl refl)
 
-pub changed_holds : (place : ℕ) (change : Child → Child) → ((c : Child) → (change c).pid ≡ c.pid) → (s t : Standing) → t ≡ changed_at place change s → HoldsWhere s t
-changed_holds place change same s t is =
-    subst (HoldsWhere s) (sym is) (holds_where s (changed_at place change s) (changed_live place change same (slice_get s.children place) s.children refl) refl refl refl)
-
-pub changed_remembers : (place : ℕ) (change : Child → Child) → ((c : Child) → (change c).pid ≡ c.pid) → (s t : Standing) → t ≡ changed_at place change s → RemembersWhere s t
-changed_remembers place change same s t is =
-    subst (RemembersWhere s) (sym is) (remembers_where s (changed_at place change s) (changed_live place change same (slice_get s.children place) s.children refl) refl)
+pub set_remembers : (place : ℕ) (c v : Child) (s t : Standing) → slice_get s.children place ≡ Some c → v.pid ≡ c.pid → t ≡ record s { children = slice_set s.children place v } → RemembersWhere s t
+set_remembers place c v s t at pid is =
+    subst (RemembersWhere s) (sym is) (remembers_where s (record s { children = slice_set s.children place v }) (set_live s.children place c v at pid) refl)
 
 -- one more child ---------------------------------------------------------------------------------------------------
 

@@ -108,7 +108,7 @@ module _ (me p : Pid) where
   linked_bare d e (Err f) h = watched_bare me p d e (Err f) h
 
   module _ (past : Past) (children : List Child) (started : ℕ) (stopping : Option Reason) (d e : ShardState) (k : Kept past children started stopping me d) where
-    t : ProcessState
+    abbrev t : ProcessState
     t = say k.state p (Link (new_link d))
 
     linked_now : e ≡ shard_after (linking d) d → phase_of e me ≡ living t
@@ -300,9 +300,9 @@ pub meets_kept : (me : Pid) (past : Past) (place : ℕ) (s : Standing) (d : Desk
     → Kept past t.children t.started t.stopping me e.shard × AreAsked past t.children t.asked me e.shard
 meets_kept me past place s d next t e coming h k asks = elim (met me place s d next t e (slice_get s.children place) h) [
   | inl x ↦ subst (λ (y : Standing). Kept past y.children y.started y.stopping me e.shard × AreAsked past y.children y.asked me e.shard) (sym x.4.new_is) (
-      joins_kept me place x.2 x.0 s d t e x.4 past x.1 (coming_bare s.children place x.0 coming x.1) k,
-      λ a is placed. absurd (let bad : None ≡ Some a = is in cc),
-    )
+    joins_kept me place x.2 x.0 s d t e x.4 past x.1 (coming_bare s.children place x.0 coming x.1) k,
+    λ a is placed. absurd (let bad : None ≡ Some a = is in cc),
+  )
   | inr x ↦ subst (λ (y : Standing). Kept past y.children y.started y.stopping me e.shard × AreAsked past y.children y.asked me e.shard) (sym x.1)
       (subst (λ (y : DeskState). Kept past s.children s.started s.stopping me y.shard × AreAsked past s.children s.asked me y.shard) (sym x.2) (k, asks))
 ]

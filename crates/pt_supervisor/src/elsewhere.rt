@@ -1,20 +1,23 @@
 //! Children of a supervisor that the program starts on other desks.
 
-ghost use Rattle.std.specs.Prelude.{◌≡◌, ◌<◌, length, slice_get, Some};
+ghost use Rattle.std.specs.Prelude.{◌≡◌, ◌<◌, IfSome, length, slice_get, Some};
 ghost use Rattle.pt_behaviour.specs.Behaving.{takes};
+ghost use Rattle.pt_behaviour.specs.Births.{kept_roles};
 ghost use Rattle.pt_desk.specs.DeskState.{GoesOn};
 ghost use Rattle.pt_supervisor.specs.Answering.{AnswersNotStarted, AnswersStarted};
 ghost use Rattle.pt_supervisor.specs.Changed.{RemembersWhere};
 ghost use Rattle.pt_supervisor.specs.Children.{PermanentAreWanted};
 ghost use Rattle.pt_supervisor.specs.Hearing.{program_of, standing};
 ghost use Rattle.pt_supervisor.specs.Joining.{Joins, LinksNew, MeetsIn, joined_as};
+ghost use Rattle.pt_supervisor.specs.Homes.{place_coming};
 ghost use Rattle.pt_supervisor.specs.Keeping.{HoldsWhere};
+ghost use Rattle.pt_supervisor.specs.Supervising.{GoesForward, Supervises, supervisor_scene};
 
 use crate::child_fault::ChildFault;
 use crate::children::{Child, place_of};
-use crate::home::{Home, place_awaited};
-use crate::supervisor::Supervisor;
-use pt_behaviour::{CallFault, Next, link};
+use crate::home::{Home, place_awaited, place_coming};
+use crate::supervisor::{Start, Supervisor};
+use pt_behaviour::{Births, CallFault, Next, link};
 use pt_workers::{Desk, Fault, Pick, Pid};
 
 /// The child as which this process was started on another desk, if its supervisor was linked with it. Else it was not
@@ -43,6 +46,14 @@ fn link_new(desk: &mut Desk, me: Pid, pid: Pid, children: &[Child]) -> Result<()
 }
 
 impl<S> Supervisor<S> {
+    /// The child at a place.
+    fn child_of(&self, place: usize) -> Child
+        requires { place < length (standing self.now).children }
+        ensures { slice_get (standing self.now).children place ≡ Some result }
+    {
+        self.children()[place]
+    }
+
     /// Tells the supervisor that the program has started the child with this id on another desk, as this process. The
     /// supervisor links with it when it handles the next item, or proceeds.
     ///
@@ -59,7 +70,7 @@ impl<S> Supervisor<S> {
         let Some(place) = place_awaited(self.children(), id) else {
             return Err(ChildFault::NotAwaited);
         };
-        let child = self.children()[place];
+        let child = self.child_of(place);
         self.set_child(place, child.arrived(pid));
         Ok(())
     }
@@ -79,9 +90,45 @@ impl<S> Supervisor<S> {
         let Some(place) = place_awaited(self.children(), id) else {
             return Err(ChildFault::NotAwaited);
         };
-        let child = self.children()[place];
+        let child = self.child_of(place);
         self.set_child(place, child.refused(clock, fault));
         Ok(())
+    }
+
+    /// The place of the child that is being started on another desk, if there is one.
+    fn coming(&self) -> Option<usize>
+        ensures place { result ≡ place_coming (standing self.now).children }
+        ensures within { IfSome result (λ i. i < length (standing self.now).children) }
+    {
+        place_coming(self.children())
+    }
+
+    /// Links with the child that is being started on another desk, or waits for the program's answer. If there is none, it
+    /// ends the last of the children that are to end, or exits, or starts the missing children.
+    pub(crate) fn go_forward<B: Drop>(
+        &mut self,
+        desk: &mut Desk,
+        births: &mut Births<B>,
+        now: u64,
+        me: Pid,
+    ) -> Next
+    where
+        S: Start<B>,
+        ensures does { GoesForward S.starts me now (place_coming (standing self.old).children)
+            (supervisor_scene self.old desk.old births.old)
+            result
+            (supervisor_scene self.new desk.new births.new) }
+        ensures supervises { Supervises result (standing self.new) }
+        ensures permanent { PermanentAreWanted (standing self.old).children
+            → PermanentAreWanted (standing self.new).children }
+        ensures takes { takes desk.new.shard.journal ≡ takes desk.old.shard.journal }
+        ensures kept { kept_roles births.new ≡ kept_roles births.old }
+        ensures goes_on { GoesOn desk.old desk.new }
+    {
+        match self.coming() {
+            Some(place) => self.meet(desk, me, place),
+            None => self.advance(desk, births, now, me),
+        }
     }
 
     /// Links with the child at a place, if the program has started it on another desk. Else it waits for the answer.
@@ -96,7 +143,7 @@ impl<S> Supervisor<S> {
         ensures takes { takes desk.new.shard.journal ≡ takes desk.old.shard.journal }
         ensures goes_on { GoesOn desk.old desk.new }
     {
-        let child = self.children()[place];
+        let child = self.child_of(place);
         match child.home {
             Home::Arrived(pid) => {
                 self.join(desk, me, place, pid, child);

@@ -1,6 +1,6 @@
 //! A supervisor.
 
-ghost use Rattle.std.specs.Prelude.{◌≡◌, ⊤, ℕ, IfOk, Result};
+ghost use Rattle.std.specs.Prelude.{◌≡◌, ⊤, ℕ, IfOk, Result, true};
 ghost use Rattle.pt_behaviour.specs.Behaving.{takes};
 ghost use Rattle.pt_behaviour.specs.Births.{Bore, born, kept_roles};
 ghost use Rattle.pt_desk.specs.DeskState.{GoesOn};
@@ -15,7 +15,6 @@ use crate::asked::{Asked, Stage, due_at, gone_in, is_noproc, stage_of, unless_by
 use crate::child_fault::{ChildFault, present};
 use crate::children::{Child, Shutdown, is_process, last_alive, place_of, place_of_id, revive};
 use crate::gave_up::GaveUp;
-use crate::home::place_coming;
 use crate::limit::Limit;
 use crate::restart::Strategy;
 use crate::seen::{ChildCounts, ChildSeen, ChildState, counted, seen};
@@ -63,7 +62,7 @@ pub struct Supervisor<S> {
 }
 
 impl<S> Supervisor<S> {
-    ghost use Rattle.std.specs.Prelude.{◌<◌, IfSome, Some, true, cond, length, map, slice_get, slice_set};
+    ghost use Rattle.std.specs.Prelude.{◌<◌, IfSome, Some, cond, length, map, slice_get, slice_set};
     ghost use Rattle.pt_behaviour.specs.Births.{time_told};
     ghost use Rattle.pt_supervisor.specs.Calling.{AddsChild, DeletesChild, RestartsChild, TerminatesChild, with_wanted, without_child};
     ghost use Rattle.pt_supervisor.specs.Children.{AreStarted, NoneUnwanted, PermanentAreWanted};
@@ -365,10 +364,7 @@ impl<S> Supervisor<S> {
         if !self.attend(desk, now, me, item) {
             return Next::Proceed;
         }
-        match place_coming(self.children.as_slice()) {
-            Some(place) => self.meet(desk, me, place),
-            None => self.advance(desk, births, now, me),
-        }
+        self.go_forward(desk, births, now, me)
     }
 
     /// Takes in an exit, or begins to trap exits. Returns whether no call failed.
@@ -561,7 +557,7 @@ impl<S> Supervisor<S> {
     /// Ends the last of the children that are to end. If none is left, it exits, or starts the missing children. None is
     /// being started on another desk.
     #[tactic(auto, using(pt_workers::proofs::GoingOn::stays))]
-    fn advance<B: Drop>(
+    pub(crate) fn advance<B: Drop>(
         &mut self,
         desk: &mut Desk,
         births: &mut Births<B>,

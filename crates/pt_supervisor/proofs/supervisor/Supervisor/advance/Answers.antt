@@ -40,7 +40,7 @@ returns-then-start_missing-clause-supervises g c =
     let items = c.args.self.now.children.items in
     let none : last_alive items c.args.self.now.ending (length items) ≡ None =
     ap (λ (xs : List Child). last_alive xs c.args.self.now.ending (length xs)) (sym c.as_slice.ensures.value) ∙ (sym c.last_alive.ensures ∙ c.in_default.is) in
-    settled_waits _ (
+    settled_waits (standing c.start_missing.new.self) (
       c.if-start_missing.ensures.started refl,
       ap (λ (s : Standing). s.ending) rest ∙ (len ∙ sym c.start_missing.ensures.count),
       ap (λ (s : Standing). s.stopping) rest ∙ c.in_default-stopping.is,

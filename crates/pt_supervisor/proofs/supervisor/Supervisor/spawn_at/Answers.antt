@@ -11,12 +11,12 @@ returns-in-Err-clause-at g c =
     let xs = (standing c.args.self.now).children in
     subst (λ (v : Child). SetsAt c.args.place xs (slice_set xs c.args.place v)) (sym c.unstarted.ensures) (unstarted_sets xs c.args.place c.args.child _ _ c.requires.at c.requires.due)
 
-pub returns-in-Ok-spawn_child-clause-at : goal.returns-in-Ok-spawn_child-clause-at
-returns-in-Ok-spawn_child-clause-at g c =
+pub returns-in-Ok-spawn_linked-clause-at : goal.returns-in-Ok-spawn_linked-clause-at
+returns-in-Ok-spawn_linked-clause-at g c =
     let xs = (standing c.args.self.now).children in
     subst (λ (v : Child). SetsAt c.args.place xs (slice_set xs c.args.place v)) (sym c.started.ensures) (started_sets xs c.args.place c.args.child _ c.requires.at c.requires.due)
 
-pub returns-in-Err-spawn_child-clause-at : goal.returns-in-Err-spawn_child-clause-at
-returns-in-Err-spawn_child-clause-at g c =
+pub returns-in-Err-spawn_linked-clause-at : goal.returns-in-Err-spawn_linked-clause-at
+returns-in-Err-spawn_linked-clause-at g c =
     let xs = (standing c.args.self.now).children in
-    subst (λ (v : Child). SetsAt c.args.place xs (slice_set xs c.args.place v)) (sym c.unstarted-in-Err-spawn_child.ensures) (unstarted_sets xs c.args.place c.args.child _ _ c.requires.at c.requires.due)
+    subst (λ (v : Child). SetsAt c.args.place xs (slice_set xs c.args.place v)) (sym c.unstarted-in-Err-spawn_linked.ensures) (unstarted_sets xs c.args.place c.args.child _ _ c.requires.at c.requires.due)
