@@ -25,6 +25,7 @@ child_fault_code ChildFault.Running = 23
 child_fault_code ChildFault.Restarting = 24
 child_fault_code ChildFault.AlreadyPresent = 25
 child_fault_code (ChildFault.AlreadyStarted p) = 23
+child_fault_code ChildFault.NotAwaited = 8
 child_fault_code ChildFault.Memory = 2
 
 -- where p is no supervisor there is nothing of what was asked for

@@ -29,6 +29,7 @@ fn child_fault_code(fault: ChildFault) -> u32
         ChildFault::Restarting => CHILD_RESTARTING,
         ChildFault::AlreadyPresent => CHILD_PRESENT,
         ChildFault::AlreadyStarted(_) => CHILD_RUNNING,
+        ChildFault::NotAwaited => NOTHING,
         ChildFault::Memory => MEMORY,
     }
 }

@@ -91,7 +91,7 @@ module _ (past : Past) (merged : List Stamped) (me : Pid) (d e : ShardState) (ba
 
   family_then : (s : Standing) → phase_of e me ≡ phase_of d me → Family past s.children s.stopping me d → Family then s.children s.stopping me e
   family_then s same f = record {
-    born = λ place q is. born_then q (f.born place q is);
+    born = λ place q is near. born_then q (f.born place q is near);
     apart = f.apart;
     held = λ none place q is. go q (f.held none place q is);
   }

@@ -30,7 +30,7 @@ use Rattle.pt_supervisor.specs.Children.{last_alive}
 use Rattle.pt_supervisor.specs.Ending.{stage_of}
 use Rattle.pt_supervisor.specs.Hearing.{Standing, standing}
 use Rattle.pt_supervisor.specs.Keeping.{HoldsAs, HoldsWhere, IsReady, Keeps}
-use Rattle.pt_supervisor.specs.Seen.{state_of_child}
+use Rattle.pt_supervisor.specs.Seen.{child_state}
 use Rattle.pt_supervisor.proofs.Due.{due_proceeds, due_supervises}
 use Rattle.pt_scheduler.specs.declared.member.Member.{Member}
 use Rattle.pt_scheduler.specs.declared.plan.ChildSpec.{ChildSpec}
@@ -83,7 +83,7 @@ restarts_err id s (Err f) t h = go (place_of_id id s.children) h
 
     in_place : (x : Option Child) (place : ℕ) → RestartsIn x place s (Err f) t → t ≡ s
     in_place None place e = absurd e
-    in_place (Some c) place e = by_state (state_of_child c.pid c.wanted) place e
+    in_place (Some c) place e = by_state (child_state c) place e
 
     go : (o : Option ℕ) → RestartsAt o s (Err f) t → t ≡ s
     go None e = e.1
@@ -100,7 +100,7 @@ deletes_err id s (Err f) t h = go (place_of_id id s.children) h
 
     in_place : (x : Option Child) (place : ℕ) → DeletesIn x place s (Err f) t → t ≡ s
     in_place None place e = absurd e
-    in_place (Some c) place e = by_state (state_of_child c.pid c.wanted) place e
+    in_place (Some c) place e = by_state (child_state c) place e
 
     go : (o : Option ℕ) → DeletesAt o s (Err f) t → t ≡ s
     go None e = e.1

@@ -5,6 +5,7 @@ use Rattle.pt_shard.specs.declared.fault.Fault.{Fault}
 use Rattle.pt_behaviour.specs.declared.behaviour.Next.{Next}
 use Rattle.pt_behaviour.specs.declared.behaviour.Next.TheVariants.{Proceed}
 use Rattle.pt_supervisor.specs.declared.children.Child.{Child}
+use Rattle.pt_supervisor.specs.declared.home.Home.TheVariants.{Here}
 use Rattle.pt_supervisor.specs.declared.trial.Trial.TheVariants.{First}
 use Rattle.pt_signal.specs.Values.{is_pid}
 use Rattle.pt_supervisor.specs.Hearing.{Standing}
@@ -66,6 +67,7 @@ child_as spec = record {
   wanted = true;
   id = spec.tag;
   trial = First;
+  home = Here;
 }
 
 abbrev pub post_as : ChildSpec → Post
