@@ -1,10 +1,10 @@
 //! A supervisor, its children and its limits, without a desk.
 
 use crate::compared::{holds, same};
-use pt_node::{Pid, Reason};
+use pt_node::{Fault, Pid, Reason};
 use pt_supervisor::{
-    Child, ChildCounts, ChildFault, ChildSeen, ChildState, Home, Limit, Restart, Shutdown, Strategy,
-    Supervisor, Trial,
+    Child, ChildCounts, ChildFault, ChildSeen, ChildState, Home, Limit, Restart, Shutdown,
+    Strategy, Supervisor, Trial,
 };
 use std::alloc::Global;
 use std::process::Abort;
@@ -136,4 +136,71 @@ fn a_child_is_taken_in_and_forgotten_by_calls(rt: HostRuntime) {
     same(&rt, supervisor.terminate_child(9), Ok(()));
     same(&rt, supervisor.delete_child(9), Ok(2));
     same(&rt, supervisor.count_children(), ONE_OF_TWO);
+}
+
+/// A child that the program is to start on another desk.
+const AWAITED: Child = Child {
+    pid: None,
+    restart: Restart::Permanent,
+    shutdown: Shutdown::Infinity,
+    wanted: true,
+    id: 7,
+    trial: Trial::First,
+    home: Home::Awaited,
+};
+
+/// A supervisor of one living child, and of one that the program is to start on another desk.
+fn of_one_elsewhere(rt: &impl Abort, alloc: Global) -> Supervisor<Nobody> {
+    let children = vec![in alloc; KILLED, AWAITED].expect(rt, "memory");
+    let limit = Limit::new(alloc, 1, 1000).expect(rt, "memory");
+    Supervisor::new(Nobody, Strategy::OneForOne, children, limit)
+}
+
+/// The last child of a supervisor.
+fn last_child(supervisor: &Supervisor<Nobody>) -> Option<Child> {
+    supervisor.children().last().copied()
+}
+
+#[test]
+fn a_child_that_was_started_elsewhere_has_arrived(rt: HostRuntime) {
+    let mut supervisor = of_one_elsewhere(&rt, rt.alloc());
+    let child = Child::new(Restart::Permanent).with_id(7).elsewhere();
+    holds(&rt, !child.is_awaited() && AWAITED.is_awaited());
+    same(
+        &rt,
+        supervisor.child_started(0, PARENT),
+        Err(ChildFault::NotAwaited),
+    );
+    same(&rt, supervisor.child_started(7, PARENT), Ok(()));
+    let arrived = Child {
+        home: Home::Arrived(PARENT),
+        ..child
+    };
+    same(&rt, last_child(&supervisor), Some(arrived));
+    same(
+        &rt,
+        supervisor.child_started(7, PARENT),
+        Err(ChildFault::NotAwaited),
+    );
+}
+
+#[test]
+fn a_child_that_was_not_started_elsewhere_has_failed(rt: HostRuntime) {
+    let mut supervisor = of_one_elsewhere(&rt, rt.alloc());
+    same(
+        &rt,
+        supervisor.child_not_started(0, 3, Fault::Full),
+        Err(ChildFault::NotAwaited),
+    );
+    same(&rt, supervisor.child_not_started(7, 3, Fault::Full), Ok(()));
+    let failed = Child {
+        trial: Trial::Over,
+        ..AWAITED.elsewhere()
+    };
+    same(&rt, last_child(&supervisor), Some(failed));
+    same(
+        &rt,
+        supervisor.child_not_started(7, 3, Fault::Full),
+        Err(ChildFault::NotAwaited),
+    );
 }
