@@ -313,18 +313,20 @@ typedef struct pt_next { uint32_t code; pt_reason reason; uint64_t until; pt_pic
 
 /* What the handler of a process is told. */
 enum pt_job_code {
-    PT_JOB_START = 0,   /* it begins: it was to proceed, and has had no job before */
-    PT_JOB_PROCEED = 1, /* it proceeds, as it was answered */
-    PT_JOB_ITEM = 2,    /* it gets `item`, for which it waited; the item is out of its mailbox */
-    PT_JOB_TIMEOUT = 3, /* the time until which it waited has come, and no item matches */
-    PT_JOB_EXIT = 4     /* it has exited with `reason`; `was` is what it was to do */
+    PT_JOB_START = 0,          /* it begins: it was to proceed, and has had no job before */
+    PT_JOB_PROCEED = 1,        /* it proceeds, as it was answered */
+    PT_JOB_ITEM = 2,           /* it gets `item`, for which it waited; the item is out of its mailbox */
+    PT_JOB_TIMEOUT = 3,        /* the time until which it waited has come, and no item matches */
+    PT_JOB_EXIT = 4,           /* it has exited with `reason`; `was` is what it was to do */
+    PT_JOB_START_ELSEWHERE = 5 /* it is a supervisor, and waits for pt_crew_child_started about its child `tag` */
 };
 
 /* A job for the handler of a process. PT_JOB_EXIT comes once, and the process is not in the crew any more: it gets
  * no answer. `was` is PT_NEXT_RUNNING then if it had a job that nobody answered. `reason` is that of its own exit,
  * by PT_NEXT_STOP or pt_exit. If an exit signal ended the process, or it exited while its node was settled, `reason`
  * is the one that pt_crew_note_loss noted, or PT_NO_PROCESS if none was noted. The last three fields count for
- * PT_JOB_START, and are zero in other jobs. */
+ * PT_JOB_START and PT_JOB_START_ELSEWHERE, and are zero in other jobs. PT_JOB_START_ELSEWHERE gets no answer by
+ * pt_crew_answer. */
 typedef struct pt_job {
     uint32_t code;
     pt_pid pid;
@@ -377,6 +379,7 @@ typedef struct pt_child_spec {
     uint32_t restart;  /* a pt_restart_code */
     uint32_t shutdown; /* a pt_shutdown_code */
     uint64_t time;     /* for PT_SHUTDOWN_AFTER (pt_crew_set_time) */
+    bool elsewhere;    /* whether the program starts it, on another desk (PT_JOB_START_ELSEWHERE) */
 } pt_child_spec;
 
 /* A child of a supervisor, at its place. */
@@ -752,6 +755,12 @@ uint32_t pt_crew_terminate_child(pt_crew *crew, pt_pid p, uint64_t tag);
  * PT_CHILD_RESTARTING: the supervisor is to start it already. */
 uint32_t pt_crew_restart_child(pt_crew *crew, pt_pid p, uint64_t tag);
 
+/* Tells a supervisor that the program has started the child with this tag on another desk, as the process `child`
+ * (PT_JOB_START_ELSEWHERE). The next step links the two. If the process has exited by then, or is of the crew's desk, or is
+ * a child of it already, the child was not started. PT_NOTHING: p is not a supervisor of the crew, or does not wait for this
+ * child: then the program ends the process. */
+uint32_t pt_crew_child_started(pt_crew *crew, pt_pid p, uint64_t tag, pt_pid child);
+
 /* Has a supervisor forget the child with this tag, which it ended or which is done: Erlang's delete_child. `place` gets
  * the place that it had. The children after it move up by one. Codes as of pt_crew_restart_child. */
 uint32_t pt_crew_delete_child(pt_crew *crew, pt_pid p, uint64_t tag, size_t *place);
@@ -897,7 +906,7 @@ typedef struct pt_codes {
         signal_message, signal_link, signal_unlink, signal_exit, signal_link_exit, signal_monitor, signal_demonitor,
         signal_down, signal_alive_ask, signal_alive_say, event_born, event_said, event_came, event_took, event_flag,
         event_left, event_refused, next_wait, next_wait_until, next_proceed, next_stop, next_running, job_start,
-        job_proceed, job_item, job_timeout, job_exit;
+        job_proceed, job_item, job_timeout, job_exit, job_start_elsewhere;
 } pt_codes;
 
 /* The size of each struct, in bytes. */
@@ -992,7 +1001,7 @@ PT_SIZE_IS(pt_next, 64);
 PT_SIZE_IS(pt_job, 192);
 PT_SIZE_IS(pt_answer, 80);
 PT_SIZE_IS(pt_supervisor_spec, 40);
-PT_SIZE_IS(pt_child_spec, 24);
+PT_SIZE_IS(pt_child_spec, 32);
 PT_SIZE_IS(pt_child, 32);
 PT_SIZE_IS(pt_child_counts, 24);
 PT_SIZE_IS(pt_gave_up, 48);
@@ -1004,7 +1013,7 @@ PT_SIZE_IS(pt_call, 56);
 PT_SIZE_IS(pt_request, 24);
 PT_SIZE_IS(pt_heard, 16);
 PT_SIZE_IS(pt_post, 48);
-PT_SIZE_IS(pt_codes, 268);
+PT_SIZE_IS(pt_codes, 272);
 PT_SIZE_IS(pt_sizes, 176);
 PT_SIZE_IS(pt_asking_about, 120);
 PT_SIZE_IS(pt_supervisor_codes, 96);

@@ -51,7 +51,7 @@ SIGNAL_CODES = (
 )
 EVENT_CODES = ("born", "said", "came", "took", "flag", "left", "refused")
 NEXT_CODES = ("wait", "wait-until", "proceed", "stop", "running")
-JOB_CODES = ("start", "proceed", "item", "timeout", "exit")
+JOB_CODES = ("start", "proceed", "item", "timeout", "exit", "start-elsewhere")
 STRATEGY_CODES = ("one_for_one", "one_for_all", "rest_for_one")
 RESTART_CODES = ("permanent", "transient", "temporary")
 SHUTDOWN_CODES = ("infinity", "after", "brutal_kill")
@@ -69,6 +69,7 @@ CODES = {
     "signal_alive_say": 9, "event_born": 0, "event_said": 1, "event_came": 2, "event_took": 3, "event_flag": 4,
     "event_left": 5, "event_refused": 6, "next_wait": 0, "next_wait_until": 1, "next_proceed": 2, "next_stop": 3,
     "next_running": 4, "job_start": 0, "job_proceed": 1, "job_item": 2, "job_timeout": 3, "job_exit": 4,
+    "job_start_elsewhere": 5,
 }
 SUPERVISOR_CODES = {
     "one_for_one": 0, "one_for_all": 1, "rest_for_one": 2, "permanent": 0, "transient": 1, "temporary": 2,
@@ -162,7 +163,8 @@ class CSupervisorSpec(c.Structure):
 
 
 class CChildSpec(c.Structure):
-    _fields_ = [("tag", c.c_uint64), ("restart", c.c_uint32), ("shutdown", c.c_uint32), ("time", c.c_uint64)]
+    _fields_ = [("tag", c.c_uint64), ("restart", c.c_uint32), ("shutdown", c.c_uint32), ("time", c.c_uint64),
+                ("elsewhere", c.c_bool)]
 
 
 class CChild(c.Structure):
@@ -233,7 +235,8 @@ class CCodes(c.Structure):
                 ("event_left", c.c_uint32), ("event_refused", c.c_uint32), ("next_wait", c.c_uint32),
                 ("next_wait_until", c.c_uint32), ("next_proceed", c.c_uint32), ("next_stop", c.c_uint32),
                 ("next_running", c.c_uint32), ("job_start", c.c_uint32), ("job_proceed", c.c_uint32),
-                ("job_item", c.c_uint32), ("job_timeout", c.c_uint32), ("job_exit", c.c_uint32)]
+                ("job_item", c.c_uint32), ("job_timeout", c.c_uint32), ("job_exit", c.c_uint32),
+                ("job_start_elsewhere", c.c_uint32)]
 
 
 class CSizes(c.Structure):
@@ -333,6 +336,7 @@ CALLS: dict[str, list[Any]] = {
     "pt_crew_start_child": [_P(CHandle), CPid, CChildSpec, _P(c.c_size_t)],
     "pt_crew_terminate_child": [_P(CHandle), CPid, c.c_uint64],
     "pt_crew_restart_child": [_P(CHandle), CPid, c.c_uint64],
+    "pt_crew_child_started": [_P(CHandle), CPid, c.c_uint64, CPid],
     "pt_crew_delete_child": [_P(CHandle), CPid, c.c_uint64, _P(c.c_size_t)],
     "pt_crew_count_children": [_P(CHandle), CPid, _P(CChildCounts)],
     "pt_crew_gave_up": [_P(CHandle), CPid, _P(CGaveUp)],

@@ -91,6 +91,7 @@ pub const PT_JOB_PROCEED: u32 = 1;
 pub const PT_JOB_ITEM: u32 = 2;
 pub const PT_JOB_TIMEOUT: u32 = 3;
 pub const PT_JOB_EXIT: u32 = 4;
+pub const PT_JOB_START_ELSEWHERE: u32 = 5;
 
 pub const PT_ONE_FOR_ONE: u32 = 0;
 pub const PT_ONE_FOR_ALL: u32 = 1;
@@ -275,6 +276,7 @@ pub struct RawChildSpec {
     pub restart: u32,
     pub shutdown: u32,
     pub time: u64,
+    pub elsewhere: bool,
 }
 
 #[repr(C)]
@@ -439,6 +441,7 @@ pub struct RawCodes {
     pub job_item: u32,
     pub job_timeout: u32,
     pub job_exit: u32,
+    pub job_start_elsewhere: u32,
 }
 
 #[repr(C)]
@@ -572,6 +575,7 @@ pub const CODES: RawCodes = RawCodes {
     job_item: PT_JOB_ITEM,
     job_timeout: PT_JOB_TIMEOUT,
     job_exit: PT_JOB_EXIT,
+    job_start_elsewhere: PT_JOB_START_ELSEWHERE,
 };
 
 /// What the library says, if it is that of these sources.
@@ -646,7 +650,7 @@ const _: () = assert!(size_of::<RawNext>() == 64);
 const _: () = assert!(size_of::<RawJob>() == 192);
 const _: () = assert!(size_of::<RawAnswer>() == 80);
 const _: () = assert!(size_of::<RawSupervisorSpec>() == 40);
-const _: () = assert!(size_of::<RawChildSpec>() == 24);
+const _: () = assert!(size_of::<RawChildSpec>() == 32);
 const _: () = assert!(size_of::<RawChild>() == 32);
 const _: () = assert!(size_of::<RawChildCounts>() == 24);
 const _: () = assert!(size_of::<RawGaveUp>() == 48);
@@ -658,7 +662,7 @@ const _: () = assert!(size_of::<RawCall>() == 56);
 const _: () = assert!(size_of::<RawRequest>() == 24);
 const _: () = assert!(size_of::<RawHeard>() == 16);
 const _: () = assert!(size_of::<RawPost>() == 48);
-const _: () = assert!(size_of::<RawCodes>() == 268);
+const _: () = assert!(size_of::<RawCodes>() == 272);
 const _: () = assert!(size_of::<RawSizes>() == 176);
 const _: () = assert!(size_of::<RawAskingAbout>() == 120);
 const _: () = assert!(size_of::<RawSupervisorCodes>() == 96);
@@ -774,6 +778,7 @@ unsafe extern "C" {
     pub fn pt_crew_start_child(crew: &mut Handle, p: Pid, child: RawChildSpec, place: &mut usize) -> u32;
     pub fn pt_crew_terminate_child(crew: &mut Handle, p: Pid, tag: u64) -> u32;
     pub fn pt_crew_restart_child(crew: &mut Handle, p: Pid, tag: u64) -> u32;
+    pub fn pt_crew_child_started(crew: &mut Handle, p: Pid, tag: u64, child: Pid) -> u32;
     pub fn pt_crew_delete_child(crew: &mut Handle, p: Pid, tag: u64, place: &mut usize) -> u32;
     pub fn pt_crew_count_children(crew: &mut Handle, p: Pid, out: &mut RawChildCounts) -> u32;
     pub fn pt_crew_gave_up(crew: &mut Handle, p: Pid, out: &mut RawGaveUp) -> u32;

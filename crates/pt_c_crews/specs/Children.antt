@@ -7,7 +7,7 @@ use Rattle.pt_supervisor.specs.declared.seen.ChildCounts.{ChildCounts}
 use Rattle.pt_supervisor.specs.declared.supervisor.Supervisor.{Supervisor}
 use Rattle.pt_scheduler.specs.declared.plan.Plan.{Plan}
 use Rattle.pt_scheduler.specs.declared.scheduler.Scheduler.{Scheduler}
-use Rattle.pt_scheduler.specs.Asking.{AsksBoss, BossDeletes, BossRestarts, BossStarts, BossTerminates, cause_seen, counts_seen}
+use Rattle.pt_scheduler.specs.Asking.{AsksBoss, BossAnswersStarted, BossDeletes, BossRestarts, BossStarts, BossTerminates, cause_seen, counts_seen}
 use Rattle.pt_scheduler.specs.Scheduling.{member_views}
 use Rattle.pt_c_values.specs.Codes.{IfCrosses}
 use Rattle.pt_c_values.specs.Crossing.{reason_out}
@@ -58,6 +58,10 @@ CrewTerminatesChild p tag code old new = CrewAsks p (λ r was is. BossTerminates
 
 abbrev pub CrewRestartsChild : Pid → ℕ → ℕ → Scheduler → Scheduler → Type 0
 CrewRestartsChild p tag code old new = CrewAsks p (λ r was is. BossRestarts tag was r is) (λ r. ⊤) code old new
+
+abbrev pub CrewIsToldStarted : Pid → ℕ → Pid → ℕ → Scheduler → Scheduler → Type 0
+CrewIsToldStarted p tag child code old new =
+    CrewAsks p (λ r was is. BossAnswersStarted tag child was r is) (λ r. ⊤) code old new
 
 abbrev pub CrewDeletesChild : Pid → ℕ → ℕ → ℕ → ℕ → Scheduler → Scheduler → Type 0
 CrewDeletesChild p tag code before after old new =

@@ -1,5 +1,5 @@
 -- What a supervisor is made of, and what is told of a crew, as C has it. A field that the code gives no meaning to is zero.
-use Rattle.std.specs.Prelude.{ℕ, ◌==◌, false, true, cond, List, map, Option, Some, None, is_some}
+use Rattle.std.specs.Prelude.{ℕ, ◌==◌, Bool, false, true, cond, List, map, Option, Some, None, is_some}
 use Rattle.std.specs.List.{list_all}
 use Rattle.std.specs.Option.{option_map}
 use Rattle.pt_signal.specs.declared.pid.Pid.{Pid}
@@ -11,7 +11,7 @@ use Rattle.pt_supervisor.specs.declared.restart.Restart.TheVariants.{Permanent, 
 use Rattle.pt_supervisor.specs.declared.restart.Strategy.{Strategy}
 use Rattle.pt_supervisor.specs.declared.restart.Strategy.TheVariants.{OneForOne, OneForAll, RestForOne}
 use Rattle.pt_scheduler.specs.declared.member.What.{What}
-use Rattle.pt_scheduler.specs.declared.member.What.TheVariants.{Start, Proceed, Item, Timeout, Exit}
+use Rattle.pt_scheduler.specs.declared.member.What.TheVariants.{StartElsewhere, Start, Proceed, Item, Timeout, Exit}
 use Rattle.pt_scheduler.specs.declared.member.Job.{Job}
 use Rattle.pt_scheduler.specs.declared.plan.ChildSpec.{ChildSpec}
 use Rattle.pt_scheduler.specs.declared.plan.Origin.{Origin}
@@ -37,17 +37,18 @@ abbrev pub shutdown_in : ℕ → ℕ → Option Shutdown
 shutdown_in code time =
     cond (code == 0) (Some Infinity) (cond (code == 1) (Some (After time)) (cond (code == 2) (Some BrutalKill) None))
 
-abbrev pub child_with : ℕ → Option Restart → Option Shutdown → Option ChildSpec
-child_with tag (Some restart) (Some shutdown) = Some (record { tag = tag; restart = restart; shutdown = shutdown })
-child_with tag _ _ = None
+abbrev pub child_with : ℕ → Bool → Option Restart → Option Shutdown → Option ChildSpec
+child_with tag elsewhere (Some restart) (Some shutdown) =
+    Some (record { tag = tag; restart = restart; shutdown = shutdown; elsewhere = elsewhere })
+child_with tag elsewhere _ _ = None
 
 abbrev pub child_in : PtChildSpec → Option ChildSpec
-child_in c = child_with c.tag (restart_in c.restart) (shutdown_in c.shutdown c.time)
+child_in c = child_with c.tag c.elsewhere (restart_in c.restart) (shutdown_in c.shutdown c.time)
 
 -- a child, and some other where a code is none of its enumeration
 abbrev pub child_or : Option ChildSpec → ChildSpec
 child_or (Some c) = c
-child_or None = record { tag = 0; restart = Temporary; shutdown = Infinity }
+child_or None = record { tag = 0; restart = Temporary; shutdown = Infinity; elsewhere = false }
 
 -- each child, if each has codes of its enumerations
 abbrev pub children_in : List PtChildSpec → Option (List ChildSpec)
@@ -111,15 +112,19 @@ job_of j code = record {
 }
 
 -- one that begins, which this supervisor started, if one did
+abbrev pub started_by : Job → Origin → ℕ → PtJob
+started_by j o code = record (job_of j code) { has_supervisor = true; again = o.again; supervisor = pid_out o.supervisor }
+
 abbrev pub start_out : Job → Option Origin → PtJob
 start_out j None = job_of j 0
-start_out j (Some o) = record (job_of j 0) { has_supervisor = true; again = o.again; supervisor = pid_out o.supervisor }
+start_out j (Some o) = started_by j o 0
 
 abbrev pub job_told : Job → What → PtJob
 job_told j (Start origin) = start_out j origin
 job_told j Proceed = job_of j 1
 job_told j (Item i) = record (job_of j 2) { item = item_out i }
 job_told j Timeout = job_of j 3
+job_told j (StartElsewhere origin) = started_by j origin 5
 job_told j (Exit r was) = record (job_of j 4) { reason = reason_out r; was = next_out was }
 
 abbrev pub job_out : Job → PtJob

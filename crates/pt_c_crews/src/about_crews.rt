@@ -10,10 +10,16 @@ use pt_c_tools::about::{BLANK, NOBODY, PtCodes, codes_below};
 use pt_c_tools::about_supervisors::PtSupervisorCodes;
 use pt_c_values::codes::{CHILD_PRESENT, CHILD_RESTARTING, CHILD_RUNNING};
 use pt_c_values::types::{PtChild, PtChildCounts, PtChildSpec, PtGaveUp, PtSupervisorSpec};
-use pt_scheduler::{Job, What};
+use pt_scheduler::{Job, Origin, What};
 use pt_supervisor::{Restart, Shutdown, Strategy};
 use pt_workers::{Item, Reason};
 use std::mem::size_of;
+
+/// Some supervisor's child.
+const ORIGIN: Origin = Origin {
+    supervisor: NOBODY,
+    again: false,
+};
 
 /// Writes each code, from the same functions as the calls.
 pub fn codes(out: &mut PtCodes)
@@ -33,6 +39,7 @@ fn with_jobs(codes: PtCodes) -> PtCodes
         job_item: job_out(job_for(What::Item(item))).code,
         job_timeout: job_out(job_for(What::Timeout)).code,
         job_exit: job_out(job_for(What::Exit(Reason::Normal, Next::Running))).code,
+        job_start_elsewhere: job_out(job_for(What::StartElsewhere(ORIGIN))).code,
         ..codes
     }
 }

@@ -7,7 +7,7 @@ ghost use Rattle.std.specs.Prelude.{◌≡◌};
 ghost use Rattle.pt_c_values.specs.Places.{CallsThrough, ReadsThrough};
 ghost use Rattle.pt_c_values.specs.Crossing.{pid_crossed};
 ghost use Rattle.pt_c_crews.specs.Crewing.{TellsChild, TellsChildCount};
-ghost use Rattle.pt_c_crews.specs.Children.{CrewDeletesChild, CrewRestartsChild, CrewStartsChild, CrewTerminatesChild};
+ghost use Rattle.pt_c_crews.specs.Children.{CrewDeletesChild, CrewIsToldStarted, CrewRestartsChild, CrewStartsChild, CrewTerminatesChild};
 ghost use Rattle.pt_c_crews.specs.Children.{TellsCause, TellsCounts, child_code, cause_out, counts_out, child_fault_code, place_after};
 
 use crate::crew_handle::{CrewHandle, claim, hold};
@@ -167,6 +167,23 @@ pub fn terminate_child(alloc: Global, c: &mut CrewHandle, p: PtPid, tag: u64) ->
     };
     let code = match &mut held.crew {
         Some(crew) => child_code(crew.terminate_child(pid_in(p), tag)),
+        None => EMPTY,
+    };
+    *c = hold(held);
+    code
+}
+
+/// Tells a supervisor that the child with this tag was started on another desk, as this process; 8 if p is no supervisor of
+/// the crew, or does not wait for this child.
+pub fn child_started(alloc: Global, c: &mut CrewHandle, p: PtPid, tag: u64, child: PtPid) -> u32
+    ensures { CallsThrough c.old.state c.new.state result (Unit {0})
+        (λ old new. CrewIsToldStarted (pid_crossed p) tag (pid_crossed child) result old new) }
+{
+    let Some(mut held) = claim(alloc, c) else {
+        return EMPTY;
+    };
+    let code = match &mut held.crew {
+        Some(crew) => child_code(crew.child_started(pid_in(p), tag, pid_in(child))),
         None => EMPTY,
     };
     *c = hold(held);

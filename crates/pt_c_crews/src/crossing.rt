@@ -2,7 +2,7 @@
 
 ghost use Rattle.std.specs.Prelude.{◌≡◌, IfOk, is_some, map};
 ghost use Rattle.std.specs.List.{list_all};
-ghost use Rattle.pt_c_crews.specs.Crossing.{child_in, child_or, child_out, job_of, job_out, start_out};
+ghost use Rattle.pt_c_crews.specs.Crossing.{child_in, child_or, child_out, job_of, job_out, start_out, started_by};
 ghost use Rattle.pt_c_crews.specs.Crossing.{restart_code, restart_in, shutdown_code, shutdown_in, shutdown_time};
 ghost use Rattle.pt_c_crews.specs.Crossing.{spec_in, strategy_code, strategy_in};
 
@@ -70,6 +70,7 @@ pub fn child_in(child: PtChildSpec) -> Option<ChildSpec>
             tag: child.tag,
             restart,
             shutdown,
+            elsewhere: child.elsewhere,
         }),
         (_, _) => None,
     }
@@ -85,6 +86,7 @@ fn child_or(child: PtChildSpec) -> ChildSpec
             tag: 0,
             restart: Restart::Temporary,
             shutdown: Shutdown::Infinity,
+            elsewhere: false,
         },
     }
 }
@@ -184,6 +186,7 @@ pub fn job_out(job: Job) -> PtJob
             ..job_of(job, 2)
         },
         What::Timeout => job_of(job, 3),
+        What::StartElsewhere(origin) => started_by(job, origin, 5),
         What::Exit(reason, was) => PtJob {
             reason: reason_out(reason),
             was: next_out(was),
@@ -197,13 +200,20 @@ fn start_out(job: Job, origin: Option<Origin>) -> PtJob
     ensures { result ≡ start_out job origin }
 {
     match origin {
-        Some(origin) => PtJob {
-            has_supervisor: true,
-            again: origin.again,
-            supervisor: pid_out(origin.supervisor),
-            ..job_of(job, 0)
-        },
+        Some(origin) => started_by(job, origin, 0),
         None => job_of(job, 0),
+    }
+}
+
+/// A job of this supervisor's child, with its code.
+fn started_by(job: Job, origin: Origin, code: u32) -> PtJob
+    ensures { result ≡ started_by job origin code }
+{
+    PtJob {
+        has_supervisor: true,
+        again: origin.again,
+        supervisor: pid_out(origin.supervisor),
+        ..job_of(job, code)
     }
 }
 

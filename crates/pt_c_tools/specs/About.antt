@@ -76,6 +76,7 @@ all_codes = record {
   job_item = 2;
   job_timeout = 3;
   job_exit = 4;
+  job_start_elsewhere = 5;
 }
 
 -- codes, of which these are the answers of calls
@@ -173,6 +174,7 @@ with_jobs c = record c {
   job_item = 2;
   job_timeout = 3;
   job_exit = 4;
+  job_start_elsewhere = 5;
 }
 
 -- a name, which no code depends on
@@ -202,7 +204,7 @@ all_sizes = record {
   fired = 24;
   name = 32;
   holder = 32;
-  codes = 268;
+  codes = 272;
 }
 
 abbrev pub sample_fired : PtFired

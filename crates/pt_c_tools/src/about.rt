@@ -96,6 +96,7 @@ pub struct PtCodes {
     pub job_item: u32,
     pub job_timeout: u32,
     pub job_exit: u32,
+    pub job_start_elsewhere: u32,
 }
 
 /// The size of each struct that crosses, in bytes.

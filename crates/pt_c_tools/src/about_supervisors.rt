@@ -46,7 +46,8 @@ pub fn supervisor_spec(out: &mut PtSupervisorSpec)
     };
 }
 
-/// Writes a sample of what a supervisor knows of a child: its fields have the numbers 1, 2, 3 and so on in order.
+/// Writes a sample of what a supervisor knows of a child: its fields have the numbers 1, 2, 3 and so on in order, a bool
+/// being true.
 pub fn child_spec(out: &mut PtChildSpec)
     ensures { out.new ≡ sample_child_spec }
 {
@@ -55,6 +56,7 @@ pub fn child_spec(out: &mut PtChildSpec)
         restart: 2,
         shutdown: 3,
         time: 4,
+        elsewhere: true,
     };
 }
 

@@ -1,6 +1,7 @@
 -- What a program asks of a supervisor of a scheduler about its children, by their ids, which are their tags.
-use Rattle.std.specs.Prelude.{◌≡◌, ◌⊎◌, ℕ, List, [], ◌∷◌, ◌++◌, Option, Some, None, Result, Ok, Err, remove}
+use Rattle.std.specs.Prelude.{◌≡◌, ◌⊎◌, ℕ, List, [], ◌∷◌, ◌++◌, Option, Some, None, Result, Ok, Err, remove, false}
 use Rattle.std.specs.Option.{option_map}
+use Rattle.pt_shard.specs.declared.fault.Fault.{Fault}
 use Rattle.pt_signal.specs.declared.pid.Pid.{Pid}
 use Rattle.pt_behaviour.specs.declared.behaviour.Next.{Next}
 use Rattle.pt_crew.specs.Visiting.{AreWith}
@@ -10,6 +11,8 @@ use Rattle.pt_supervisor.specs.declared.child_fault.ChildFault.{ChildFault}
 use Rattle.pt_supervisor.specs.declared.gave_up.GaveUp.{GaveUp}
 use Rattle.pt_supervisor.specs.declared.seen.ChildCounts.{ChildCounts}
 use Rattle.pt_supervisor.specs.declared.supervisor.Supervisor.{Supervisor}
+use Rattle.pt_supervisor.specs.Answering.{AnswersNotStarted, AnswersStarted}
+use Rattle.pt_supervisor.specs.Homes.{place_unanswered}
 use Rattle.pt_supervisor.specs.Calling.{AddsChild, DeletesChild, RestartsChild, TerminatesChild}
 use Rattle.pt_supervisor.specs.Changed.{next_due}
 use Rattle.pt_supervisor.specs.Hearing.{Standing, program_of, standing}
@@ -19,7 +22,7 @@ use Rattle.pt_scheduler.specs.declared.plan.ChildSpec.{ChildSpec}
 use Rattle.pt_scheduler.specs.declared.plan.Plan.{Plan}
 use Rattle.pt_scheduler.specs.declared.plan.Post.{Post}
 use Rattle.pt_scheduler.specs.declared.scheduler.Scheduler.{Scheduler}
-use Rattle.pt_scheduler.specs.Planning.{child_as, post_as, posts_of}
+use Rattle.pt_scheduler.specs.Planning.{child_as, post_as, posts_of, with_told}
 use Rattle.pt_scheduler.specs.Scheduling.{IsNoBoss, MemberView}
 
 -- what a supervisor makes of it --------------------------------------------------------------
@@ -60,6 +63,22 @@ abbrev pub BossDeletes : ℕ → Supervisor Plan → Result ℕ ChildFault → S
 BossDeletes id old result new =
     DeletesChild id (standing old) result (standing new)
     × (its_posts new ≡ posts_deleted result (its_posts old))
+
+-- An answer about a child of another desk that was taken in: the program is told anew if the child is awaited again.
+abbrev pub posts_answered : Option ℕ → Result (Unit {0}) ChildFault → List Post → List Post
+posts_answered None result posts = posts
+posts_answered (Some place) (Ok u) posts = with_told false place posts
+posts_answered (Some place) (Err f) posts = posts
+
+abbrev pub BossAnswersStarted : ℕ → Pid → Supervisor Plan → Result (Unit {0}) ChildFault → Supervisor Plan → Type 0
+BossAnswersStarted id p old result new =
+    AnswersStarted id p (standing old) result (standing new)
+    × (its_posts new ≡ posts_answered (place_unanswered (standing old).children) result (its_posts old))
+
+abbrev pub BossAnswersNotStarted : ℕ → ℕ → Fault → Supervisor Plan → Result (Unit {0}) ChildFault → Supervisor Plan → Type 0
+BossAnswersNotStarted id clock f old result new =
+    AnswersNotStarted id clock f (standing old) result (standing new)
+    × (its_posts new ≡ posts_answered (place_unanswered (standing old).children) result (its_posts old))
 
 -- what a scheduler makes of it ---------------------------------------------------------------
 

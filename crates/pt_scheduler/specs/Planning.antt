@@ -1,16 +1,20 @@
 -- What a supervisor starts: the tag of each place, and whether a child that was there has exited.
-use Rattle.std.specs.Prelude.{◌≡◌, ℕ, true, false, List, [], map, Option, Some, None, Result, Ok, Err, length, position, slice_get, slice_set}
+use Rattle.std.specs.Prelude.{◌≡◌, ℕ, Bool, true, false, cond, List, [], map, Option, Some, None, Result, Ok, Err, length, position, slice_get, slice_set}
 use Rattle.pt_signal.specs.declared.pid.Pid.{Pid}
 use Rattle.pt_shard.specs.declared.fault.Fault.{Fault}
 use Rattle.pt_behaviour.specs.declared.behaviour.Next.{Next}
 use Rattle.pt_behaviour.specs.declared.behaviour.Next.TheVariants.{Proceed}
 use Rattle.pt_supervisor.specs.declared.children.Child.{Child}
-use Rattle.pt_supervisor.specs.declared.home.Home.TheVariants.{Here}
+use Rattle.pt_supervisor.specs.declared.home.Home.TheVariants.{Here, Elsewhere}
 use Rattle.pt_supervisor.specs.declared.trial.Trial.TheVariants.{First}
 use Rattle.pt_signal.specs.Values.{is_pid}
-use Rattle.pt_supervisor.specs.Hearing.{Standing}
+use Rattle.pt_supervisor.specs.declared.supervisor.Supervisor.{Supervisor}
+use Rattle.pt_supervisor.specs.Hearing.{Standing, program_of, standing}
+use Rattle.pt_supervisor.specs.Homes.{place_unanswered}
 use Rattle.pt_supervisor.specs.Supervising.{StartsOf}
+use Rattle.pt_scheduler.specs.declared.member.Job.{Job}
 use Rattle.pt_scheduler.specs.declared.member.Member.{Member}
+use Rattle.pt_scheduler.specs.declared.member.What.TheVariants.{StartElsewhere}
 use Rattle.pt_scheduler.specs.declared.plan.ChildSpec.{ChildSpec}
 use Rattle.pt_scheduler.specs.declared.plan.Plan.{Plan}
 use Rattle.pt_scheduler.specs.declared.plan.Post.{Post}
@@ -27,6 +31,36 @@ again_in place (Some post) posts = slice_set posts place (record post { again = 
 
 abbrev pub with_again : ℕ → List Post → List Post
 with_again place posts = again_in place (slice_get posts place) posts
+
+-- the program was asked to start the child at a place on another desk, or has answered
+abbrev pub told_in : Bool → ℕ → Option Post → List Post → List Post
+told_in told place None posts = posts
+told_in told place (Some post) posts = slice_set posts place (record post { told = told })
+
+abbrev pub with_told : Bool → ℕ → List Post → List Post
+with_told told place posts = told_in told place (slice_get posts place) posts
+
+-- the job that asks for it, of a supervisor
+abbrev pub job_of_post : Pid → Post → Option Job
+job_of_post boss post = cond post.told None (Some (record {
+  pid = boss;
+  tag = post.tag;
+  what = StartElsewhere (record { supervisor = boss; again = post.again });
+}))
+
+abbrev pub job_in : Pid → Option Post → Option Job
+job_in boss None = None
+job_in boss (Some post) = job_of_post boss post
+
+-- the job of a supervisor that waits for a child of another desk, unless the program was told
+abbrev pub job_at : Pid → Option ℕ → List Post → Option Job
+job_at boss None posts = None
+job_at boss (Some place) posts = job_in boss (slice_get posts place)
+
+-- the program is told once
+abbrev pub posts_asked : Option ℕ → Option Job → List Post → List Post
+posts_asked (Some place) (Some job) posts = with_told true place posts
+posts_asked _ _ posts = posts
 
 -- the child in a place, if it is in one, has exited
 abbrev pub again_at : Option ℕ → List Post → List Post
@@ -67,11 +101,11 @@ child_as spec = record {
   wanted = true;
   id = spec.tag;
   trial = First;
-  home = Here;
+  home = cond spec.elsewhere Elsewhere Here;
 }
 
 abbrev pub post_as : ChildSpec → Post
-post_as spec = record { tag = spec.tag; again = false }
+post_as spec = record { tag = spec.tag; again = false; told = false }
 
 abbrev pub begun_as : SupervisorSpec → List ChildSpec → Standing
 begun_as spec children = record {
@@ -88,3 +122,11 @@ begun_as spec children = record {
   started = 0;
   gave_up = None;
 }
+
+-- what a supervisor asks the program to start on another desk, and what it notes of that
+abbrev pub AsksElsewhere : Pid → Supervisor Plan → Option Job → Supervisor Plan → Type 0
+AsksElsewhere me old job new =
+    (job ≡ job_at me (place_unanswered (standing old).children) (posts_of (program_of old)))
+    × (standing new ≡ standing old)
+    × (posts_of (program_of new)
+    ≡ posts_asked (place_unanswered (standing old).children) job (posts_of (program_of old)))

@@ -41,7 +41,7 @@ use Rattle.pt_scheduler.specs.declared.plan.Plan.{Plan}
 use Rattle.pt_scheduler.specs.declared.plan.SupervisorSpec.{SupervisorSpec}
 use Rattle.pt_scheduler.specs.declared.scheduler.Scheduler.{Scheduler}
 use Rattle.pt_scheduler.specs.Exits.{HasExitsOf, exit_in, exit_reason, reason_kept}
-use Rattle.pt_scheduler.specs.Planning.{begun_as, post_as, posts_of}
+use Rattle.pt_scheduler.specs.Planning.{AsksElsewhere, begun_as, post_as, posts_of}
 use Rattle.pt_scheduler.specs.Members.{BossHandles, boss_part, what_of}
 
 -- the crew of a scheduler
@@ -219,12 +219,35 @@ pub record StaysPut (p : Pid) (rest : List Pid) (old : Scheduler) (d : ShardStat
 abbrev pub KeepsWaiting : Scheduler → Scheduler → Type 0
 KeepsWaiting old new = (waiting new.crew ≡ waiting old.crew) × (was_refused new.crew ≡ was_refused old.crew)
 
+-- p is no supervisor of these
+abbrev pub IsNoBoss : Scheduler → Pid → Type 0
+IsNoBoss t p = (b : Member) (n : Next) → roles t.crew p ≡ Some (b, n) → b.boss ≡ None
+
+-- p is a supervisor, and asks the program so; all others stay
+pub record AsksOut (p : Pid) (job : Option Job) (old new : Scheduler) : Type 0 where
+  pub behaviour : Member
+  pub before : Next
+  pub was : roles old.crew p ≡ Some (behaviour, before)
+  pub boss : Supervisor Plan
+  pub inside : behaviour.boss ≡ Some boss
+  pub later : Supervisor Plan
+  pub does : AsksElsewhere p boss job later
+  pub now : AreWith p (Some (record behaviour { boss = Some later }, before)) (roles old.crew) (roles new.crew)
+  pub queue : queue new.crew ≡ queue old.crew
+  pub rest : KeepsRest old.crew new.crew
+
+-- where p is no supervisor nothing has changed
+abbrev pub AsksOfBoss : Pid → Scheduler → Option Job → Scheduler → Type 0
+AsksOfBoss p old job new = (IsNoBoss old p × (job ≡ None) × (new ≡ old)) ⊎ AsksOut p job old new
+
 -- the first of the queue is come to, if there is one
 abbrev pub PullsFirst : List Pid → Scheduler → ShardState → Option Job → Scheduler → ShardState → Type 0
 PullsFirst [] old d job new e = (job ≡ None) × (new ≡ old) × (e ≡ d)
 PullsFirst (p ∷ rest) old d (Some job) new e =
-    (HandsOut p old d job new e ⊎ TellsExit p old d job new e) × (queue new.crew ≡ rest) × KeepsWaiting old new
-PullsFirst (p ∷ rest) old d None new e = RunsBoss p rest old d new e ⊎ StaysPut p rest old d new e
+    ((HandsOut p old d job new e ⊎ TellsExit p old d job new e) × (queue new.crew ≡ rest) × KeepsWaiting old new)
+    ⊎ ((mid : Scheduler) × (RunsBoss p rest old d mid e ⊎ StaysPut p rest old d mid e) × AsksOfBoss p mid (Some job) new)
+PullsFirst (p ∷ rest) old d None new e =
+    (mid : Scheduler) × (RunsBoss p rest old d mid e ⊎ StaysPut p rest old d mid e) × AsksOfBoss p mid None new
 
 abbrev pub Pulls : Scheduler → ShardState → Option Job → Scheduler → ShardState → Type 0
 Pulls old d job new e = PullsFirst (queue old.crew) old d job new e
@@ -276,10 +299,6 @@ SpawnsBoss tag spec children old d (Ok p) new e =
     × Enters (new_member tag (Some boss)) Proceed old d (Ok p) new e
 SpawnsBoss tag spec children old d (Err f) new e =
     (Bears None None d (Err f) e ⊎ ((f ≡ Memory) × (e ≡ d))) × IsSame old new
-
--- p is no supervisor of these
-abbrev pub IsNoBoss : Scheduler → Pid → Type 0
-IsNoBoss t p = (b : Member) (n : Next) → roles t.crew p ≡ Some (b, n) → b.boss ≡ None
 
 -- whatever was done on the desk, nothing was done for a supervisor of these: it is as it was, and bore nobody
 abbrev pub AreLeftAlone : Scheduler → ShardState → ShardState → Type 0

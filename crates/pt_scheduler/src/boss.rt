@@ -11,15 +11,16 @@ ghost use Rattle.pt_supervisor.specs.Changed.{RemembersWhere, next_due};
 ghost use Rattle.pt_supervisor.specs.Keeping.{BearsFrom, HoldsWhere, Tends};
 ghost use Rattle.pt_supervisor.specs.Seen.{children_counted};
 ghost use Rattle.pt_supervisor.specs.Supervising.{Supervises};
+ghost use Rattle.pt_scheduler.specs.Asking.{BossAnswersNotStarted, BossAnswersStarted};
 ghost use Rattle.pt_scheduler.specs.Asking.{BossDeletes, BossRestarts, BossStarts, BossTerminates};
 ghost use Rattle.pt_scheduler.specs.Members.{BossHandles};
-ghost use Rattle.pt_scheduler.specs.Planning.{again_at, posts_heard, posts_of, starts_post};
+ghost use Rattle.pt_scheduler.specs.Planning.{AsksElsewhere, again_at, posts_heard, posts_of, starts_post};
 
-use crate::member::Member;
-use crate::plan::{ChildSpec, Plan, delete_child, mark, start_child};
+use crate::member::{Job, Member};
+use crate::plan::{ChildSpec, Plan, ask_elsewhere, child_not_started, child_started, delete_child, mark, start_child};
 use pt_behaviour::{Births, Next};
 use pt_supervisor::{Child, ChildCounts, ChildFault, GaveUp, Supervisor};
-use pt_workers::{Desk, Item, Pid};
+use pt_workers::{Desk, Fault, Item, Pid};
 use std::alloc::{AllocError, Global};
 use std::boxed::Box;
 use std::marker::Model;
@@ -105,6 +106,31 @@ impl Boss {
         ensures remembers { RemembersWhere (standing self.old) (standing self.new) }
     {
         self.supervisor.restart_child(id)
+    }
+
+    /// The job by which the program is asked to start a child on another desk, if it was not asked yet.
+    pub(crate) fn ask_elsewhere(&mut self, me: Pid) -> Option<Job>
+        ensures { AsksElsewhere me self.old result self.new }
+    {
+        ask_elsewhere(&mut self.supervisor, me)
+    }
+
+    /// Notes that the program has started a child on another desk.
+    pub(crate) fn child_started(&mut self, id: u64, pid: Pid) -> Result<(), ChildFault>
+        ensures answers { BossAnswersStarted id pid self.old result self.new }
+        ensures holds { HoldsWhere (standing self.old) (standing self.new) }
+        ensures remembers { RemembersWhere (standing self.old) (standing self.new) }
+    {
+        child_started(&mut self.supervisor, id, pid)
+    }
+
+    /// Notes that the program has not started a child on another desk.
+    pub(crate) fn child_not_started(&mut self, id: u64, clock: u64, fault: Fault) -> Result<(), ChildFault>
+        ensures answers { BossAnswersNotStarted id clock fault self.old result self.new }
+        ensures holds { HoldsWhere (standing self.old) (standing self.new) }
+        ensures remembers { RemembersWhere (standing self.old) (standing self.new) }
+    {
+        child_not_started(&mut self.supervisor, id, clock, fault)
     }
 
     /// Forgets a child, and its place in the plan.

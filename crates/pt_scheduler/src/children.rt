@@ -5,17 +5,18 @@ ghost use Rattle.std.specs.Option.{option_copied};
 ghost use Rattle.pt_events.specs.History.{Past};
 ghost use Rattle.pt_shard.specs.ShardState.{ShardState};
 ghost use Rattle.pt_scheduler.specs.Owning.{desk_of};
-ghost use Rattle.pt_scheduler.specs.Scheduling.{SchedulerAttends, SchedulerUpholds, member_views};
+ghost use Rattle.pt_scheduler.specs.Scheduling.{AsksOfBoss, SchedulerAttends, SchedulerUpholds, member_views};
+ghost use Rattle.pt_scheduler.specs.Asking.{BossAnswersNotStarted, BossAnswersStarted};
 ghost use Rattle.pt_scheduler.specs.Asking.{AsksBoss, BossDeletes, BossRestarts, BossStarts, BossTerminates};
 ghost use Rattle.pt_scheduler.specs.Asking.{cause_seen, counts_seen};
 ghost use Rattle.pt_scheduler.specs.Out.{PutsBoss, TakesBoss};
 
 use crate::boss::Boss;
-use crate::member::Member;
+use crate::member::{Job, Member};
 use crate::plan::ChildSpec;
 use crate::scheduler::Scheduler;
 use pt_supervisor::{ChildCounts, ChildFault, GaveUp};
-use pt_workers::Pid;
+use pt_workers::{Desk, Fault, Pid};
 
 impl Scheduler {
     /// How many children a supervisor has, how many of them are alive, and how many are to be started. It is `None` if the
@@ -107,6 +108,62 @@ impl Scheduler {
         let result = boss.delete_child(id);
         self.put_boss(p, boss, member, result.is_ok());
         Some(result)
+    }
+
+    /// Tells a supervisor that the program has started the child with this id on another desk, as this process: the answer
+    /// to [`What::StartElsewhere`](crate::What::StartElsewhere).
+    ///
+    /// The supervisor is in the queue then, and links with the process when it runs
+    /// ([`Supervisor::child_started`](pt_supervisor::Supervisor::child_started)). It returns `None` if p is no supervisor of
+    /// these. If the supervisor does not wait for this child, the answer is `NotAwaited`, and it is as it was.
+    pub fn child_started(&mut self, p: Pid, id: u64, pid: Pid) -> Option<Result<(), ChildFault>>
+        ensures asks { AsksBoss p (λ r old new. BossAnswersStarted id pid old r new) result self.old self.new }
+        ensures attends { (d : ShardState) → SchedulerAttends self.old d → SchedulerAttends self.new d }
+        ensures upholds { (past : Past) (d : ShardState) → SchedulerUpholds past self.old d
+            → SchedulerUpholds past self.new d }
+        ensures desk { desk_of self.new ≡ desk_of self.old }
+    {
+        let (mut boss, member) = self.take_boss(p)?;
+        let result = boss.child_started(id, pid);
+        self.put_boss(p, boss, member, result.is_ok());
+        Some(result)
+    }
+
+    /// Tells a supervisor of this desk that the program has not started the child with this id on another desk, for this
+    /// reason ([`Supervisor::child_not_started`](pt_supervisor::Supervisor::child_not_started)).
+    ///
+    /// The supervisor is in the queue then. It returns `None` if p is no supervisor of these. If the supervisor does not wait
+    /// for this child, the answer is `NotAwaited`, and it is as it was.
+    pub fn child_not_started(
+        &mut self,
+        desk: &Desk,
+        p: Pid,
+        id: u64,
+        fault: Fault,
+    ) -> Option<Result<(), ChildFault>>
+        ensures asks { AsksBoss p (λ r old new. BossAnswersNotStarted id desk.now.shard.clock fault old r new) result self.old
+            self.new }
+        ensures attends { (d : ShardState) → SchedulerAttends self.old d → SchedulerAttends self.new d }
+        ensures upholds { (past : Past) (d : ShardState) → SchedulerUpholds past self.old d
+            → SchedulerUpholds past self.new d }
+        ensures desk { desk_of self.new ≡ desk_of self.old }
+    {
+        let clock = desk.clock();
+        let (mut boss, member) = self.take_boss(p)?;
+        let result = boss.child_not_started(id, clock, fault);
+        self.put_boss(p, boss, member, result.is_ok());
+        Some(result)
+    }
+
+    /// The job by which the program is asked to start a child of this supervisor on another desk, if it was not asked yet.
+    pub(crate) fn ask_elsewhere(&mut self, p: Pid) -> Option<Job>
+        ensures asks { AsksOfBoss p self.old result self.new }
+        ensures desk { desk_of self.new ≡ desk_of self.old }
+    {
+        let (mut boss, member) = self.take_boss(p)?;
+        let job = boss.ask_elsewhere(p);
+        self.put_boss(p, boss, member, false);
+        job
     }
 
     /// Takes a supervisor out of its process, and the process out of its place.

@@ -28,6 +28,10 @@ pub enum What {
     Item(Item),
     /// The time until which it waited has come, and no item matches.
     Timeout,
+    /// The process is a supervisor, which waits until the program has started a child of it on another desk. The tag is that
+    /// of the child. The program answers by [`Scheduler::child_started`](crate::Scheduler::child_started) or
+    /// [`Scheduler::child_not_started`](crate::Scheduler::child_not_started), and not by `answer`.
+    StartElsewhere(Origin),
     /// It has exited with this reason, and this was what it was to do: `Stop` if it was to exit, and `Running` if it had
     /// been told something that nobody answered. It is told nothing after this.
     ///

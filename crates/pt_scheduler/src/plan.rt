@@ -5,11 +5,13 @@ ghost use Rattle.pt_behaviour.specs.declared.behaviour.Next.TheVariants.{Proceed
 ghost use Rattle.pt_supervisor.specs.Hearing.{program_of, standing};
 ghost use Rattle.pt_supervisor.specs.Changed.{RemembersWhere};
 ghost use Rattle.pt_supervisor.specs.Keeping.{HoldsWhere, SupervisorBegins};
-ghost use Rattle.pt_scheduler.specs.Asking.{AddsOrNot, BossDeletes, BossStarts, posts_started};
-ghost use Rattle.pt_scheduler.specs.Planning.{begun_as, child_as, post_as, post_at, posts_of, starts_post, with_again};
+ghost use Rattle.pt_scheduler.specs.Asking.{AddsOrNot, BossAnswersNotStarted, BossAnswersStarted};
+ghost use Rattle.pt_scheduler.specs.Asking.{BossDeletes, BossStarts, posts_started};
+ghost use Rattle.pt_scheduler.specs.Planning.{AsksElsewhere, begun_as, child_as, job_of_post, post_as, post_at, posts_of, starts_post};
+ghost use Rattle.pt_scheduler.specs.Planning.{with_again, with_told};
 
 use crate::boss::Boss;
-use crate::member::Member;
+use crate::member::{Job, Member, What};
 use pt_behaviour::Next;
 use pt_supervisor::{Child, ChildFault, Limit, Restart, Shutdown, Start, Strategy, Supervisor};
 use pt_workers::{Fault, Pid};
@@ -21,6 +23,8 @@ pub struct ChildSpec {
     pub tag: u64,
     pub restart: Restart,
     pub shutdown: Shutdown,
+    /// Whether the program starts it, on another desk.
+    pub elsewhere: bool,
 }
 
 /// A supervisor without its children.
@@ -43,12 +47,13 @@ pub struct Origin {
     pub again: bool,
 }
 
-/// A place of a supervisor: the tag of the child, and whether one that was there has exited. It is public since the
-/// definitions name it.
+/// A place of a supervisor: the tag of the child, whether one that was there has exited, and whether the program was told to
+/// start it on another desk and has not answered. It is public since the definitions name it.
 #[derive(Clone, Copy, Debug, PartialEq, Eq)]
 pub struct Post {
     tag: u64,
     again: bool,
+    told: bool,
 }
 
 /// The places of a supervisor, from which it starts its children. It is public since the definitions name it.
@@ -73,6 +78,34 @@ impl Post {
         ensures { result ≡ self.now.again }
     {
         self.again
+    }
+
+    /// Of a child of which the program has been told nothing.
+    fn of(tag: u64) -> Post
+        ensures { result ≡ record { tag = tag; again = false; told = false } }
+    {
+        Post {
+            tag,
+            again: false,
+            told: false,
+        }
+    }
+
+    /// The job by which the program is asked to start it on another desk, if it was not asked yet.
+    fn asks(&self, supervisor: Pid) -> Option<Job>
+        ensures { result ≡ job_of_post supervisor self.now }
+    {
+        if self.told {
+            return None;
+        }
+        Some(Job {
+            pid: supervisor,
+            tag: self.tag,
+            what: What::StartElsewhere(Origin {
+                supervisor,
+                again: self.again,
+            }),
+        })
     }
 }
 
@@ -107,12 +140,12 @@ impl Plan {
     /// Takes in a place behind the others, of which no child has exited. It fails if there is no memory, and then nothing
     /// has changed.
     fn push(&mut self, tag: u64) -> Result<(), AllocError>
-        ensures pushes { OnOk result (posts_of self.new ≡ posts_of self.old ++ record { tag = tag; again = false } ∷ []) }
+        ensures pushes { OnOk result (posts_of self.new ≡ posts_of self.old ++ record { tag = tag; again = false; told = false } ∷ []) }
         ensures refused { OnErr result (posts_of self.new ≡ posts_of self.old) }
     {
         match &mut self.posts {
             Some(posts) => {
-                posts.push(Post { tag, again: false })?;
+                posts.push(Post::of(tag))?;
                 Ok(())
             }
             None => Err(AllocError),
@@ -127,6 +160,18 @@ impl Plan {
             if place < posts.len() {
                 let _ = posts.remove(place);
             }
+        }
+    }
+
+    /// Notes whether the program was asked to start the child at a place on another desk.
+    fn set_told(&mut self, place: usize, told: bool)
+        ensures { posts_of self.new ≡ with_told told place (posts_of self.old) }
+    {
+        let Some(post) = self.post(place) else {
+            return;
+        };
+        if let Some(posts) = &mut self.posts {
+            posts[place] = Post { told, ..post };
         }
     }
 
@@ -167,13 +212,74 @@ pub(crate) fn mark(boss: &mut Supervisor<Plan>, place: usize)
     let _ = boss.replace_start(plan);
 }
 
+/// Notes of a supervisor whether the program was asked to start the child at a place on another desk.
+fn set_told(boss: &mut Supervisor<Plan>, place: usize, told: bool)
+    ensures standing { standing boss.new ≡ standing boss.old }
+    ensures posts { posts_of (program_of boss.new) ≡ with_told told place (posts_of (program_of boss.old)) }
+{
+    let mut plan = boss.replace_start(Plan::none());
+    plan.set_told(place, told);
+    let _ = boss.replace_start(plan);
+}
+
+/// The job of a supervisor that waits until the program has started a child on another desk. It is told once.
+pub(crate) fn ask_elsewhere(boss: &mut Supervisor<Plan>, me: Pid) -> Option<Job>
+    ensures { AsksElsewhere me boss.old result boss.new }
+{
+    let place = boss.awaited()?;
+    let plan = boss.replace_start(Plan::none());
+    let post = plan.post(place);
+    let _ = boss.replace_start(plan);
+    let job = post?.asks(me)?;
+    set_told(boss, place, true);
+    Some(job)
+}
+
+/// A supervisor is told that the program has started the child with this id on another desk.
+pub(crate) fn child_started(boss: &mut Supervisor<Plan>, id: u64, pid: Pid) -> Result<(), ChildFault>
+    ensures answers { BossAnswersStarted id pid boss.old result boss.new }
+    ensures holds { HoldsWhere (standing boss.old) (standing boss.new) }
+    ensures remembers { RemembersWhere (standing boss.old) (standing boss.new) }
+{
+    let place = boss.awaited();
+    boss.child_started(id, pid)?;
+    if let Some(place) = place {
+        set_told(boss, place, false);
+    }
+    Ok(())
+}
+
+/// A supervisor is told that the program has not started the child with this id on another desk.
+pub(crate) fn child_not_started(
+    boss: &mut Supervisor<Plan>,
+    id: u64,
+    clock: u64,
+    fault: Fault,
+) -> Result<(), ChildFault>
+    ensures answers { BossAnswersNotStarted id clock fault boss.old result boss.new }
+    ensures holds { HoldsWhere (standing boss.old) (standing boss.new) }
+    ensures remembers { RemembersWhere (standing boss.old) (standing boss.new) }
+{
+    let place = boss.awaited();
+    boss.child_not_started(id, clock, fault)?;
+    if let Some(place) = place {
+        set_told(boss, place, false);
+    }
+    Ok(())
+}
+
 /// A child that has not been started.
 fn child_as(spec: ChildSpec) -> Child
     ensures { result ≡ child_as spec }
 {
-    Child::new(spec.restart)
+    let child = Child::new(spec.restart)
         .ended_by(spec.shutdown)
-        .with_id(spec.tag)
+        .with_id(spec.tag);
+    if spec.elsewhere {
+        child.elsewhere()
+    } else {
+        child
+    }
 }
 
 /// A supervisor takes in a child behind the others, and a place of its plan.
@@ -236,10 +342,7 @@ fn posts(alloc: Global, specs: &[ChildSpec]) -> Result<Vec<Post>, AllocError>
 {
     specs
         .iter()
-        .map(|spec| Post {
-            tag: spec.tag,
-            again: false,
-        })
+        .map(|spec| Post::of(spec.tag))
         .collect(alloc)
 }
 

@@ -366,7 +366,8 @@ impl Scheduler {
     /// Runs the process in front of the queue, and returns what it is told. A process that has exited is told of once.
     ///
     /// It returns `None` if the queue is empty, or the process gets nothing: it is a supervisor, which handles what it
-    /// gets itself, no item matches, or there was no memory or no stamp. In the latter case it is in the queue still, and
+    /// gets itself and waits for no child of another desk of which the program was not told, no item matches, or there was no
+    /// memory or no stamp. In the latter case it is in the queue still, and
     /// `refused` is true.
     pub fn pull(&mut self, desk: &mut Desk) -> Option<Job>
         ensures does { SchedulerAttends self.old desk.old.shard
@@ -387,7 +388,7 @@ impl Scheduler {
         }
         match self.crew.take_left() {
             Some(left) => Some(job_of_exit(left, alive)),
-            None => None,
+            None => self.ask_elsewhere(p),
         }
     }
 

@@ -38,6 +38,10 @@ place_coming children = position is_coming children
 abbrev pub is_waiting : List Child → Bool
 is_waiting children = is_some (place_coming children)
 
+-- the place of the first child of which the program is to say whether it was started
+abbrev pub place_unanswered : List Child → Option ℕ
+place_unanswered children = position is_awaited children
+
 -- the place of the first child with this id of which the program is to say whether it was started
 abbrev pub place_awaited : ℕ → List Child → Option ℕ
 place_awaited id children = position (λ c. is_awaited c && (c.id == id)) children

@@ -9,13 +9,13 @@ ghost use Rattle.pt_supervisor.specs.Changed.{RemembersWhere};
 ghost use Rattle.pt_supervisor.specs.Children.{PermanentAreWanted};
 ghost use Rattle.pt_supervisor.specs.Hearing.{program_of, standing};
 ghost use Rattle.pt_supervisor.specs.Joining.{Joins, LinksNew, MeetsIn, joined_as};
-ghost use Rattle.pt_supervisor.specs.Homes.{place_coming};
+ghost use Rattle.pt_supervisor.specs.Homes.{place_coming, place_unanswered};
 ghost use Rattle.pt_supervisor.specs.Keeping.{HoldsWhere};
 ghost use Rattle.pt_supervisor.specs.Supervising.{GoesForward, Supervises, supervisor_scene};
 
 use crate::child_fault::ChildFault;
 use crate::children::{Child, place_of};
-use crate::home::{Home, place_awaited, place_coming};
+use crate::home::{Home, place_awaited, place_coming, place_unanswered};
 use crate::supervisor::{Start, Supervisor};
 use pt_behaviour::{Births, CallFault, Next, link};
 use pt_workers::{Desk, Fault, Pick, Pid};
@@ -52,6 +52,15 @@ impl<S> Supervisor<S> {
         ensures { slice_get (standing self.now).children place ≡ Some result }
     {
         self.children()[place]
+    }
+
+    /// The place of the child that the program is to start on another desk, if there is one. It is the same until the
+    /// program answers, unless a call about a child moves it up.
+    pub fn awaited(&self) -> Option<usize>
+        ensures place { result ≡ place_unanswered (standing self.now).children }
+        ensures within { IfSome result (λ i. i < length (standing self.now).children) }
+    {
+        place_unanswered(self.children())
     }
 
     /// Tells the supervisor that the program has started the child with this id on another desk, as this process. The

@@ -3,7 +3,7 @@
 ghost use Rattle.std.specs.Prelude.{◌≡◌, ◌<◌, IfSome, ◌&&◌, ◌==◌, length, position};
 ghost use Rattle.pt_supervisor.specs.declared.home.Home.TheVariants.{Elsewhere};
 ghost use Rattle.pt_supervisor.specs.Homes.{arrived_child, asked_child, is_abroad, is_awaited, is_coming, is_here};
-ghost use Rattle.pt_supervisor.specs.Homes.{is_unanswered, place_awaited, place_coming};
+ghost use Rattle.pt_supervisor.specs.Homes.{is_unanswered, place_awaited, place_coming, place_unanswered};
 ghost use Rattle.pt_supervisor.specs.Trying.{missed_child, refused_child};
 
 use crate::children::Child;
@@ -130,6 +130,14 @@ pub(crate) fn place_coming(children: &[Child]) -> Option<usize>
     ensures within { IfSome result (λ i. i < length children.now) }
 {
     children.iter().position(|child| child.is_coming())
+}
+
+/// The place of the first child of which the program is to say whether it was started.
+pub(crate) fn place_unanswered(children: &[Child]) -> Option<usize>
+    ensures place { result ≡ place_unanswered children.now }
+    ensures within { IfSome result (λ i. i < length children.now) }
+{
+    children.iter().position(|child| child.is_awaited())
 }
 
 /// The place of the first child with this id of which the program is to say whether it was started.
