@@ -206,7 +206,7 @@ impl From<ChildSpec> for RawChildSpec {
             Restart::Transient => raw::PT_TRANSIENT,
             Restart::Temporary => raw::PT_TEMPORARY,
         };
-        RawChildSpec { tag: child.tag, restart, shutdown, time }
+        RawChildSpec { tag: child.tag, restart, shutdown, time, elsewhere: false }
     }
 }
 
