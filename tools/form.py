@@ -8,6 +8,8 @@
 - functions: functions of crates/*/src of more than 30 lines
 - prose: lines of the pages, outside of tables and code, of more than 300 letters
 - sentences: sentences of the pages, outside of tables and code, of more than 30 words
+- copies: lines of the proofs that are second copies: six lines or more that are elsewhere in the proofs, too. Empty lines,
+  comments and imports are left out, and spaces do not matter. The list has a line for each such run.
 - crates: crates of crates.txt
 """
 from __future__ import annotations
@@ -16,14 +18,17 @@ import argparse
 import re
 import sys
 from collections import defaultdict
-from collections.abc import Iterator
+from collections.abc import Callable, Iterator
+from dataclasses import dataclass
 from pathlib import Path
 
 ROOT = Path(__file__).resolve().parent.parent
-BOUNDS = {"words": 0, "functions": 0, "prose": 0, "sentences": 0, "crates": 57}
+BOUNDS = {"words": 0, "functions": 0, "prose": 0, "sentences": 0, "copies": 508, "crates": 57}
 MOST_LINES = 30
 MOST_LETTERS = 300
 MOST_WORDS = 30
+# so many lines that are elsewhere, too, are a second copy
+LINES_OF_A_COPY = 6
 # pages that tools write
 WRITTEN = {"API.md", "PROMISES.md"}
 
@@ -93,9 +98,82 @@ def sentences() -> list[str]:
     return found
 
 
+def proofs() -> Iterator[tuple[str, list[tuple[int, str]]]]:
+    """The proof files, each with its numbered lines, without empty lines, comments and imports."""
+    for path in sorted(ROOT.glob("crates/*/proofs/**/*.antt")):
+        lines = [(at, " ".join(line.split())) for at, line in enumerate(path.read_text().split("\n"), 1)]
+        kept = [(at, line) for at, line in lines if line and not line.startswith(("--", "use ", "pub use "))]
+        yield str(path.relative_to(ROOT)), kept
+
+
+@dataclass
+class Copy:
+    """A run of lines that is a second copy, by its places among the lines of its file and of the first one."""
+
+    name: str
+    begin: int
+    first: str
+    first_begin: int
+    lines: int
+
+    def goes_on_with(self, name: str, begin: int, first: tuple[str, int]) -> bool:
+        """Whether the lines from `begin` are a second copy of those that follow in the first run."""
+        ahead = self.lines - LINES_OF_A_COPY + 1
+        return (name, begin) == (self.name, self.begin + ahead) and first == (self.first, self.first_begin + ahead)
+
+
+def runs(files: dict[str, list[tuple[int, str]]]) -> list[Copy]:
+    """The runs that are second copies, each as long as it is one."""
+    firsts: dict[tuple[str, ...], tuple[str, int]] = {}
+    found: list[Copy] = []
+    for name, lines in files.items():
+        for begin in range(len(lines) - LINES_OF_A_COPY + 1):
+            here = (name, begin)
+            first = firsts.setdefault(tuple(line for _, line in lines[begin : begin + LINES_OF_A_COPY]), here)
+            if first == here:
+                continue
+            if found and found[-1].goes_on_with(name, begin, first):
+                found[-1].lines += 1
+            else:
+                found.append(Copy(name, begin, *first, LINES_OF_A_COPY))
+    return found
+
+
+def copies() -> tuple[int, list[str]]:
+    """How many lines of the proofs are second copies, and the runs of them."""
+    files = dict(proofs())
+    copied: set[tuple[str, int]] = set()
+    said = []
+    for run in runs(files):
+        copied.update((run.name, at) for at in range(run.begin, run.begin + run.lines))
+        here, there = files[run.name][run.begin :][: run.lines], files[run.first][run.first_begin :][: run.lines]
+        said.append(f"{run.name}:{here[0][0]}-{here[-1][0]}: {run.lines} lines, as {run.first}:{there[0][0]}-{there[-1][0]}")
+    return len(copied), said
+
+
 def crates() -> list[str]:
     """The crates of crates.txt."""
     return re.findall(r"^(\w+)[^:#\n]*:", (ROOT / "crates.txt").read_text(), re.M)
+
+
+def counted(names: Callable[[], list[str]]) -> Callable[[], tuple[int, list[str]]]:
+    """The count of what has one name each."""
+
+    def count() -> tuple[int, list[str]]:
+        found = names()
+        return len(found), found
+
+    return count
+
+
+COUNTS: dict[str, Callable[[], tuple[int, list[str]]]] = {
+    "words": counted(words),
+    "functions": counted(functions),
+    "prose": counted(prose),
+    "sentences": counted(sentences),
+    "copies": copies,
+    "crates": counted(crates),
+}
 
 
 def main() -> int:
@@ -103,11 +181,10 @@ def main() -> int:
     reader.add_argument("--list", action="store_true", help="print what was counted, too")
     words_given = reader.parse_args()
     status = 0
-    counts = {"words": words, "functions": functions, "prose": prose, "sentences": sentences, "crates": crates}
-    for name, count in counts.items():
-        found = count()
-        above = len(found) > BOUNDS[name]
-        print(f"{name}: {len(found)}, at most {BOUNDS[name]}{': too many' if above else ''}")
+    for name, count in COUNTS.items():
+        number, found = count()
+        above = number > BOUNDS[name]
+        print(f"{name}: {number}, at most {BOUNDS[name]}{': too many' if above else ''}")
         status = status or int(above)
         if words_given.list or above:
             print("".join(f"    {it}\n" for it in found), end="")
