@@ -67,40 +67,44 @@ module _ {W : Type 0} (Runs : ℕ → List (DeskState × W) → List (DeskState 
       pub pairs : length now.works ≡ length now.desks
       pub first : length old.works ≡ length old.desks
 
-    pub none_yet : length old.works ≡ length old.desks → SoFar most old
-    none_yet count = record { legs = []; run = refl; counts = omega arith; pairs = count; first = count }
-
-    pub one_more : (left turns : ℕ) (now : Worked W) (did : Rested) (new : Worked W) → SoFar left now → turns ≤ left → DoneLeg Runs budget turns now did new → did.stopped ≡ None → Goes new → SoFar (left - turns) new
-    one_more left turns now did new far le done on goes = record {
-      legs = turns ∷ far.legs;
-      run = (now, did, far.run, done.leg, on, goes);
-      counts = let c = far.counts in omega (arith, c, le);
-      pairs = done.counted;
-      first = far.first;
-    }
-
-    pub ended : (Ends : Rested → Worked W → Type 0) (left turns : ℕ) (now : Worked W) (did : Rested) (new : Worked W) → SoFar left now → turns ≤ left → 0 < turns → DoneLeg Runs budget turns now did new → Ends did new
-        → EndsBy Runs budget Goes most old Ends new
-    ended Ends left turns now did new far le some done ends = record {
-      before = far.legs;
-      last = now;
-      legs = far.run;
-      turns = turns;
-      did = did;
-      leg = done.leg;
-      some = some;
-      within = let c = far.counts in omega (arith, c, le);
-      ends = ends;
-    }
+    -- the same, where the next leg is to have so many
+    pub record Underway (leg left : ℕ) (now : Worked W) : Type 0 where
+      pub so_far : SoFar left now
+      pub some : 0 < leg
 
     goes_last : (legs : List ℕ) (now : Worked W) → Legs Runs budget Goes legs old now → 0 < leg_turns legs → Goes now
     goes_last [] now run some = absurd (omega (arith, some))
     goes_last (turns ∷ legs) now run some = run.5
 
-    pub spent : (left : ℕ) (now : Worked W) → left ≡ 0 → 0 < most → SoFar left now → (legs : List ℕ) × Legs Runs budget Goes legs old now × (leg_turns legs ≡ most) × Goes now
-    spent left now none some far =
-        let all : leg_turns far.legs ≡ most = let c = far.counts in omega (arith, c, none) in
-        (far.legs, far.run, all, goes_last far.legs now far.run (omega (arith, all, some)))
+module _ {W : Type 0} {Runs : ℕ → List (DeskState × W) → List (DeskState × W) → Type 0} {budget : ℕ} {Goes : Worked W → Type 0} {most : ℕ} {old : Worked W} {left : ℕ} {now : Worked W} where
+  pub one_more : {turns : ℕ} {did : Rested} {new : Worked W} → SoFar Runs budget Goes most old left now → DoneLeg Runs budget turns now did new → did.stopped ≡ None → Goes new → turns ≤ left
+      → SoFar Runs budget Goes most old (left - turns) new
+  one_more {turns} {did} far done on goes le = record {
+    legs = turns ∷ far.legs;
+    run = (now, did, far.run, done.leg, on, goes);
+    counts = let c = far.counts in omega (arith, c, le);
+    pairs = done.counted;
+    first = far.first;
+  }
 
-    pub refused_then : (left : ℕ) (now : Worked W) → 0 < left → SoFar left now → (legs : List ℕ) × Legs Runs budget Goes legs old now × (leg_turns legs < most)
-    refused_then left now more far = (far.legs, far.run, let c = far.counts in omega (arith, c, more))
+  pub ended : {turns : ℕ} {did : Rested} {new : Worked W} (Ends : Rested → Worked W → Type 0) → SoFar Runs budget Goes most old left now → DoneLeg Runs budget turns now did new → Ends did new → turns ≤ left → 0 < turns
+      → EndsBy Runs budget Goes most old Ends new
+  ended {turns} {did} Ends far done ends le some = record {
+    before = far.legs;
+    last = now;
+    legs = far.run;
+    turns = turns;
+    did = did;
+    leg = done.leg;
+    some = some;
+    within = let c = far.counts in omega (arith, c, le);
+    ends = ends;
+  }
+
+  pub spent : SoFar Runs budget Goes most old left now → left ≡ 0 → 0 < most → (legs : List ℕ) × Legs Runs budget Goes legs old now × (leg_turns legs ≡ most) × Goes now
+  spent far none some =
+      let all : leg_turns far.legs ≡ most = let c = far.counts in omega (arith, c, none) in
+      (far.legs, far.run, all, goes_last Runs budget Goes most old far.legs now far.run (omega (arith, all, some)))
+
+  pub refused_then : SoFar Runs budget Goes most old left now → 0 < left → (legs : List ℕ) × Legs Runs budget Goes legs old now × (leg_turns legs < most)
+  refused_then far more = (far.legs, far.run, let c = far.counts in omega (arith, c, more))

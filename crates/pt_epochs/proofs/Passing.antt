@@ -1,5 +1,6 @@
 -- Epochs, one behind the other.
-use Rattle.std.proofs.Common.{◌≡◌, ℕ, zero, suc, ◌+◌, ◌<◌, Bool, List, [], ◌++◌, max, Some, None, Ok, refl, sym, ap, ◌∙◌, subst, arith}
+use Rattle.std.proofs.Common.{◌≡◌, ℕ, zero, suc, ◌+◌, ◌<◌, Bool, List, [], ◌++◌, max, Some, None, Result, Ok, Err, refl, sym, ap, ◌∙◌, subst, arith}
+use Rattle.std.specs.Prelude.{IfErr}
 use Rattle.pt_events.specs.declared.event.Stamped.{Stamped}
 use Rattle.pt_events.specs.History.{Past}
 use Rattle.pt_gathered.specs.Gathered.{GatheredState}
@@ -70,32 +71,40 @@ module _ {B : Type 0} (Runs : ℕ → List (DeskState × Crew B) → List (DeskS
     ends_run most n outcome.Idle all old new within e = (n, within, e)
     ends_run most n outcome.Told all old new within e = (n, within, e)
 
-    module _ (n : ℕ) (before : List Stamped) (first mid : Manned B S) (passed : PassEach Runs plan Takes Refuses n before first mid) where
-      -- behind so many one halts
-      pub halts_after : (halted : Halted) (later : List (Crew B)) (after : S) → n < plan.epochs → HaltsOne Runs plan Takes Refuses mid halted later after → HaltsRun Runs plan Takes Refuses plan.epochs first halted later after
-      halts_after halted later after within halts =
-          record { n = n; within = within; before = before; mid = mid; passed = passed; halts = halts; whole = each_whole n before first mid passed }
+    -- so many epochs have passed, and the run goes on behind each of them
+    pub record Passed (n : ℕ) (old new : Manned B S) : Type 0 where
+      pub before : List Stamped
+      pub each : PassEach Runs plan Takes Refuses n before old new
 
-      module _ (pause : Pause) (history : List Stamped) (new : Manned B S) (one : PassesOne Runs plan Takes Refuses pause history mid new) where
-        -- or one more passes, and the run ends
-        pub ends_after : (why : Outcome) → n < plan.epochs → outcome_of pause ≡ Some why → PassesAsOne Runs plan Takes Refuses plan.epochs why first new
-        ends_after why within is = record {
-          all = before ++ history;
-          passes = ends_run plan.epochs n why (before ++ history) first new within
-              (record { before = before; history = history; mid = mid; pause = pause; all_is = refl; passed = passed; last = one; why_is = is });
-          whole = one_after before history first.desks mid.desks new.desks (each_whole n before first mid passed) (passes_whole pause history mid new one);
-        }
+module _ {B S : Type 0} {Runs : ℕ → List (DeskState × Crew B) → List (DeskState × Crew B) → Type 0} {plan : Plan} {Takes Refuses : S → List Stamped → S → Type 0} {n : ℕ} {first mid : Manned B S} where
+  -- behind so many one halts
+  pub halts_after : {X : Type 0} (result : Result X Halted) (halted : Halted) (later : List (Crew B)) (after : S) → Passed Runs plan Takes Refuses n first mid → HaltsOne Runs plan Takes Refuses mid halted later after
+      → n < plan.epochs → result ≡ Err halted → IfErr result (λ h. HaltsRun Runs plan Takes Refuses plan.epochs first h later after)
+  halts_after result halted later after p halts within is = subst (λ r. IfErr r (λ h. HaltsRun Runs plan Takes Refuses plan.epochs first h later after)) (sym is)
+      (record { n = n; within = within; before = p.before; mid = mid; passed = p.each; halts = halts; whole = each_whole Runs plan Takes Refuses n p.before first mid p.each })
 
-        -- or it goes on
-        pub goes_after : outcome_of pause ≡ None → PassEach Runs plan Takes Refuses (n + 1) (before ++ history) first new
-        goes_after is =
-            let next : suc n ≡ n + 1 = omega arith in
-            subst (λ k. PassEach Runs plan Takes Refuses k (before ++ history) first new) next (before, history, mid, pause, refl, passed, one, is)
+  -- or these were all
+  pub all_after : Passed Runs plan Takes Refuses n first mid → n ≡ plan.epochs → PassesAsOne Runs plan Takes Refuses plan.epochs outcome.Counted first mid
+  all_after p all =
+      record { all = p.before; passes = subst (λ k. PassEach Runs plan Takes Refuses k p.before first mid) all p.each; whole = each_whole Runs plan Takes Refuses n p.before first mid p.each }
 
-      -- or these were all
-      pub all_after : n ≡ plan.epochs → PassesAsOne Runs plan Takes Refuses plan.epochs outcome.Counted first mid
-      all_after all =
-          record { all = before; passes = subst (λ k. PassEach Runs plan Takes Refuses k before first mid) all passed; whole = each_whole n before first mid passed }
+  module _ {pause : Pause} {new : Manned B S} where
+    -- or one more passes, and the run ends
+    pub ends_after : {why : Outcome} → Passed Runs plan Takes Refuses n first mid → (history : List Stamped) × PassesOne Runs plan Takes Refuses pause history mid new
+        → outcome_of pause ≡ Some why → n < plan.epochs → PassesAsOne Runs plan Takes Refuses plan.epochs why first new
+    ends_after {why} p (history, one) is within = record {
+      all = p.before ++ history;
+      passes = ends_run Runs plan Takes Refuses plan.epochs n why (p.before ++ history) first new within
+          (record { before = p.before; history = history; mid = mid; pause = pause; all_is = refl; passed = p.each; last = one; why_is = is });
+      whole = one_after p.before history first.desks mid.desks new.desks (each_whole Runs plan Takes Refuses n p.before first mid p.each) (passes_whole Runs plan Takes Refuses pause history mid new one);
+    }
+
+    -- or it goes on
+    pub goes_after : Passed Runs plan Takes Refuses n first mid → (history : List Stamped) × PassesOne Runs plan Takes Refuses pause history mid new
+        → outcome_of pause ≡ None → Passed Runs plan Takes Refuses (n + 1) first new
+    goes_after p (history, one) is =
+        let next : suc n ≡ n + 1 = omega arith in
+        subst (λ k. Passed Runs plan Takes Refuses k first new) next (record { before = p.before ++ history; each = (p.before, history, mid, pause, refl, p.each, one, is) })
 
 module _ {B : Type 0} (answers : Answers B) (lets : DeskState × Crew B → ℕ → Bool → Type 0) (plan : Plan) where
   abbrev Runs : ℕ → List (DeskState × Crew B) → List (DeskState × Crew B) → Type 0
@@ -115,7 +124,7 @@ module _ {B : Type 0} (answers : Answers B) (lets : DeskState × Crew B → ℕ 
 
   module _ {S : Type 0} (Takes Refuses : S → List Stamped → S → Type 0) where
     -- nobody's wake-up is lost over the end of an epoch
-    pub passes_attend : (pause : Pause) (history : List Stamped) (old new : Manned B S) → PassesOne Runs plan Takes Refuses pause history old new → AllAttend old.crews (all_shards old.desks) → AllAttend new.crews (all_shards new.desks)
+    passes_attend : (pause : Pause) (history : List Stamped) (old new : Manned B S) → PassesOne Runs plan Takes Refuses pause history old new → AllAttend old.crews (all_shards old.desks) → AllAttend new.crews (all_shards new.desks)
     passes_attend pause history old new p a =
         let e = p.ends in
         let over = e.over in
@@ -124,12 +133,14 @@ module _ {B : Type 0} (answers : Answers B) (lets : DeskState × Crew B → ℕ 
         let shards : over.settled.shards ≡ all_shards p.ran.desks = ap (λ (g : GatheredState). g.shards) (over.same nothing) ∙ e.gathers.shards in
         resumed_attends over.settled p.ran.works new.desks new.crews over.over.resumed (subst (λ (ss : List ShardState). AllAttend p.ran.works ss) (sym shards) ran)
 
-    pub each_attend : (n : ℕ) (all : List Stamped) (old new : Manned B S) → PassEach Runs plan Takes Refuses n all old new → AllAttend old.crews (all_shards old.desks) → AllAttend new.crews (all_shards new.desks)
+    each_attend : (n : ℕ) (all : List Stamped) (old new : Manned B S) → PassEach Runs plan Takes Refuses n all old new → AllAttend old.crews (all_shards old.desks) → AllAttend new.crews (all_shards new.desks)
     each_attend zero all old new h a = subst (λ (m : Manned B S). AllAttend m.crews (all_shards m.desks)) (sym h.1) a
     each_attend (suc n) all old new (before, history, mid, pause, is, passed, one, goes) a =
         passes_attend pause history mid new one (each_attend n before old mid passed a)
 
-    pub run_attends : (most : ℕ) (why : Outcome) (all : List Stamped) (old new : Manned B S) → EndsRun Runs plan Takes Refuses most why all old new → AllAttend old.crews (all_shards old.desks) → AllAttend new.crews (all_shards new.desks)
-    run_attends most outcome.Counted all old new h a = each_attend most all old new h a
-    run_attends most outcome.Idle all old new (n, within, e) a = passes_attend e.pause e.history e.mid new e.last (each_attend n e.before old e.mid e.passed a)
-    run_attends most outcome.Told all old new (n, within, e) a = passes_attend e.pause e.history e.mid new e.last (each_attend n e.before old e.mid e.passed a)
+    pub passed_attend : {n : ℕ} {first mid : Manned B S} → Passed Runs plan Takes Refuses n first mid → AllAttend first.crews (all_shards first.desks) → AllAttend mid.crews (all_shards mid.desks)
+    passed_attend {n} {first} {mid} p a = each_attend n p.before first mid p.each a
+
+    pub ended_attend : {n : ℕ} {first mid new : Manned B S} {pause : Pause} → Passed Runs plan Takes Refuses n first mid → (history : List Stamped) × PassesOne Runs plan Takes Refuses pause history mid new
+        → AllAttend first.crews (all_shards first.desks) → AllAttend new.crews (all_shards new.desks)
+    ended_attend {n} {first} {mid} {new} {pause} p (history, one) a = passes_attend pause history mid new one (passed_attend p a)

@@ -1,15 +1,12 @@
 -- `run_epochs_on_threads`: what holds in its loop over `epoch`.
-use Rattle.std.proofs.Common.{List}
-use Rattle.pt_events.specs.declared.event.Stamped.{Stamped}
 use Rattle.pt_epochs.specs.Driving.{lets_short}
 use Rattle.pt_epochs.specs.Idle.{InTurns}
-use Rattle.pt_epochs.specs.Running.{PassEach}
+use Rattle.pt_epochs.proofs.Passing.{Passed}
 use Rattle.pt_epochs.proofs.on_threads.run_epochs_on_threads.Given as goal
 
 -- as many epochs have passed as were counted, and the run goes on behind each of them
 abbrev pub invariant-loop-epoch : goal.invariant-loop-epoch
 invariant-loop-epoch g l =
-    (before : List Stamped)
-    × PassEach (InTurns g.B.Behaviour.answers (lets_short l.plan.events) l.plan.budget) l.plan g.S.Sink.takes g.S.Sink.refuses l._epoch before
+    Passed (InTurns g.B.Behaviour.answers (lets_short l.plan.events) l.plan.budget) l.plan g.S.Sink.takes g.S.Sink.refuses l._epoch
     (record { desks = l.initial.node; crews = l.initial.crews.items; sink = l.initial.sink })
     (record { desks = l.node; crews = l.crews.items; sink = l.sink })
