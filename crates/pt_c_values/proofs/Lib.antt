@@ -5,3 +5,4 @@ pub mod Empty
 pub mod Walks
 pub mod InRow
 pub mod AlongRow
+pub mod Sending
