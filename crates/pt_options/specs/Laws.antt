@@ -1,15 +1,17 @@
 -- What the command line makes of words that are written out, and of one text that may be any.
-use Rattle.std.specs.Prelude.{◌≡◌, ◌≢◌, List, [], ◌∷◌, codes, true, false, Option, Some, None}
+use Rattle.std.specs.Prelude.{◌≡◌, ◌≢◌, List, [], ◌∷◌, ◌++◌, codes, true, false, Option, Some, None}
 use Rattle.std.specs.Str.Parse.{digits_value, without_leading_plus}
 use Rattle.clap.specs.Words.{App, Text, fault_of, matches_of}
 use Rattle.clap.specs.Lexer.{strip_byte}
 use Rattle.clap.specs.ValueTests.{is_unsigned_in}
 use Rattle.clap.specs.declared.error.kind.ErrorKind.{ErrorKind}
+use Rattle.clap.specs.declared.error.kind.ErrorKind.TheVariants.{DisplayHelp, DisplayVersion, InvalidValue, TooManyValues}
+use Rattle.clap.specs.declared.error.kind.ErrorKind.TheVariants.{ValueValidation}
 use Rattle.pt_options.specs.Choosing.{IsCommand, chosen_of, file_of}
-use Rattle.pt_render.specs.declared.choices.Mode.TheVariants.{Single}
+use Rattle.pt_render.specs.declared.choices.Mode.TheVariants.{Single, Many}
 use Rattle.pt_render.specs.declared.choices.Options.{Options}
-use Rattle.pt_render.specs.declared.choices.Show.TheVariants.{History}
-use Rattle.pt_render.specs.declared.choices.Until.TheVariants.{Turns}
+use Rattle.pt_render.specs.declared.choices.Show.TheVariants.{Summary, History, Chart, Mermaid, Json}
+use Rattle.pt_render.specs.declared.choices.Until.TheVariants.{Turns, Quiet}
 use Rattle.pt_render.specs.declared.choices.TheConstants.{MOST_EPOCHS, MOST_TURNS}
 
 abbrev pub defaults : Options

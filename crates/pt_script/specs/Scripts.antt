@@ -18,7 +18,7 @@ use Rattle.pt_script.specs.declared.limits.TheConstants.{DEFAULT_BUDGET, DEFAULT
 use Rattle.pt_script.specs.declared.limits.TheConstants.{MAX_BYTES, MAX_DEPTH, MAX_DESKS, MAX_FORMAT, MAX_LANE}
 use Rattle.pt_script.specs.declared.limits.TheConstants.{MAX_NESTING, MAX_PROCESSES, MAX_SLOTS}
 use Rattle.pt_script.specs.Plans.{Plan, Whole}
-use Rattle.pt_script.specs.Steps.{each}
+use Rattle.pt_script.specs.Steps.{◌>>=◌, each}
 use Rattle.pt_script.specs.Members.{known_members, whole_number, flag, list, required, optional_member}
 use Rattle.pt_script.specs.Operations.{is_spawn, new_name}
 use Rattle.pt_script.specs.Scopes.{Naming, naming}
