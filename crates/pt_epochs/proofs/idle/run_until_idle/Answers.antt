@@ -18,14 +18,12 @@ none_of (Some s) h = absurd (h s refl)
 
 pub returns-then-none_has_work : goal.returns-then-none_has_work
 returns-then-none_has_work g c =
-    let on = none_of c.in_ok-rested.rested.stopped c.in_default.not-Some in
-    idle_found c.loop-left.invariant c.in_ok-rested.ensures on c.as_slice.ensures.value c.desks.ensures.desks c.if-none_has_work.ensures
+    idle_found c.loop-left.invariant c.in_ok-rested.ensures (none_of c.in_ok-rested.rested.stopped c.in_default.not-Some) c.as_slice.ensures.value c.desks.ensures.desks c.if-none_has_work.ensures
     (omega (arith, c.min-count.ensures)) (omega (arith, c.min-count.ensures, c.loop-left.invariant.some, c.loop-left-test.true))
 
 pub loop-left-preserved : goal.loop-left-preserved
 loop-left-preserved g c =
-    let on = none_of c.in_ok-rested.rested.stopped c.in_default.not-Some in
-    idle_goes c.loop-left.invariant c.in_ok-rested.ensures on c.as_slice.ensures.value c.desks.ensures.desks c.if-none_has_work.ensures c.longer-leg.ensures (omega (arith, c.min-count.ensures))
+    idle_goes c.loop-left.invariant c.in_ok-rested.ensures (none_of c.in_ok-rested.rested.stopped c.in_default.not-Some) c.as_slice.ensures.value c.desks.ensures.desks c.if-none_has_work.ensures c.longer-leg.ensures (omega (arith, c.min-count.ensures))
 
 pub returns : goal.returns
 returns g c = spent c.loop-left.invariant.so_far (omega (arith, c.loop-left-test.false)) (omega arith)
