@@ -289,6 +289,7 @@ static pt_history the_history = PT_HISTORY_INIT;
 static pt_crew the_crew = PT_CREW_INIT;
 static pt_timers the_timers = PT_TIMERS_INIT;
 static pt_names the_names = PT_NAMES_INIT;
+static pt_groups the_groups = PT_GROUPS_INIT;
 static pt_door the_door = PT_DOOR_INIT;
 static pt_way_in the_way_in = PT_WAY_IN_INIT;
 static const pt_config the_config = PT_CONFIG_DEFAULT;
@@ -308,6 +309,8 @@ int main(void) {
     assert(the_timers.at == NULL);
     the_names = PT_NO_NAMES;
     assert(the_names.at == NULL);
+    the_groups = PT_NO_GROUPS;
+    assert(the_groups.at == NULL);
     the_door = PT_NO_DOOR;
     assert(the_door.at == NULL);
     the_way_in = PT_NO_WAY_IN;

@@ -76,6 +76,7 @@ typedef struct pt_history { void *at; } pt_history;
 typedef struct pt_crew { void *at; } pt_crew;
 typedef struct pt_timers { void *at; } pt_timers;
 typedef struct pt_names { void *at; } pt_names;
+typedef struct pt_groups { void *at; } pt_groups;
 typedef struct pt_door { void *at; } pt_door;
 typedef struct pt_way_in { void *at; } pt_way_in;
 
@@ -87,6 +88,7 @@ typedef struct pt_way_in { void *at; } pt_way_in;
 #define PT_CREW_INIT {NULL}
 #define PT_TIMERS_INIT {NULL}
 #define PT_NAMES_INIT {NULL}
+#define PT_GROUPS_INIT {NULL}
 #define PT_DOOR_INIT {NULL}
 #define PT_WAY_IN_INIT {NULL}
 
@@ -99,6 +101,7 @@ typedef struct pt_way_in { void *at; } pt_way_in;
 #define PT_NO_CREW pt_crew{nullptr}
 #define PT_NO_TIMERS pt_timers{nullptr}
 #define PT_NO_NAMES pt_names{nullptr}
+#define PT_NO_GROUPS pt_groups{nullptr}
 #define PT_NO_DOOR pt_door{nullptr}
 #define PT_NO_WAY_IN pt_way_in{nullptr}
 #else
@@ -109,6 +112,7 @@ typedef struct pt_way_in { void *at; } pt_way_in;
 #define PT_NO_CREW ((pt_crew){0})
 #define PT_NO_TIMERS ((pt_timers){0})
 #define PT_NO_NAMES ((pt_names){0})
+#define PT_NO_GROUPS ((pt_groups){0})
 #define PT_NO_DOOR ((pt_door){0})
 #define PT_NO_WAY_IN ((pt_way_in){0})
 #endif
@@ -118,7 +122,7 @@ typedef struct pt_way_in { void *at; } pt_way_in;
 /* What a call returns. */
 enum pt_code {
     PT_OK = 0,                /* the call succeeded */
-    PT_FULL = 1,              /* no slot is free, or no place of a door */
+    PT_FULL = 1,              /* no slot is free, no place of a door, or no further place in a group */
     PT_MEMORY = 2,            /* malloc or realloc failed; the call may be made again */
     PT_WORN = 3,              /* the clock is at its limit, 2^62 */
     PT_GONE = 4,              /* the acting process is not alive on this desk, or the way in of a door was given up */
@@ -497,6 +501,7 @@ uint32_t pt_history_give_up(pt_history *history);
 uint32_t pt_crew_give_up(pt_crew *crew);         /* its processes stay on their desk */
 uint32_t pt_timers_give_up(pt_timers *timers);
 uint32_t pt_names_give_up(pt_names *names);
+uint32_t pt_groups_give_up(pt_groups *groups);
 uint32_t pt_door_give_up(pt_door *door);
 uint32_t pt_way_in_give_up(pt_way_in *way_in);   /* the messages that wait in it are dropped */
 
@@ -820,6 +825,42 @@ uint32_t pt_names_name_of(pt_names *names, pt_pid p, pt_name *out);
 
 /* The number of names. */
 uint32_t pt_names_len(pt_names *names, size_t *out);
+
+/* ---- groups: which process is in which group, as Erlang's pg keeps it. Each call may return PT_EMPTY
+ *
+ * A group is a number to which the program gives a meaning. A process may be in many groups. It may join a group several
+ * times, and is in it until it has left as often, or has exited. Groups know no desk: monitor each process that is in a
+ * group, once, and call pt_groups_forget for its DOWN. To send to a group, send to each of its members. */
+
+/* Begins groups, in which there is no process. PT_FILLED, PT_MEMORY. */
+uint32_t pt_groups_open(pt_groups *groups);
+
+/* Adds p to the group, once more if it is there already. `out` gets the monitor of p: the one passed, if p was in no
+ * group, and otherwise the one that it had. So make a monitor only if pt_groups_monitor_of returns PT_NOTHING, and pass
+ * what it writes otherwise. PT_MEMORY: p was not in the group, and is not. PT_FULL: p is in it 2^64 - 1 times. */
+uint32_t pt_groups_join(pt_groups *groups, uint64_t group, pt_pid p, pt_ref monitor, pt_ref *out);
+
+/* Takes p out of the group once. `last` gets whether p is in no group any more. If so, `out` gets its monitor, which you
+ * demonitor; otherwise `out` is not written. PT_NOTHING: p is not in the group. */
+uint32_t pt_groups_leave(pt_groups *groups, uint64_t group, pt_pid p, bool *last, pt_ref *out);
+
+/* Removes a process that has exited from all its groups; `out` gets its monitor. It takes as many steps as p has groups.
+ * PT_NOTHING: p is in no group. */
+uint32_t pt_groups_forget(pt_groups *groups, pt_pid p, pt_ref *out);
+
+/* The monitor of a process. PT_NOTHING: p is in no group. */
+uint32_t pt_groups_monitor_of(pt_groups *groups, pt_pid p, pt_ref *out);
+
+/* How often p is in the group: 0 if it is not. */
+uint32_t pt_groups_times(pt_groups *groups, uint64_t group, pt_pid p, uint64_t *out);
+
+/* The number of processes in the group, each counted once, and the process at a place, counted from 0. The order means
+ * nothing, and may change with each call that changes the group. PT_NOTHING: no member at the place. */
+uint32_t pt_groups_len(pt_groups *groups, uint64_t group, size_t *out);
+uint32_t pt_groups_member_at(pt_groups *groups, uint64_t group, size_t place, pt_pid *out);
+
+/* The group at a place of those that p is in, each once, counted from 0. PT_NOTHING: no group at the place. */
+uint32_t pt_groups_group_at(pt_groups *groups, pt_pid p, size_t place, uint64_t *out);
 
 /* ---- reading a desk. Each call may return PT_EMPTY */
 

@@ -680,6 +680,7 @@ unsafe extern "C" {
     pub fn pt_crew_give_up(crew: &mut Handle) -> u32;
     pub fn pt_timers_give_up(timers: &mut Handle) -> u32;
     pub fn pt_names_give_up(names: &mut Handle) -> u32;
+    pub fn pt_groups_give_up(groups: &mut Handle) -> u32;
     pub fn pt_door_give_up(door: &mut Handle) -> u32;
     pub fn pt_way_in_give_up(way_in: &mut Handle) -> u32;
     pub fn pt_spawn(desk: &mut Handle, out: &mut Pid) -> u32;
@@ -793,6 +794,15 @@ unsafe extern "C" {
     pub fn pt_names_forget(names: &mut Handle, p: Pid, out: &mut RawName) -> u32;
     pub fn pt_names_name_of(names: &mut Handle, p: Pid, out: &mut RawName) -> u32;
     pub fn pt_names_len(names: &mut Handle, out: &mut usize) -> u32;
+    pub fn pt_groups_open(groups: &mut Handle) -> u32;
+    pub fn pt_groups_join(groups: &mut Handle, group: u64, p: Pid, monitor: RawRef, out: &mut RawRef) -> u32;
+    pub fn pt_groups_leave(groups: &mut Handle, group: u64, p: Pid, last: &mut bool, out: &mut RawRef) -> u32;
+    pub fn pt_groups_forget(groups: &mut Handle, p: Pid, out: &mut RawRef) -> u32;
+    pub fn pt_groups_monitor_of(groups: &mut Handle, p: Pid, out: &mut RawRef) -> u32;
+    pub fn pt_groups_times(groups: &mut Handle, group: u64, p: Pid, out: &mut u64) -> u32;
+    pub fn pt_groups_len(groups: &mut Handle, group: u64, out: &mut usize) -> u32;
+    pub fn pt_groups_member_at(groups: &mut Handle, group: u64, place: usize, out: &mut Pid) -> u32;
+    pub fn pt_groups_group_at(groups: &mut Handle, p: Pid, place: usize, out: &mut u64) -> u32;
     pub fn pt_clock(desk: &mut Handle, out: &mut u64) -> u32;
     pub fn pt_number(desk: &mut Handle, out: &mut u8) -> u32;
     pub fn pt_alive(desk: &mut Handle, p: Pid, out: &mut bool) -> u32;

@@ -1,13 +1,13 @@
 //! The process table for C: a static library, whose header is `bindings/c/pundewo.h`.
 //!
-//! C keeps opaque handles of one pointer: for a desk, a gathered node, a settled one, a history, a crew, timers, names, and
-//! the two ends of a way in. An export is one call of a library below, which takes the value out of the handle, makes the
-//! call of Rattle that has its name, and puts the value back. By its contract, its code and what it writes are that call's
-//! answer, and if it fails, all is as it was. An empty handle is a code, too.
+//! C keeps opaque handles of one pointer: for a desk, a gathered node, a settled one, a history, a crew, timers, names,
+//! groups, and the two ends of a way in. An export is one call of a library below, which takes the value out of the handle,
+//! makes the call of Rattle that has its name, and puts the value back. By its contract, its code and what it writes are
+//! that call's answer, and if it fails, all is as it was. An empty handle is a code, too.
 //!
 //! Values with an enum or an option in Rattle cross as plain structs with a code (`pt_c_values::types`). `about` reports
 //! codes, sizes and fields, to be compared with a header. The calls are in one library for each object: `pt_c_desks`,
-//! `pt_c_nodes`, `pt_c_crews`, and `pt_c_tools` for timers, names and ways in.
+//! `pt_c_nodes`, `pt_c_crews`, and `pt_c_tools` for timers, names, groups and ways in.
 //!
 //! Tests: `bindings/run.sh`.
 //!
@@ -22,8 +22,8 @@
 //! - **Crews.** Each call is that of `Scheduler`. A step hands out jobs in order, no process twice, and no wake-up is lost.
 //!   A start tells its supervisor, and whether it is one again. Of a row of answers each is taken, up to the first that is
 //!   refused. (`CrewSteps`, `SpawnsBossInCrew`, `AnswersInOrder`)
-//! - **Timers and names.** Each call is that of `Timers` and of `Names`, with bytes for a name. (`StartsTimer`,
-//!   `RegistersName`)
+//! - **Timers, names and groups.** Each call is that of `Timers`, of `Names` with bytes for a name, and of `Groups` with a
+//!   number for a group. (`StartsTimer`, `RegistersName`, `JoinsByCode`)
 //! - **Calls.** Asking, hearing and replying are those of `pt_pending`, and a call ends once. The messages of calls are told
 //!   from others. (`AsksServer`, `HearsItem`, `TellsIfCall`)
 //! - **Letters and doors.** The next turn posts to no other desks than those told. What is taken out of a way in is what was
@@ -43,6 +43,7 @@ mod asking;
 mod calls;
 mod crews;
 mod going_on;
+mod groups;
 mod letters;
 mod losses;
 mod names;

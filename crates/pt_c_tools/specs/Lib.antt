@@ -6,6 +6,7 @@ pub mod WaysIn
 pub mod Items
 pub mod Asking
 pub mod AboutAsking
+pub mod Grouping
 pub mod Naming
 pub mod About
 pub mod AboutSupervisors

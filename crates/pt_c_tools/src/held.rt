@@ -1,7 +1,7 @@
-//! The places that the handles of timers, of names and of the ends of a way in have on the heap.
+//! The places that the handles of timers, of names, of groups and of the ends of a way in have on the heap.
 
 use crate::door::{Door, WayIn};
-use pt_names::Names;
+use pt_names::{Groups, Names};
 use pt_timers::Timers;
 use std::marker::Model;
 
@@ -33,6 +33,21 @@ impl Model for HeldNames {
     ghost Value = { Option NamesState };
 
     ghost view = { λ h. h.names };
+}
+
+/// The place of groups.
+#[derive(Drop)]
+pub struct HeldGroups {
+    pub groups: Option<Groups>,
+}
+
+impl Model for HeldGroups {
+    ghost use Rattle.std.specs.Prelude.{Option};
+    ghost use Rattle.pt_names.specs.Groups.{GroupsState};
+
+    ghost Value = { Option GroupsState };
+
+    ghost view = { λ h. h.groups };
 }
 
 /// The place of a door.

@@ -1,4 +1,5 @@
-//! Timers, names, ways in and calls that are answered, for C without their exports: handles, and calls with plain structs.
+//! Timers, names, groups, ways in and calls that are answered, for C without their exports: handles, and calls with plain
+//! structs.
 //!
 //! The body of a timer is a number of the program's own. A way in takes messages from threads that have no desk. It has two
 //! ends: such a thread holds its [`Door`](door::Door), and the thread of a desk the [`WayIn`](door::WayIn). Each is in a
@@ -16,6 +17,8 @@
 //!   (`OpensTimers`, `StartsTimer`, `FiresTimer`)
 //! - **Names.** Each call answers what `Names` answers. If the bytes are no name, the code says so, and nothing has changed.
 //!   (`IfIsName`, `RegistersName`)
+//! - **Groups.** Each call answers what `Groups` answers, as a code and plain values, and a call that fails changes nothing.
+//!   (`JoinsByCode`, `LeavesByCode`, `ForgetsMember`)
 //! - **The way in.** The messages taken out, followed by those that wait, are the messages handed in at the door: in
 //!   order, each once. (`PostsAtDoor`, `TakesPost`, `meet`)
 //! - **A full way in.** `post` fails only if the door knows of no free place, or is told that its way in was given up. Nothing
@@ -49,6 +52,9 @@ pub mod crossing_nexts;
 pub mod door;
 pub mod door_handle;
 pub mod doors;
+pub mod grouping;
+pub mod groups;
+pub mod groups_handle;
 pub mod hearing;
 pub mod held;
 pub mod items;

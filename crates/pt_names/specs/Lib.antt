@@ -3,3 +3,5 @@ pub mod State
 pub mod Calls
 pub mod Registering
 pub mod Past
+pub mod Groups
+pub mod Grouping

@@ -31,12 +31,18 @@
 //!   (`GivesUpName`)
 #![tactic(auto)]
 
+mod group;
+mod groups;
 mod laws;
 mod name;
 mod names;
+mod places;
 mod registry;
 mod unregistered;
+mod watched;
 
+pub use group::{Group, JoinError, Left};
+pub use groups::Groups;
 pub use laws::names_keep_their_monitors;
 pub use name::{MAX_LETTERS, Name, names_tell_texts_apart};
 pub use names::{Holder, Names, RegisterError};

@@ -1,0 +1,78 @@
+//! The monitor of a process, and the groups that it is in.
+
+ghost use Rattle.std.specs.Prelude.{◌≡◌, ◌+◌, ◌<◌, ◌↔◌, ◌||◌, ◌∷◌, [], cond, false, nat_lt, IfOk, OnOk, OnErr, IsTrue};
+ghost use Rattle.std.specs.List.{list_any, IsDistinct};
+ghost use Rattle.pt_names.specs.Groups.{Places, same_group, times_in};
+
+use crate::group::Group;
+use crate::places::Table;
+use indexmap::IndexSet;
+use pt_signal::{Pid, Ref};
+use std::alloc::{AllocError, Global};
+use std::marker::Model;
+
+/// The monitor of a process, and the groups that it is in.
+#[derive(Drop)]
+pub(crate) struct Joined {
+    monitor: Ref,
+    groups: IndexSet<Group>,
+}
+
+impl Model for Joined {
+    ghost use Rattle.pt_names.specs.Groups.{Watched};
+
+    ghost Value = { Watched };
+
+    ghost view = { λ j. record { monitor = j.monitor; groups = j.groups.keys } };
+}
+
+impl Joined {
+    /// A process in one group.
+    pub(crate) fn of(alloc: Global, monitor: Ref, group: Group) -> Result<Joined, AllocError>
+        ensures { IfOk result (λ joined. joined ≡ record { monitor = monitor; groups = group ∷ [] }) }
+    {
+        let mut groups = IndexSet::new(alloc);
+        groups.insert(group)?;
+        Ok(Joined { monitor, groups })
+    }
+
+    pub(crate) fn monitor(&self) -> Ref
+        ensures { result ≡ self.now.monitor }
+    {
+        self.monitor
+    }
+
+    /// The groups, each once.
+    pub(crate) fn groups(&self) -> &[Group]
+        ensures same { result.now ≡ self.now.groups }
+        ensures distinct { IsDistinct same_group result.now }
+    {
+        self.groups.as_slice()
+    }
+
+    /// Notes that the process is in the group so often, here and in the table. Both stay as they are if there is no memory,
+    /// which is needed only if the process was not in the group.
+    pub(crate) fn join(
+        &mut self,
+        table: &mut Table,
+        group: Group,
+        pid: Pid,
+        times: u64,
+    ) -> Result<Ref, AllocError> {
+        if times > 1 {
+            table.set(group, pid, times)?;
+            return Ok(self.monitor);
+        }
+        self.groups.reserve(1)?;
+        table.set(group, pid, times)?;
+        // There is room for it.
+        let _ = self.groups.insert(group);
+        Ok(self.monitor)
+    }
+
+    /// Removes the group, and returns whether none is left.
+    pub(crate) fn leave(&mut self, group: Group) -> bool {
+        let _ = self.groups.swap_remove(&group);
+        self.groups.is_empty()
+    }
+}
