@@ -1,3 +1,4 @@
 -- The lemmas that more than one function of the crate uses.
 pub mod Sound
 pub mod Naming
+pub mod Grouped

@@ -1,5 +1,6 @@
 -- What each call of groups does.
-use Rattle.std.specs.Prelude.{◌≡◌, ℕ, ◌+◌, ◌-◌, ◌^◌, ◌<◌, cond, Bool, false, [], Option, Some, None, unwrap_or, Result, Ok, Err}
+use Rattle.std.specs.Prelude.{◌≡◌, ℕ, ◌+◌, ◌-◌, ◌^◌, ◌<◌, false, [], Option, Some, None, unwrap_or, Result, Ok, Err}
+use Rattle.std.specs.declared.alloc.AllocError.{AllocError}
 use Rattle.pt_signal.specs.declared.pid.Pid.{Pid}
 use Rattle.pt_signal.specs.declared.ids.Ref.{Ref}
 use Rattle.pt_signal.specs.Values.{same_pid}
@@ -8,7 +9,7 @@ use Rattle.pt_names.specs.declared.group.JoinError.{JoinError}
 use Rattle.pt_names.specs.declared.group.JoinError.TheVariants.{Full, Memory}
 use Rattle.pt_names.specs.declared.group.Left.{Left}
 use Rattle.pt_names.specs.declared.group.Left.TheVariants.{NotThere, Stays, Last}
-use Rattle.pt_names.specs.Groups.{GroupsState, Places, counts_in, times_of, watched_of, monitor_of, same_group}
+use Rattle.pt_names.specs.Groups.{GroupsState, Places, counts_at, times_of, watched_of, monitor_of}
 
 -- no process is in a group
 abbrev pub AreNone : GroupsState → Type 0
@@ -16,20 +17,25 @@ AreNone s = (s.placed ≡ []) × (s.watched ≡ [])
 
 -- the process is this often in this group, and has this monitor, or none; all else is as it was: the other processes of the
 -- group, the other groups, and the monitors and the groups of the other processes
-pub record GroupsChange (g : Group) (p : Pid) (times : ℕ) (monitor : Option Ref) (old new : GroupsState) : Type 0 where
-  pub places : Places g p times old.placed new.placed
-  pub monitor : monitor_of new p ≡ monitor
+pub record GroupsChange (g : Group) (p : Pid) (n : ℕ) (m : Option Ref) (old new : GroupsState) : Type 0 where
+  pub places : Places g p n old.placed new.placed
+  pub monitor : monitor_of new p ≡ m
   pub processes : (q : Pid) → same_pid p q ≡ false → watched_of new q ≡ watched_of old q
 
 -- as often as a process can be in a group
 abbrev pub most_times : ℕ
 most_times = 2 ^ 64 - 1
 
+-- what a call that finds memory does, and one that finds none
+abbrev pub Enters : Group → Pid → Ref → GroupsState → Result Ref AllocError → GroupsState → Type 0
+Enters g p m old (Ok kept) new =
+    (kept ≡ unwrap_or (monitor_of old p) m) × GroupsChange g p (times_of old g p + 1) (Some kept) old new
+Enters g p m old (Err e) new = (times_of old g p ≡ 0) × (new ≡ old)
+
 -- the process is in the group once more; its monitor is the one that it had, or else this one
 abbrev pub JoinsGroup : Group → Pid → Ref → GroupsState → Result Ref JoinError → GroupsState → Type 0
 JoinsGroup g p m old (Ok kept) new =
-    (times_of old g p < most_times) × (kept ≡ unwrap_or (monitor_of old p) m)
-    × GroupsChange g p (times_of old g p + 1) (Some kept) old new
+    (times_of old g p < most_times) × Enters g p m old (Ok kept) new
 JoinsGroup g p m old (Err Full) new = (times_of old g p ≡ most_times) × (new ≡ old)
 JoinsGroup g p m old (Err Memory) new = (times_of old g p ≡ 0) × (new ≡ old)
 
@@ -48,7 +54,7 @@ pub record IsInNone (p : Pid) (old new : GroupsState) : Type 0 where
   pub gone : (g : Group) → times_of new g p ≡ 0
   pub monitor : monitor_of new p ≡ None
   pub times : (g : Group) (q : Pid) → same_pid p q ≡ false → times_of new g q ≡ times_of old g q
-  pub groups : (g : Group) → times_of old g p ≡ 0 → counts_in new.placed g ≡ counts_in old.placed g
+  pub groups : (g : Group) → times_of old g p ≡ 0 → counts_at new.placed g ≡ counts_at old.placed g
   pub processes : (q : Pid) → same_pid p q ≡ false → watched_of new q ≡ watched_of old q
 
 -- the monitor of a process that was in a group is returned

@@ -1,5 +1,5 @@
 -- Groups of processes as their callers see them.
-use Rattle.std.specs.Prelude.{◌≡◌, ℕ, ◌==◌, nat_lt, Bool, cond, List, [], Option, Some, unwrap_or}
+use Rattle.std.specs.Prelude.{◌≡◌, ℕ, ◌==◌, nat_lt, Bool, true, false, cond, List, [], Option, Some, unwrap_or}
 use Rattle.std.specs.List.{list_any}
 use Rattle.std.specs.Map.{lookup, keys_of}
 use Rattle.std.specs.Option.{option_map, option_map_or}
@@ -31,20 +31,28 @@ SetsCount p n old new = (q : Pid) → count_of new q ≡ cond (same_pid p q) n (
 abbrev pub Placed : Type 0
 Placed = List (Group × Counts)
 
+abbrev pub counts_at : Placed → Group → Option Counts
+counts_at placed g = lookup (same_group g) placed
+
 abbrev pub counts_in : Placed → Group → Counts
-counts_in placed g = unwrap_or (lookup (same_group g) placed) []
+counts_in placed g = unwrap_or (counts_at placed g) []
 
 abbrev pub times_in : Placed → Group → Pid → ℕ
 times_in placed g p = count_of (counts_in placed g) p
 
 -- no group is listed that has no member
 abbrev pub NoneIsEmpty : Placed → Type 0
-NoneIsEmpty placed = (g : Group) → lookup (same_group g) placed ≡ Some [] → ⊥
+NoneIsEmpty placed = (g : Group) → counts_at placed g ≡ Some [] → ⊥
 
 -- the process is this often in the group, each other one as often as before, and the other groups are as they were
 pub record Places (g : Group) (p : Pid) (n : ℕ) (old new : Placed) : Type 0 where
   pub times : SetsCount p n (counts_in old g) (counts_in new g)
-  pub others : (h : Group) → same_group g h ≡ false → counts_in new h ≡ counts_in old h
+  pub others : (h : Group) → same_group g h ≡ false → counts_at new h ≡ counts_at old h
+
+-- the process is in none of these groups, and all else is as it was
+pub record Clears (groups : List Group) (p : Pid) (old new : Placed) : Type 0 where
+  pub cleared : (g : Group) → list_any (same_group g) groups ≡ true → SetsCount p 0 (counts_in old g) (counts_in new g)
+  pub others : (g : Group) → list_any (same_group g) groups ≡ false → counts_at new g ≡ counts_at old g
 
 -- the monitor that reports the exit of a process, and the groups that it is in, each once
 pub record Watched : Type 0 where

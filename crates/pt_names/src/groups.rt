@@ -1,10 +1,15 @@
 //! Which process is in which group.
 
-ghost use Rattle.std.specs.Prelude.{◌≡◌, length};
+ghost use Rattle.std.specs.Prelude.{◌≡◌, ◌+◌, length, None};
 ghost use Rattle.std.specs.List.{list_any, IsDistinct};
 ghost use Rattle.pt_signal.specs.Values.{same_pid};
-ghost use Rattle.pt_names.specs.Groups.{groups_of, is_in, members_of, monitor_of, same_group, times_of};
-ghost use Rattle.pt_names.specs.Grouping.{AreNone, JoinsGroup, LeavesAll, LeavesGroup};
+ghost use Rattle.pt_names.specs.Groups.{Clears, groups_of, is_in, members_of, monitor_of, same_group, times_of, watched_of};
+ghost use Rattle.pt_names.specs.Grouping.{AreNone, Enters, JoinsGroup, LeavesAll, LeavesGroup};
+ghost use Rattle.std.specs.Prelude.{◌≡◌, ◌+◌, length, None};
+ghost use Rattle.std.specs.List.{list_any, IsDistinct};
+ghost use Rattle.pt_signal.specs.Values.{same_pid};
+ghost use Rattle.pt_names.specs.Groups.{Clears, groups_of, is_in, members_of, monitor_of, same_group, times_of, watched_of};
+ghost use Rattle.pt_names.specs.Grouping.{AreNone, Enters, JoinsGroup, LeavesAll, LeavesGroup};
 
 use crate::group::{Group, JoinError, Left};
 use crate::places::Table;
@@ -106,18 +111,28 @@ impl Groups {
         if times == u64::MAX {
             return Err(JoinError::Full);
         }
-        let joined = match self.watched.get_mut(&pid) {
-            Some(joined) => joined.join(&mut self.table, group, pid, times + 1),
-            None => self.begin(group, pid, monitor),
-        };
-        match joined {
+        match self.enter(group, pid, monitor, times + 1) {
             Ok(kept) => Ok(kept),
-            Err(AllocError) => Err(JoinError::Memory),
+            Err(_) => Err(JoinError::Memory),
+        }
+    }
+
+    /// Adds a process to a group, in which it is so often then.
+    fn enter(&mut self, group: Group, pid: Pid, monitor: Ref, times: u64) -> Result<Ref, AllocError>
+        requires { times ≡ times_of self.old group pid + 1 }
+        ensures { Enters group pid monitor self.old result self.new }
+    {
+        match self.watched.get_mut(&pid) {
+            Some(joined) => joined.join(&mut self.table, group, pid, times),
+            None => self.begin(group, pid, monitor),
         }
     }
 
     /// Adds a process that is in no group yet.
-    fn begin(&mut self, group: Group, pid: Pid, monitor: Ref) -> Result<Ref, AllocError> {
+    fn begin(&mut self, group: Group, pid: Pid, monitor: Ref) -> Result<Ref, AllocError>
+        requires { watched_of self.old pid ≡ None }
+        ensures { Enters group pid monitor self.old result self.new }
+    {
         let joined = Joined::of(self.alloc, monitor, group)?;
         self.watched.reserve(1)?;
         self.table.set(group, pid, 1)?;
@@ -143,7 +158,10 @@ impl Groups {
     }
 
     /// Takes a process out of a group in which it is once.
-    fn leave_group(&mut self, group: Group, pid: Pid) -> Left {
+    fn leave_group(&mut self, group: Group, pid: Pid) -> Left
+        requires { times_of self.old group pid ≡ 1 }
+        ensures { LeavesGroup group pid self.old result self.new }
+    {
         let Some(joined) = self.watched.get_mut(&pid) else {
             return Left::NotThere;
         };
@@ -169,7 +187,9 @@ impl Groups {
 }
 
 /// Takes the process out of each of the groups.
-fn clear(table: &mut Table, groups: &[Group], pid: Pid) {
+fn clear(table: &mut Table, groups: &[Group], pid: Pid)
+    ensures { Clears groups.now pid table.old table.new }
+{
     for group in groups {
         table.remove(*group, pid);
     }

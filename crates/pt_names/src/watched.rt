@@ -1,6 +1,6 @@
 //! The monitor of a process, and the groups that it is in.
 
-ghost use Rattle.std.specs.Prelude.{◌≡◌, ◌+◌, ◌<◌, ◌↔◌, ◌||◌, ◌∷◌, [], cond, false, nat_lt, IfOk, OnOk, OnErr, IsTrue};
+ghost use Rattle.std.specs.Prelude.{◌≡◌, ◌+◌, ◌↔◌, ◌∷◌, [], cond, true, false, nat_lt, IfOk, OnOk, OnErr, IsTrue};
 ghost use Rattle.std.specs.List.{list_any, IsDistinct};
 ghost use Rattle.pt_names.specs.Groups.{Places, same_group, times_in};
 
@@ -58,7 +58,16 @@ impl Joined {
         group: Group,
         pid: Pid,
         times: u64,
-    ) -> Result<Ref, AllocError> {
+    ) -> Result<Ref, AllocError>
+        requires next { times ≡ times_in table.old group pid + 1 }
+        requires agree { list_any (same_group group) self.old.groups ≡ nat_lt 0 (times_in table.old group pid) }
+        ensures monitor { self.new.monitor ≡ self.old.monitor }
+        ensures kept { IfOk result (λ kept. kept ≡ self.old.monitor) }
+        ensures places { OnOk result (Places group pid times table.old table.new) }
+        ensures groups { OnOk result ((g : Group) → list_any (same_group g) self.new.groups
+            ≡ cond (same_group group g) true (list_any (same_group g) self.old.groups)) }
+        ensures same { OnErr result ((self.new ≡ self.old) × (table.new ≡ table.old) × (times ≡ 1)) }
+    {
         if times > 1 {
             table.set(group, pid, times)?;
             return Ok(self.monitor);
@@ -71,7 +80,12 @@ impl Joined {
     }
 
     /// Removes the group, and returns whether none is left.
-    pub(crate) fn leave(&mut self, group: Group) -> bool {
+    pub(crate) fn leave(&mut self, group: Group) -> bool
+        ensures monitor { self.new.monitor ≡ self.old.monitor }
+        ensures groups { (g : Group) → list_any (same_group g) self.new.groups
+            ≡ cond (same_group group g) false (list_any (same_group g) self.old.groups) }
+        ensures empty { IsTrue result ↔ (self.new.groups ≡ []) }
+    {
         let _ = self.groups.swap_remove(&group);
         self.groups.is_empty()
     }

@@ -1,0 +1,192 @@
+-- The two lists of groups stay in agreement.
+use Rattle.std.proofs.Common.{◌≡◌, ℕ, zero, suc, nat_lt, ◌<◌, cond, Bool, true, false, Option, Some, None, is_some, IsSome, unwrap_or, List, [], ◌∷◌, refl, sym, ap, subst, ◌∙◌, arith, Result, Ok, Err, OnOk, OnErr, IfOk, ◌+◌}
+use Rattle.std.specs.Map.{lookup, keys_of, set_value}
+use Rattle.std.specs.List.{list_any, IsDistinct}
+use Rattle.std.specs.Option.{option_map, option_map_or}
+use Rattle.std.specs.declared.alloc.AllocError.{AllocError}
+use Rattle.std.proofs.lemmas.Bool.{eqb-true, eq-eqb, lt-ltb, ltb-true, ltb-false}
+use Rattle.std.proofs.lemmas.Map.Made.{is_some-lookup}
+use Rattle.std.proofs.lemmas.Map.Steps.{set_value_same}
+use Rattle.pt_signal.specs.declared.pid.Pid.{Pid}
+use Rattle.pt_signal.specs.declared.ids.Ref.{Ref}
+use Rattle.pt_signal.specs.Values.{same_pid}
+use Rattle.pt_signal.proofs.Same.{same_pid_refl, same_pid_is}
+use Rattle.pt_names.specs.declared.group.Group.{Group}
+use Rattle.pt_names.specs.Groups.{same_group, Counts, AreCounted, SetsCount, count_of, Placed, counts_at, counts_in, times_in, NoneIsEmpty, Places}
+use Rattle.pt_names.specs.Groups.{Watched, GroupsState, times_of, watched_of, monitor_of, groups_of, is_in, AreKept}
+use Rattle.pt_names.specs.Grouping.{GroupsChange, Enters}
+
+pub same_group_is : (g h : Group) → same_group g h ≡ true → g ≡ h
+same_group_is g h e = let n = eqb-true g.0 h.0 e in λ i. record { 0 = n i }
+
+pub same_group_refl : (g : Group) → same_group g g ≡ true
+same_group_refl g = eq-eqb g.0 g.0 refl
+
+-- whichever it is of two
+pub by_test : {X : Type 0} (P : X → Type 0) (b : Bool) (x y : X) → (b ≡ true → P x) → (b ≡ false → P y) → P (cond b x y)
+by_test P true x y h k = h refl
+by_test P false x y h k = k refl
+
+pub none_distinct : {K : Type 0} (eq : K → K → Bool) → IsDistinct eq []
+unfolding IsDistinct
+none_distinct eq = tt
+
+counted : (o : Option ℕ) → (o ≡ Some 0 → ⊥) → is_some o ≡ nat_lt 0 (unwrap_or o 0)
+counted None h = refl
+counted (Some zero) h = absurd (h refl)
+counted (Some (suc n)) h = sym (lt-ltb 0 (suc n) (omega arith))
+
+-- who is listed is there once at least
+pub listed_counted : (counts : Counts) → AreCounted counts → (p : Pid) → list_any (same_pid p) (keys_of counts) ≡ nat_lt 0 (count_of counts p)
+listed_counted counts all p = sym (is_some-lookup (same_pid p) counts) ∙ counted (lookup (same_pid p) counts) (all p)
+
+some_is : {X : Type 0} (x y : X) → Some x ≡ Some y → x ≡ y
+some_is x y e = cc
+
+-- no group is empty where one was put, or taken out
+pub none_empty : (g : Group) (old new : Placed) (w : Option Counts) → NoneIsEmpty old → (w ≡ Some [] → ⊥)
+    → ((h : Group) → counts_at new h ≡ cond (same_group g h) w (counts_at old h)) → NoneIsEmpty new
+none_empty g old new w sound filled puts h is =
+    by_test (λ o. o ≡ Some [] → ⊥) (same_group g h) w (counts_at old h) (λ same. filled) (λ other. sound h) (sym (puts h) ∙ is)
+
+-- who is there leaves a group that is not empty
+pub not_empty : (p : Pid) (n : ℕ) (old new : Counts) → 0 < n → SetsCount p n old new → Some new ≡ Some [] → ⊥
+not_empty p n old new more sets is =
+    let none : count_of new p ≡ 0 = ap (λ c. count_of c p) (some_is new [] is) in
+    let some : count_of new p ≡ n = sets p ∙ ap (λ b. cond b n (count_of old p)) (same_pid_refl p) in
+    absurd (omega (arith, none, some, more))
+
+-- the group has what the map has there, and each other group what it had
+pub at_own : (g : Group) (p : Pid) (n : ℕ) (old new : Placed) → Places g p n old new → (h : Group)
+    → counts_at new h ≡ cond (same_group g h) (counts_at new g) (counts_at old h)
+at_own g p n old new places h = go (same_group g h) refl
+  where
+    go : (b : Bool) → same_group g h ≡ b → counts_at new h ≡ cond b (counts_at new g) (counts_at old h)
+    go true e = ap (counts_at new) (sym (same_group_is g h e))
+    go false e = places.others h e
+
+-- an empty group is taken out
+pub taken_out : (g : Group) (p : Pid) (old mid new : Placed) → NoneIsEmpty old → Places g p 0 old mid
+    → ((h : Group) → counts_at new h ≡ cond (same_group g h) None (counts_at mid h)) → NoneIsEmpty new
+taken_out g p old mid new sound places takes = none_empty g old new None sound (λ e. cc) all
+  where
+    all : (h : Group) → counts_at new h ≡ cond (same_group g h) None (counts_at old h)
+    all h = takes h ∙ go (same_group g h) refl
+      where
+        go : (b : Bool) → same_group g h ≡ b → cond b None (counts_at mid h) ≡ cond b None (counts_at old h)
+        go true e = refl
+        go false e = places.others h e
+
+-- and a group that is not empty stays
+pub stays : (g : Group) (p : Pid) (old new : Placed) → NoneIsEmpty old → Places g p 0 old new → (counts_in new g ≡ [] → ⊥) → NoneIsEmpty new
+stays g p old new sound places filled =
+    none_empty g old new (counts_at new g) sound (λ e. filled (ap (λ o. unwrap_or o []) e)) (at_own g p 0 old new places)
+
+-- what was written back, if the call that wrote it may have failed and left it as it was
+pub set_filled : {E : Type 0} (P : Type 0) (r : Result (Unit {0}) E) (p : Pid) (n : ℕ) (old new : Counts) → 0 < n → OnOk r (SetsCount p n old new)
+    → OnErr r ((new ≡ old) × P) → (Some old ≡ Some [] → ⊥) → Some new ≡ Some [] → ⊥
+set_filled P (Ok u) p n old new more sets same filled = not_empty p n old new more sets
+set_filled P (Err e) p n old new more sets same filled = λ h. filled (ap Some (sym same.0) ∙ h)
+
+pub on_err : {A E : Type 0} (P Q : Type 0) (r : Result A E) → (P → Q) → OnErr r P → OnErr r Q
+on_err P Q (Ok u) f h = tt
+on_err P Q (Err e) f h = f h
+
+pub is_there : {X : Type 0} (o : Option X) (x : X) → Some x ≡ o → IsSome o
+is_there None x h = absurd (cc)
+is_there (Some y) x h = refl
+
+-- how often each process is in each group, where that of one has changed
+module _ (g : Group) (p : Pid) (n : ℕ) (old new : Placed) (places : Places g p n old new) where
+  times_here : (q : Pid) → same_pid p q ≡ true → times_in new g q ≡ n
+  times_here q e = places.times q ∙ ap (λ b. cond b n (times_in old g q)) e
+
+  pub times_there : (h : Group) (q : Pid) → same_pid p q ≡ false → times_in new h q ≡ times_in old h q
+  times_there h q e = go (same_group g h) refl
+    where
+      go : (b : Bool) → same_group g h ≡ b → times_in new h q ≡ times_in old h q
+      go true same = subst (λ k. times_in new k q ≡ times_in old k q) (same_group_is g h same) (places.times q ∙ ap (λ b. cond b n (times_in old g q)) e)
+      go false other = ap (λ o. count_of (unwrap_or o []) q) (places.others h other)
+
+-- the groups of a process
+abbrev pub groups_in : Option Watched → List Group
+groups_in o = option_map_or (λ w. w.groups) o []
+
+module _ (old new : GroupsState) (kept : AreKept old) (p : Pid) (o : Option Watched)
+    (puts : (q : Pid) → watched_of new q ≡ cond (same_pid p q) o (watched_of old q)) where
+  has : (q : Pid) (b : Bool) → same_pid p q ≡ b → watched_of new q ≡ cond b o (watched_of old q)
+  has q b e = puts q ∙ ap (λ c. cond c o (watched_of old q)) e
+
+  still_watched : ((w : Watched) → o ≡ Some w → w.groups ≡ [] → ⊥) → (q : Pid) (w : Watched) → watched_of new q ≡ Some w → w.groups ≡ [] → ⊥
+  still_watched filled q w is = by_test (λ x. x ≡ Some w → w.groups ≡ [] → ⊥) (same_pid p q) o (watched_of old q) (λ same. filled w) (λ other. kept.watched q w) (sym (puts q) ∙ is)
+
+  -- where a process is in a group as often as its list says
+  pub kept_after : (g : Group) (n : ℕ) → Places g p n old.placed new.placed
+      → ((h : Group) → list_any (same_group h) (groups_in o) ≡ cond (same_group g h) (nat_lt 0 n) (list_any (same_group h) (groups_of old p)))
+      → ((w : Watched) → o ≡ Some w → w.groups ≡ [] → ⊥) → AreKept new
+  kept_after g n places groups filled = record { agree = λ h q. go h q (same_pid p q) refl; watched = still_watched filled }
+    where
+      own : (h : Group) (b : Bool) → same_group g h ≡ b → list_any (same_group h) (groups_in o) ≡ nat_lt 0 (times_in new.placed h p)
+      own h true e =
+          groups h ∙ ap (λ b. cond b (nat_lt 0 n) (list_any (same_group h) (groups_of old p))) e
+          ∙ ap (nat_lt 0) (subst (λ k. n ≡ times_in new.placed k p) (same_group_is g h e) (sym (times_here g p n old.placed new.placed places p (same_pid_refl p))))
+      own h false e =
+          groups h ∙ ap (λ b. cond b (nat_lt 0 n) (list_any (same_group h) (groups_of old p))) e ∙ kept.agree h p
+          ∙ ap (λ x. nat_lt 0 (count_of (unwrap_or x []) p)) (sym (places.others h e))
+
+      go : (h : Group) (q : Pid) (b : Bool) → same_pid p q ≡ b → list_any (same_group h) (groups_of new q) ≡ is_in new h q
+      go h q true e =
+          ap (λ x. list_any (same_group h) (groups_in x)) (has q true e) ∙ own h (same_group g h) refl
+          ∙ ap (λ r. nat_lt 0 (times_in new.placed h r)) (same_pid_is p q e)
+      go h q false e =
+          ap (λ x. list_any (same_group h) (groups_in x)) (has q false e) ∙ kept.agree h q
+          ∙ ap (nat_lt 0) (sym (times_there g p n old.placed new.placed places h q e))
+
+  pub changed : (g : Group) (n : ℕ) → Places g p n old.placed new.placed → GroupsChange g p n (option_map (λ w. w.monitor) o) old new
+  changed g n places = record {
+    places = places;
+    monitor = ap (option_map (λ w. w.monitor)) (has p true (same_pid_refl p));
+    processes = λ q e. has q false e;
+  }
+
+-- a process that joins -------------------------------------------------------------------
+
+in_list : (xs : List Group) (g : Group) → list_any (same_group g) xs ≡ true → xs ≡ [] → ⊥
+in_list xs g has none = absurd (let e : true ≡ false = sym has ∙ ap (list_any (same_group g)) none in cc)
+
+module _ (g : Group) (p : Pid) (m : Ref) (n : ℕ) (was «is» : Watched) (old new : GroupsState) (next : n ≡ times_of old g p + 1)
+    (had : Some was ≡ watched_of old p) (monitor : «is».monitor ≡ was.monitor)
+    (written : new.watched ≡ set_value (same_pid p) old.watched «is»)
+    (puts : (q : Pid) → watched_of new q ≡ cond (same_pid p q) (Some «is») (watched_of old q)) where
+  unchanged : «is» ≡ was → new.placed ≡ old.placed → new ≡ old
+  unchanged same placed =
+      let watched = written ∙ ap (set_value (same_pid p) old.watched) same ∙ set_value_same (same_pid p) old.watched was (sym had) in
+      λ i. record { placed = placed i; watched = watched i }
+
+  pub enters : (r : Result Ref AllocError) → AreKept old → IfOk r (λ k. k ≡ was.monitor) → OnOk r (Places g p n old.placed new.placed)
+      → OnErr r ((«is» ≡ was) × (new.placed ≡ old.placed) × (n ≡ 1)) → Enters g p m old r new
+  enters (Ok k) kept its places same = (
+    its ∙ ap (λ o. unwrap_or (option_map (λ w. w.monitor) o) m) had,
+    subst (λ (x : Option Ref). GroupsChange g p (times_of old g p + 1) x old new) (ap Some (monitor ∙ sym its))
+        (subst (λ x. GroupsChange g p x (Some «is».monitor) old new) next (changed old new kept p (Some «is») puts g n places)),
+  )
+  enters (Err e) kept its places same = (omega (arith, next, same.2), unchanged same.0 same.1)
+
+  pub entered : (r : Result Ref AllocError) → AreKept old → OnOk r (Places g p n old.placed new.placed)
+      → OnOk r ((h : Group) → list_any (same_group h) «is».groups ≡ cond (same_group g h) true (list_any (same_group h) was.groups))
+      → OnErr r ((«is» ≡ was) × (new.placed ≡ old.placed) × (n ≡ 1)) → AreKept new
+  entered (Ok k) kept places groups same = kept_after old new kept p (Some «is») puts g n places all (λ w e. in_list w.groups g (own w e))
+    where
+      more : true ≡ nat_lt 0 n
+      more = sym (lt-ltb 0 n (omega (arith, next)))
+
+      all : (h : Group) → list_any (same_group h) «is».groups ≡ cond (same_group g h) (nat_lt 0 n) (list_any (same_group h) (groups_of old p))
+      all h =
+          groups h ∙ ap (λ b. cond (same_group g h) b (list_any (same_group h) was.groups)) more
+          ∙ ap (λ o. cond (same_group g h) (nat_lt 0 n) (list_any (same_group h) (groups_in o))) had
+
+      own : (w : Watched) → Some «is» ≡ Some w → list_any (same_group g) w.groups ≡ true
+      own w e =
+          ap (λ (x : Watched). list_any (same_group g) x.groups) (sym (some_is «is» w e)) ∙ groups g
+          ∙ ap (λ b. cond b true (list_any (same_group g) was.groups)) (same_group_refl g)
+  entered (Err e) kept places groups same = subst AreKept (sym (unchanged same.0 same.1)) kept
