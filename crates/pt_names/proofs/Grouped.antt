@@ -1,10 +1,11 @@
 -- The two lists of groups stay in agreement.
-use Rattle.std.proofs.Common.{◌≡◌, ℕ, zero, suc, nat_lt, ◌<◌, cond, Bool, true, false, Option, Some, None, is_some, IsSome, unwrap_or, List, [], ◌∷◌, refl, sym, ap, subst, ◌∙◌, arith, Result, Ok, Err, OnOk, OnErr, IfOk, ◌+◌}
+use Rattle.std.proofs.Common.{◌≡◌, ℕ, zero, suc, nat_lt, ◌<◌, ◌-◌, cond, ◌||◌, Bool, true, false, Option, Some, None, is_some, IsSome, unwrap_or, List, [], ◌∷◌, ◌++◌, refl, sym, ap, subst, ◌∙◌, arith, Result, Ok, Err, OnOk, OnErr, IfOk, ◌+◌}
 use Rattle.std.specs.Map.{lookup, keys_of, set_value}
 use Rattle.std.specs.List.{list_any, IsDistinct}
 use Rattle.std.specs.Option.{option_map, option_map_or}
 use Rattle.std.specs.declared.alloc.AllocError.{AllocError}
 use Rattle.std.proofs.lemmas.Bool.{eqb-true, eq-eqb, lt-ltb, ltb-true, ltb-false}
+use Rattle.std.proofs.lemmas.List.Folds.{list_any-append}
 use Rattle.std.proofs.lemmas.Map.Made.{is_some-lookup}
 use Rattle.std.proofs.lemmas.Map.Steps.{set_value_same}
 use Rattle.pt_signal.specs.declared.pid.Pid.{Pid}
@@ -12,20 +13,18 @@ use Rattle.pt_signal.specs.declared.ids.Ref.{Ref}
 use Rattle.pt_signal.specs.Values.{same_pid}
 use Rattle.pt_signal.proofs.Same.{same_pid_refl, same_pid_is}
 use Rattle.pt_names.specs.declared.group.Group.{Group}
-use Rattle.pt_names.specs.Groups.{same_group, Counts, AreCounted, SetsCount, count_of, Placed, counts_at, counts_in, times_in, NoneIsEmpty, Places}
+use Rattle.pt_names.specs.declared.group.Left.TheVariants.{Stays}
+use Rattle.pt_names.specs.Groups.{same_group, Counts, AreCounted, SetsCount, count_of, Placed, counts_at, counts_in, times_in, NoneIsEmpty, Places, Clears}
 use Rattle.pt_names.specs.Groups.{Watched, GroupsState, times_of, watched_of, monitor_of, groups_of, is_in, AreKept}
-use Rattle.pt_names.specs.Grouping.{GroupsChange, Enters}
+use Rattle.pt_names.specs.Grouping.{GroupsChange, Enters, LeavesGroup}
+use Rattle.pt_names.proofs.Sound.{by_test}
+use Rattle.pt_names.proofs.Naming.{some_is, both}
 
 pub same_group_is : (g h : Group) → same_group g h ≡ true → g ≡ h
 same_group_is g h e = let n = eqb-true g.0 h.0 e in λ i. record { 0 = n i }
 
 pub same_group_refl : (g : Group) → same_group g g ≡ true
 same_group_refl g = eq-eqb g.0 g.0 refl
-
--- whichever it is of two
-pub by_test : {X : Type 0} (P : X → Type 0) (b : Bool) (x y : X) → (b ≡ true → P x) → (b ≡ false → P y) → P (cond b x y)
-by_test P true x y h k = h refl
-by_test P false x y h k = k refl
 
 pub none_distinct : {K : Type 0} (eq : K → K → Bool) → IsDistinct eq []
 unfolding IsDistinct
@@ -39,9 +38,6 @@ counted (Some (suc n)) h = sym (lt-ltb 0 (suc n) (omega arith))
 -- who is listed is there once at least
 pub listed_counted : (counts : Counts) → AreCounted counts → (p : Pid) → list_any (same_pid p) (keys_of counts) ≡ nat_lt 0 (count_of counts p)
 listed_counted counts all p = sym (is_some-lookup (same_pid p) counts) ∙ counted (lookup (same_pid p) counts) (all p)
-
-some_is : {X : Type 0} (x y : X) → Some x ≡ Some y → x ≡ y
-some_is x y e = cc
 
 -- no group is empty where one was put, or taken out
 pub none_empty : (g : Group) (old new : Placed) (w : Option Counts) → NoneIsEmpty old → (w ≡ Some [] → ⊥)
@@ -190,3 +186,180 @@ module _ (g : Group) (p : Pid) (m : Ref) (n : ℕ) (was «is» : Watched) (old n
           ap (λ (x : Watched). list_any (same_group g) x.groups) (sym (some_is «is» w e)) ∙ groups g
           ∙ ap (λ b. cond b true (list_any (same_group g) was.groups)) (same_group_refl g)
   entered (Err e) kept places groups same = subst AreKept (sym (unchanged same.0 same.1)) kept
+
+-- a group alone in a list
+one_listed : (g h : Group) → list_any (same_group h) (g ∷ []) ≡ cond (same_group g h) true false
+one_listed g h = or_false (same_group h g) ∙ turned ∙ sym (cond_same (same_group g h))
+  where
+    or_false : (b : Bool) → (b || false) ≡ b
+    or_false true = refl
+    or_false false = refl
+
+    cond_same : (b : Bool) → cond b true false ≡ b
+    cond_same true = refl
+    cond_same false = refl
+
+    turned : same_group h g ≡ same_group g h
+    turned = both (same_group h g) (same_group g h) (λ e. subst (λ k. same_group k h ≡ true) (same_group_is h g e) (same_group_refl h))
+        (λ e. subst (λ k. same_group k g ≡ true) (same_group_is g h e) (same_group_refl g))
+
+-- a process that was in no group
+pub begun : (g : Group) (p : Pid) (m : Ref) (w : Watched) (old new : GroupsState) → AreKept old → watched_of old p ≡ None
+    → Places g p 1 old.placed new.placed → w ≡ record { monitor = m; groups = g ∷ [] }
+    → ((q : Pid) → watched_of new q ≡ cond (same_pid p q) (Some w) (watched_of old q)) → AreKept new
+begun g p m w old new kept none places its puts = kept_after old new kept p (Some w) puts g 1 places all filled
+  where
+    listed : (h : Group) → list_any (same_group h) w.groups ≡ cond (same_group g h) true false
+    listed h = ap (λ (x : Watched). list_any (same_group h) x.groups) its ∙ one_listed g h
+
+    all : (h : Group) → list_any (same_group h) w.groups ≡ cond (same_group g h) (nat_lt 0 1) (list_any (same_group h) (groups_of old p))
+    all h = listed h ∙ ap (λ o. cond (same_group g h) true (list_any (same_group h) (groups_in o))) (sym none)
+
+    filled : (x : Watched) → Some w ≡ Some x → x.groups ≡ [] → ⊥
+    filled x e =
+        in_list x.groups g
+        (ap (λ (y : Watched). list_any (same_group g) y.groups) (sym (some_is w x e)) ∙ listed g ∙ ap (λ b. cond b true false) (same_group_refl g))
+
+-- a process that leaves -------------------------------------------------------------------
+
+-- who is in a group has a monitor
+pub has_monitor : (s : GroupsState) (g : Group) (p : Pid) → AreKept s → 0 < times_of s g p → (w : Watched) × (watched_of s p ≡ Some w)
+has_monitor s g p kept more = go (watched_of s p) refl
+  where
+    go : (o : Option Watched) → watched_of s p ≡ o → (w : Watched) × (watched_of s p ≡ Some w)
+    go (Some w) e = (w, e)
+    go None e =
+        let no : false ≡ true = sym (ap (λ o. list_any (same_group g) (groups_in o)) e) ∙ kept.agree g p ∙ lt-ltb 0 (times_of s g p) more in
+        absurd (cc)
+
+pub cannot_fail : {E : Type 0} (P Q : Type 0) (r : Result (Unit {0}) E) → OnOk r P → OnErr r Q → (Q → ⊥) → P
+cannot_fail P Q (Ok u) p q never = p
+cannot_fail P Q (Err e) p q never = absurd (never q)
+
+module _ (g : Group) (p : Pid) (old new : GroupsState) (kept : AreKept old) (more : 1 < times_of old g p)
+    (places : Places g p (times_of old g p - 1) old.placed new.placed) (watched : new.watched ≡ old.watched) where
+  same_as : (q : Pid) → watched_of new q ≡ cond (same_pid p q) (watched_of old p) (watched_of old q)
+  same_as q = ap (lookup (same_pid q)) watched ∙ go (same_pid p q) refl
+    where
+      go : (b : Bool) → same_pid p q ≡ b → watched_of old q ≡ cond b (watched_of old p) (watched_of old q)
+      go true e = ap (watched_of old) (sym (same_pid_is p q e))
+      go false e = refl
+
+  pub once_less : AreKept new
+  once_less = kept_after old new kept p (watched_of old p) same_as g (times_of old g p - 1) places all (kept.watched p)
+    where
+      all : (h : Group) → list_any (same_group h) (groups_of old p)
+          ≡ cond (same_group g h) (nat_lt 0 (times_of old g p - 1)) (list_any (same_group h) (groups_of old p))
+      all h = go (same_group g h) refl
+        where
+          go : (b : Bool) → same_group g h ≡ b → list_any (same_group h) (groups_of old p)
+              ≡ cond b (nat_lt 0 (times_of old g p - 1)) (list_any (same_group h) (groups_of old p))
+          go true e =
+              kept.agree h p ∙ ap (λ k. nat_lt 0 (times_of old k p)) (sym (same_group_is g h e))
+              ∙ lt-ltb 0 (times_of old g p) (omega (arith, more)) ∙ sym (lt-ltb 0 (times_of old g p - 1) (omega (arith, more)))
+          go false e = refl
+
+  pub leaves_once : LeavesGroup g p old Stays new
+  leaves_once =
+      let w = has_monitor old g p kept (omega (arith, more)) in
+      let m = ap (option_map (λ (x : Watched). x.monitor)) w.1 in (
+        omega (arith, more),
+        w.0.monitor,
+        m,
+        subst (λ (o : Option Ref). GroupsChange g p (times_of old g p - 1) o old new) m
+            (changed old new kept p (watched_of old p) same_as g (times_of old g p - 1) places),
+      )
+
+-- a process that leaves one of its groups for good, and then it is in another still, or in none
+module _ (g : Group) (p : Pid) (was «is» : Watched) (old new : GroupsState) (kept : AreKept old) (had : Some was ≡ watched_of old p)
+    (places : Places g p 0 old.placed new.placed)
+    (groups : (h : Group) → list_any (same_group h) «is».groups ≡ cond (same_group g h) false (list_any (same_group h) was.groups)) where
+  fewer : (h : Group) → list_any (same_group h) «is».groups ≡ cond (same_group g h) (nat_lt 0 0) (list_any (same_group h) (groups_of old p))
+  fewer h = groups h ∙ ap (λ o. cond (same_group g h) false (list_any (same_group h) (groups_in o))) had
+
+  pub left_one : ((q : Pid) → watched_of new q ≡ cond (same_pid p q) (Some «is») (watched_of old q)) → («is».groups ≡ [] → ⊥) → AreKept new
+  left_one puts filled =
+      kept_after old new kept p (Some «is») puts g 0 places fewer (λ w e. subst (λ (x : Watched). x.groups ≡ [] → ⊥) (some_is «is» w e) filled)
+
+  pub left_all : (mid : GroupsState) → ((q : Pid) → watched_of mid q ≡ cond (same_pid p q) (Some «is») (watched_of old q))
+      → ((q : Pid) → watched_of new q ≡ cond (same_pid p q) None (watched_of mid q)) → «is».groups ≡ [] → AreKept new
+  left_all mid puts takes none =
+      kept_after old new kept p None (λ q. takes q ∙ ap (cond (same_pid p q) None) (puts q) ∙ again (same_pid p q) q) g 0 places
+      (λ h. ap (list_any (same_group h)) (sym none) ∙ fewer h) (λ w e. absurd (cc))
+    where
+      again : (b : Bool) (q : Pid) → cond b None (cond b (Some «is») (watched_of old q)) ≡ cond b None (watched_of old q)
+      again true q = refl
+      again false q = refl
+
+-- a process that leaves all its groups ----------------------------------------------------------
+
+pub cleared_none : (p : Pid) (placed : Placed) → Clears [] p placed placed
+cleared_none p placed = record { cleared = λ g e. absurd (cc); others = λ g e. refl }
+
+pub cleared_one : (xs : List Group) (g : Group) (p : Pid) (old mid new : Placed) → Clears xs p old mid → Places g p 0 mid new
+    → Clears (xs ++ g ∷ []) p old new
+cleared_one xs g p old mid new before places = record { cleared = cleared; others = others }
+  where
+    listed : (h : Group) → list_any (same_group h) (xs ++ g ∷ []) ≡ (list_any (same_group h) xs || cond (same_group g h) true false)
+    listed h = list_any-append (same_group h) xs (g ∷ []) ∙ ap (λ b. list_any (same_group h) xs || b) (one_listed g h)
+
+    zero_twice : (b : Bool) (n : ℕ) → cond b 0 (cond b 0 n) ≡ cond b 0 n
+    zero_twice true n = refl
+    zero_twice false n = refl
+
+    here : (h : Group) (b : Bool) → list_any (same_group h) xs ≡ b → same_group g h ≡ true → SetsCount p 0 (counts_in old h) (counts_in new h)
+    here h true e same q =
+        subst (λ k. times_in new k q ≡ cond (same_pid p q) 0 (times_in mid k q)) (same_group_is g h same) (places.times q)
+        ∙ ap (cond (same_pid p q) 0) (before.cleared h e q) ∙ zero_twice (same_pid p q) (times_in old h q)
+    here h false e same q =
+        subst (λ k. times_in new k q ≡ cond (same_pid p q) 0 (times_in mid k q)) (same_group_is g h same) (places.times q)
+        ∙ ap (λ o. cond (same_pid p q) 0 (count_of (unwrap_or o []) q)) (before.others h e)
+
+    or_nothing : (b : Bool) → (b || false) ≡ b
+    or_nothing true = refl
+    or_nothing false = refl
+
+    cleared : (h : Group) → list_any (same_group h) (xs ++ g ∷ []) ≡ true → SetsCount p 0 (counts_in old h) (counts_in new h)
+    cleared h e = go (same_group g h) refl
+      where
+        go : (b : Bool) → same_group g h ≡ b → SetsCount p 0 (counts_in old h) (counts_in new h)
+        go true same q = here h (list_any (same_group h) xs) refl same q
+        go false other q =
+            let first : list_any (same_group h) xs ≡ true = sym (or_nothing (list_any (same_group h) xs)) ∙ sym (ap (λ b. list_any (same_group h) xs || cond b true false) other) ∙ sym (listed h) ∙ e in
+            ap (λ o. count_of (unwrap_or o []) q) (places.others h other) ∙ before.cleared h first q
+
+    others : (h : Group) → list_any (same_group h) (xs ++ g ∷ []) ≡ false → counts_at new h ≡ counts_at old h
+    others h e = go (list_any (same_group h) xs) (same_group g h) refl refl
+      where
+        go : (a b : Bool) → list_any (same_group h) xs ≡ a → same_group g h ≡ b → counts_at new h ≡ counts_at old h
+        go false false first other = places.others h other ∙ before.others h first
+        go true b first other = absurd (let no : true ≡ false = sym (ap (λ x. x || cond (same_group g h) true false) first) ∙ sym (listed h) ∙ e in cc)
+        go false true first other =
+            absurd (let no : true ≡ false = sym (ap (λ x. false || cond x true false) other) ∙ sym (ap (λ x. x || cond (same_group g h) true false) first) ∙ sym (listed h) ∙ e in cc)
+
+-- a process that has exited
+pub forgotten : (p : Pid) (w : Watched) (old new : GroupsState) → AreKept old → watched_of old p ≡ Some w
+    → Clears w.groups p old.placed new.placed → ((q : Pid) → watched_of new q ≡ cond (same_pid p q) None (watched_of old q)) → AreKept new
+forgotten p w old new kept had clears takes = record {
+  agree = λ h q. go h q (same_pid p q) refl;
+  watched = still_watched old new kept p None takes (λ x e. absurd (cc));
+}
+  where
+    none : (h : Group) (b : Bool) → list_any (same_group h) w.groups ≡ b → is_in new h p ≡ false
+    none h true e =
+        ap (nat_lt 0) (clears.cleared h e p ∙ ap (λ b. cond b 0 (times_of old h p)) (same_pid_refl p))
+    none h false e =
+        ap (λ o. nat_lt 0 (count_of (unwrap_or o []) p)) (clears.others h e) ∙ sym (kept.agree h p)
+        ∙ ap (λ o. list_any (same_group h) (groups_in o)) had ∙ e
+
+    other : (h : Group) (q : Pid) (b : Bool) → list_any (same_group h) w.groups ≡ b → same_pid p q ≡ false → is_in new h q ≡ is_in old h q
+    other h q true e apart = ap (nat_lt 0) (clears.cleared h e q ∙ ap (λ b. cond b 0 (times_of old h q)) apart)
+    other h q false e apart = ap (λ o. nat_lt 0 (count_of (unwrap_or o []) q)) (clears.others h e)
+
+    go : (h : Group) (q : Pid) (b : Bool) → same_pid p q ≡ b → list_any (same_group h) (groups_of new q) ≡ is_in new h q
+    go h q true e =
+        ap (λ o. list_any (same_group h) (groups_in o)) (has old new kept p None takes q true e)
+        ∙ sym (none h (list_any (same_group h) w.groups) refl) ∙ ap (is_in new h) (same_pid_is p q e)
+    go h q false e =
+        ap (λ o. list_any (same_group h) (groups_in o)) (has old new kept p None takes q false e) ∙ kept.agree h q
+        ∙ sym (other h q (list_any (same_group h) w.groups) refl e)

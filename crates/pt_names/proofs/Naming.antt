@@ -53,7 +53,7 @@ same_name_is a b h = let e = (bytes_eq-Decides a.letters b.letters).0 h in λ i.
 same_name_refl : (a : Name) → same_name a a ≡ true
 same_name_refl a = (bytes_eq-Decides a.letters a.letters).1 refl
 
-some_is : {X : Type 0} (x y : X) → Some x ≡ Some y → x ≡ y
+pub some_is : {X : Type 0} (x y : X) → Some x ≡ Some y → x ≡ y
 some_is x y e = cc
 
 abbrev holder : Pid → Ref → Holder
@@ -128,7 +128,7 @@ neither : {X : Type 0} (b : Bool) → cond {A = Option X} b None None ≡ None
 neither true = refl
 neither false = refl
 
-both : (b c : Bool) → (b ≡ true → c ≡ true) → (c ≡ true → b ≡ true) → b ≡ c
+pub both : (b c : Bool) → (b ≡ true → c ≡ true) → (c ≡ true → b ≡ true) → b ≡ c
 both true c to from = sym (to refl)
 both false true to from = absurd (let e : false ≡ true = from refl in cc)
 both false false to from = refl

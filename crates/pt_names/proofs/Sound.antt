@@ -23,7 +23,7 @@ same_name_refl : (a : Name) → same_name a a ≡ true
 same_name_refl a = (bytes_eq-Decides a.letters a.letters).1 refl
 
 -- whichever it is of two
-by_test : {X : Type 0} (P : X → Type 0) (b : Bool) (x y : X) → (b ≡ true → P x) → (b ≡ false → P y) → P (cond b x y)
+pub by_test : {X : Type 0} (P : X → Type 0) (b : Bool) (x y : X) → (b ≡ true → P x) → (b ≡ false → P y) → P (cond b x y)
 by_test P true x y h k = h refl
 by_test P false x y h k = k refl
 
@@ -33,7 +33,7 @@ at_true b x y h = rw h refl
 at_false : {X : Type 0} (b : Bool) (x y : X) → b ≡ false → cond b x y ≡ y
 at_false b x y h = rw h refl
 
-unless : (b : Bool) → (b ≡ true → ⊥) → b ≡ false
+pub unless : (b : Bool) → (b ≡ true → ⊥) → b ≡ false
 unless true h = absurd (h refl)
 unless false h = refl
 

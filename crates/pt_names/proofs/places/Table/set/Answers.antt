@@ -23,8 +23,9 @@ returns-in-Some-clause-same c =
     let is = c.set.new.self in
     on_err _ _ c.set.result
     (λ h. (
-    (c.get_mut.follows.holds is).0 ∙ ap (set_value (same_group c.args.group) old) h.0
-    ∙ set_value_same (same_group c.args.group) old was (sym c.in-Some.ensures.value) ∙ c.self.view_is,
-    ap (λ z. count_of (counts_in z c.args.group) c.args.pid) (sym c.self.view_is)
-    ∙ ap (λ o. count_of (unwrap_or o []) c.args.pid) (sym c.in-Some.ensures.value) ∙ h.1))
+      (c.get_mut.follows.holds is).0 ∙ ap (set_value (same_group c.args.group) old) h.0
+          ∙ set_value_same (same_group c.args.group) old was (sym c.in-Some.ensures.value) ∙ c.self.view_is,
+      ap (λ z. count_of (counts_in z c.args.group) c.args.pid) (sym c.self.view_is)
+          ∙ ap (λ o. count_of (unwrap_or o []) c.args.pid) (sym c.in-Some.ensures.value) ∙ h.1,
+    ))
     c.set.ensures.same
