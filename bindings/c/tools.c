@@ -1,4 +1,5 @@
-/* Timers and names: a process of a desk gets a message at a time, and is found by its name until it exits. */
+/* Timers, names and groups: a process of a desk gets a message at a time, is found by its name until it exits, and is in
+ * its groups until then. */
 #include <assert.h>
 #include <stdio.h>
 #include <string.h>
@@ -7,6 +8,7 @@
 
 static pt_timers timers = PT_NO_TIMERS;
 static pt_names names = PT_NO_NAMES;
+static pt_groups groups = PT_NO_GROUPS;
 
 static bool is_pid(pt_pid a, pt_pid b) {
     return a.shard == b.shard && a.slot == b.slot && a.version == b.version;
@@ -30,6 +32,12 @@ static void empty(void) {
     assert(pt_names_check(&names, "", 0, pid) == PT_EMPTY && pt_names_whereis(&names, "", 0, &pid) == PT_EMPTY);
     assert(pt_names_unregister(&names, "", 0, &holder) == PT_EMPTY && pt_names_forget(&names, pid, &name) == PT_EMPTY);
     assert(pt_names_name_of(&names, pid, &name) == PT_EMPTY && pt_names_len(&names, &count) == PT_EMPTY);
+    bool last = true;
+    assert(pt_groups_give_up(&groups) == PT_EMPTY && pt_groups_join(&groups, 1, pid, ref, &ref) == PT_EMPTY);
+    assert(pt_groups_leave(&groups, 1, pid, &last, &ref) == PT_EMPTY && last && pt_groups_forget(&groups, pid, &ref) == PT_EMPTY);
+    assert(pt_groups_monitor_of(&groups, pid, &ref) == PT_EMPTY && pt_groups_times(&groups, 1, pid, &number) == PT_EMPTY);
+    assert(pt_groups_len(&groups, 1, &count) == PT_EMPTY && pt_groups_member_at(&groups, 1, 0, &pid) == PT_EMPTY);
+    assert(pt_groups_group_at(&groups, pid, 0, &number) == PT_EMPTY && ref.desk == 0 && ref.number == 1);
     assert(timer.at == was.at && timer.number == was.number && number == 7 && count == 8);
     assert(pid.shard == 1 && pid.slot == 2 && pid.version == 3);
 }
@@ -123,6 +131,61 @@ static void naming(void) {
     assert(pt_names_len(&names, &count) == PT_OK && count == 0 && pt_give_up(&desk) == PT_OK);
 }
 
+/* A process is as often in a group as it joined less its leaves, and has the monitor of its first place until its last. */
+static void joins(pt_pid p, pt_ref monitor) {
+    pt_ref other = {7, 7}, kept;
+    pt_pid member = {9, 9, 9};
+    uint64_t number;
+    size_t count;
+    bool last;
+    assert(pt_groups_monitor_of(&groups, p, &kept) == PT_NOTHING);
+    assert(pt_groups_join(&groups, 5, p, monitor, &kept) == PT_OK && kept.number == monitor.number);
+    assert(pt_groups_join(&groups, 5, p, other, &kept) == PT_OK && kept.number == monitor.number);
+    assert(pt_groups_join(&groups, UINT64_MAX, p, other, &kept) == PT_OK && kept.number == monitor.number);
+    assert(pt_groups_times(&groups, 5, p, &number) == PT_OK && number == 2);
+    assert(pt_groups_times(&groups, 6, p, &number) == PT_OK && number == 0);
+    assert(pt_groups_group_at(&groups, p, 0, &number) == PT_OK && number == 5);
+    assert(pt_groups_group_at(&groups, p, 1, &number) == PT_OK && number == UINT64_MAX);
+    assert(pt_groups_group_at(&groups, p, 2, &number) == PT_NOTHING && number == UINT64_MAX);
+    assert(pt_groups_len(&groups, 5, &count) == PT_OK && count == 1);
+    assert(pt_groups_member_at(&groups, 5, 0, &member) == PT_OK && is_pid(member, p));
+    assert(pt_groups_member_at(&groups, 5, 1, &member) == PT_NOTHING && is_pid(member, p));
+    assert(pt_groups_leave(&groups, 6, p, &last, &other) == PT_NOTHING);
+    for (int k = 0; k < 2; k++)
+        assert(pt_groups_leave(&groups, 5, p, &last, &other) == PT_OK && !last && other.number == 7);
+    assert(pt_groups_leave(&groups, 5, p, &last, &other) == PT_NOTHING && !last && other.number == 7);
+    assert(pt_groups_leave(&groups, UINT64_MAX, p, &last, &other) == PT_OK && last && other.number == monitor.number);
+    assert(pt_groups_monitor_of(&groups, p, &kept) == PT_NOTHING && pt_groups_len(&groups, 5, &count) == PT_OK && count == 0);
+}
+
+/* The processes of a group are monitored, each once, and a DOWN takes a process out of all its groups. */
+static void grouping(void) {
+    pt_desk desk = PT_NO_DESK;
+    pt_pid keeper, line, member;
+    pt_ref monitor, kept;
+    pt_item item;
+    pt_turned turned;
+    size_t count;
+    assert(pt_open(&desk, 1, (pt_config){8, UINT32_MAX, 8, 0}) == PT_OK);
+    assert(pt_spawn(&desk, &keeper) == PT_OK && pt_spawn(&desk, &line) == PT_OK);
+    assert(pt_groups_open(&groups) == PT_OK && pt_groups_open(&groups) == PT_FILLED);
+    assert(pt_monitor(&desk, keeper, line, &monitor) == PT_OK);
+    joins(line, monitor);
+    for (uint64_t group = 1; group <= 3; group++)
+        assert(pt_groups_join(&groups, group, line, monitor, &kept) == PT_OK);
+    assert(pt_groups_join(&groups, 2, keeper, (pt_ref){3, 4}, &kept) == PT_OK && kept.number == 4);
+    assert(pt_turn(&desk, 16, &turned) == PT_OK && pt_exit(&desk, line, (pt_reason){PT_NORMAL, 0}) == PT_OK);
+    assert(pt_turn(&desk, 16, &turned) == PT_OK && turned.handled == 1);
+    assert(pt_receive(&desk, keeper, (pt_pick){.code = PT_PICK_ANY}, &item) == PT_OK && item.code == PT_ITEM_DOWN);
+    assert(pt_groups_monitor_of(&groups, item.pid, &kept) == PT_OK && kept.number == item.reference.number);
+    assert(pt_groups_forget(&groups, item.pid, &kept) == PT_OK && kept.number == monitor.number);
+    assert(pt_groups_forget(&groups, item.pid, &kept) == PT_NOTHING && kept.number == monitor.number);
+    assert(pt_groups_len(&groups, 1, &count) == PT_OK && count == 0 && pt_groups_len(&groups, 2, &count) == PT_OK && count == 1);
+    assert(pt_groups_member_at(&groups, 2, 0, &member) == PT_OK && is_pid(member, keeper));
+    printf("one member of the group is left\n");
+    assert(pt_give_up(&desk) == PT_OK);
+}
+
 /* A message at a time: the body of a timer is a number of the program's own. */
 static void messages(void) {
     pt_desk desk = PT_NO_DESK;
@@ -147,8 +210,10 @@ int main(void) {
     empty();
     timing();
     naming();
+    grouping();
     messages();
     assert(pt_timers_give_up(&timers) == PT_OK && pt_timers_give_up(&timers) == PT_EMPTY);
     assert(pt_names_give_up(&names) == PT_OK && pt_names_give_up(&names) == PT_EMPTY);
+    assert(pt_groups_give_up(&groups) == PT_OK && pt_groups_give_up(&groups) == PT_EMPTY);
     return 0;
 }

@@ -1,5 +1,5 @@
 -- The two lists of groups stay in agreement.
-use Rattle.std.proofs.Common.{◌≡◌, ℕ, zero, suc, nat_lt, ◌<◌, ◌-◌, cond, ◌||◌, Bool, true, false, Option, Some, None, is_some, IsSome, unwrap_or, List, [], ◌∷◌, ◌++◌, refl, sym, ap, subst, ◌∙◌, arith, Result, Ok, Err, OnOk, OnErr, IfOk, ◌+◌}
+use Rattle.std.proofs.Common.{◌≡◌, ℕ, zero, suc, nat_lt, ◌<◌, ◌-◌, cond, ◌||◌, Bool, true, false, Option, Some, None, is_some, IsSome, unwrap_or, List, [], ◌∷◌, ◌++◌, refl, sym, ap, subst, ◌∙◌, arith, Result, Ok, Err, OnOk, OnErr, IfOk, ◌+◌, inl}
 use Rattle.std.specs.Map.{lookup, keys_of, set_value}
 use Rattle.std.specs.List.{list_any, IsDistinct}
 use Rattle.std.specs.Option.{option_map, option_map_or}
@@ -260,15 +260,10 @@ module _ (g : Group) (p : Pid) (old new : GroupsState) (kept : AreKept old) (mor
           go false e = refl
 
   pub leaves_once : LeavesGroup g p old Stays new
-  leaves_once =
-      let w = has_monitor old g p kept (omega (arith, more)) in
-      let m = ap (option_map (λ (x : Watched). x.monitor)) w.1 in (
-        omega (arith, more),
-        w.0.monitor,
-        m,
-        subst (λ (o : Option Ref). GroupsChange g p (times_of old g p - 1) o old new) m
-            (changed old new kept p (watched_of old p) same_as g (times_of old g p - 1) places),
-      )
+  leaves_once = (
+    (omega (arith, more), inl more),
+    changed old new kept p (watched_of old p) same_as g (times_of old g p - 1) places,
+  )
 
 -- a process that leaves one of its groups for good, and then it is in another still, or in none
 module _ (g : Group) (p : Pid) (was «is» : Watched) (old new : GroupsState) (kept : AreKept old) (had : Some was ≡ watched_of old p)

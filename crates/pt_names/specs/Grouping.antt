@@ -1,5 +1,5 @@
 -- What each call of groups does.
-use Rattle.std.specs.Prelude.{◌≡◌, ℕ, ◌+◌, ◌-◌, ◌^◌, ◌<◌, false, [], Option, Some, None, unwrap_or, Result, Ok, Err}
+use Rattle.std.specs.Prelude.{◌≡◌, ◌⊎◌, ℕ, ◌+◌, ◌-◌, ◌^◌, ◌<◌, false, [], length, Option, Some, None, unwrap_or, Result, Ok, Err}
 use Rattle.std.specs.declared.alloc.AllocError.{AllocError}
 use Rattle.pt_signal.specs.declared.pid.Pid.{Pid}
 use Rattle.pt_signal.specs.declared.ids.Ref.{Ref}
@@ -9,7 +9,7 @@ use Rattle.pt_names.specs.declared.group.JoinError.{JoinError}
 use Rattle.pt_names.specs.declared.group.JoinError.TheVariants.{Full, Memory}
 use Rattle.pt_names.specs.declared.group.Left.{Left}
 use Rattle.pt_names.specs.declared.group.Left.TheVariants.{NotThere, Stays, Last}
-use Rattle.pt_names.specs.Groups.{GroupsState, Places, counts_at, times_of, watched_of, monitor_of}
+use Rattle.pt_names.specs.Groups.{GroupsState, Places, counts_at, times_of, watched_of, monitor_of, groups_of}
 
 -- no process is in a group
 abbrev pub AreNone : GroupsState → Type 0
@@ -39,14 +39,19 @@ JoinsGroup g p m old (Ok kept) new =
 JoinsGroup g p m old (Err Full) new = (times_of old g p ≡ most_times) × (new ≡ old)
 JoinsGroup g p m old (Err Memory) new = (times_of old g p ≡ 0) × (new ≡ old)
 
--- the process is in the group once less; with its last place its monitor is returned, which nothing keeps any more
+-- what a leave returns: the process is not there; it is there more than once, or in more than one group; or this is its last
+-- place, and then its monitor is returned
+abbrev pub Leaving : Group → Pid → GroupsState → Left → Type 0
+Leaving g p s NotThere = times_of s g p ≡ 0
+Leaving g p s Stays = (0 < times_of s g p) × ((1 < times_of s g p) ⊎ (1 < length (groups_of s p)))
+Leaving g p s (Last m) = (times_of s g p ≡ 1) × (length (groups_of s p) ≡ 1) × (monitor_of s p ≡ Some m)
+
+-- the process is in the group once less, and has its monitor until its last place
 abbrev pub LeavesGroup : Group → Pid → GroupsState → Left → GroupsState → Type 0
-LeavesGroup g p old NotThere new = (times_of old g p ≡ 0) × (new ≡ old)
+LeavesGroup g p old NotThere new = Leaving g p old NotThere × (new ≡ old)
 LeavesGroup g p old Stays new =
-    (0 < times_of old g p) × (m : Ref) × (monitor_of old p ≡ Some m)
-    × GroupsChange g p (times_of old g p - 1) (Some m) old new
-LeavesGroup g p old (Last m) new =
-    (times_of old g p ≡ 1) × (monitor_of old p ≡ Some m) × GroupsChange g p 0 None old new
+    Leaving g p old Stays × GroupsChange g p (times_of old g p - 1) (monitor_of old p) old new
+LeavesGroup g p old (Last m) new = Leaving g p old (Last m) × GroupsChange g p 0 None old new
 
 -- the process is in no group and has no monitor; all else is as it was: each group that it was not in, and how often each
 -- other process is in each group, its monitor and its groups

@@ -4,12 +4,12 @@ ghost use Rattle.std.specs.Prelude.{◌≡◌, ◌+◌, length, None};
 ghost use Rattle.std.specs.List.{list_any, IsDistinct};
 ghost use Rattle.pt_signal.specs.Values.{same_pid};
 ghost use Rattle.pt_names.specs.Groups.{Clears, groups_of, is_in, members_of, monitor_of, same_group, times_of, watched_of};
-ghost use Rattle.pt_names.specs.Grouping.{AreNone, Enters, JoinsGroup, LeavesAll, LeavesGroup};
+ghost use Rattle.pt_names.specs.Grouping.{AreNone, Enters, JoinsGroup, LeavesAll, Leaving, LeavesGroup};
 ghost use Rattle.std.specs.Prelude.{◌≡◌, ◌+◌, length, None};
 ghost use Rattle.std.specs.List.{list_any, IsDistinct};
 ghost use Rattle.pt_signal.specs.Values.{same_pid};
 ghost use Rattle.pt_names.specs.Groups.{Clears, groups_of, is_in, members_of, monitor_of, same_group, times_of, watched_of};
-ghost use Rattle.pt_names.specs.Grouping.{AreNone, Enters, JoinsGroup, LeavesAll, LeavesGroup};
+ghost use Rattle.pt_names.specs.Grouping.{AreNone, Enters, JoinsGroup, LeavesAll, Leaving, LeavesGroup};
 
 use crate::group::{Group, JoinError, Left};
 use crate::places::Table;
@@ -139,6 +139,23 @@ impl Groups {
         // There is room for it.
         let _ = self.watched.insert(pid, joined);
         Ok(monitor)
+    }
+
+    /// What [`Groups::leave`] would return: with `Last` the monitor that is to be cancelled.
+    pub fn leaving(&self, group: Group, pid: Pid) -> Left
+        ensures { Leaving group pid self.now result }
+    {
+        let times = self.times(group, pid);
+        if times == 0 {
+            return Left::NotThere;
+        }
+        if times > 1 || self.groups_of(pid).len() > 1 {
+            return Left::Stays;
+        }
+        match self.monitor_of(pid) {
+            Some(monitor) => Left::Last(monitor),
+            None => Left::NotThere,
+        }
     }
 
     /// Takes the process out of the group once, as often as it joined (`leave`), and returns whether it was there, and

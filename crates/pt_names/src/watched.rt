@@ -1,6 +1,6 @@
 //! The monitor of a process, and the groups that it is in.
 
-ghost use Rattle.std.specs.Prelude.{◌≡◌, ◌+◌, ◌↔◌, ◌∷◌, [], cond, true, false, nat_lt, IfOk, OnOk, OnErr, IsTrue};
+ghost use Rattle.std.specs.Prelude.{◌≡◌, ◌+◌, ◌↔◌, ◌∷◌, [], cond, true, false, length, nat_lt, IfOk, OnOk, OnErr, IsTrue};
 ghost use Rattle.std.specs.List.{list_any, IsDistinct};
 ghost use Rattle.pt_names.specs.Groups.{Places, same_group, times_in};
 
@@ -85,6 +85,8 @@ impl Joined {
         ensures groups { (g : Group) → list_any (same_group g) self.new.groups
             ≡ cond (same_group group g) false (list_any (same_group g) self.old.groups) }
         ensures empty { IsTrue result ↔ (self.new.groups ≡ []) }
+        ensures fewer { list_any (same_group group) self.old.groups ≡ true
+            → length self.new.groups + 1 ≡ length self.old.groups }
     {
         let _ = self.groups.swap_remove(&group);
         self.groups.is_empty()
