@@ -4,7 +4,7 @@
 //! handle has none. Nothing has changed then.
 
 ghost use Rattle.std.specs.Prelude.{◌≡◌, length, slice_get};
-ghost use Rattle.pt_names.specs.Groups.{groups_of, members_of, monitor_of, times_of};
+ghost use Rattle.pt_names.specs.Groups.{groups_of, members_of, monitor_kept, times_of};
 ghost use Rattle.pt_c_values.specs.Places.{CallsThrough, ReadsThrough, ShowsCode};
 ghost use Rattle.pt_c_values.specs.Crossing.{pid_crossed, pid_out, ref_in, ref_out};
 ghost use Rattle.pt_c_tools.specs.Grouping.{ForgetsMember, JoinsByCode, LeavesByCode, OpensGroups, group_in};
@@ -88,7 +88,7 @@ pub extern "C" fn pt_groups_monitor_of(
     out: &mut PtRef,
 ) -> u32
     ensures { ReadsThrough g.old.state g.new.state result (out.new ≡ out.old)
-        (λ groups. ShowsCode result out.old out.new ref_out (monitor_of groups (pid_crossed p))) }
+        (λ groups. ShowsCode result out.old out.new ref_out (monitor_kept groups (pid_crossed p))) }
 {
     groups::monitor_of(alloc, g, p, out)
 }

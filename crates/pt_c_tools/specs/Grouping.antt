@@ -43,13 +43,13 @@ last_out before Stays = false
 last_out before (Last m) = true
 
 -- the monitor is written with the last place alone
-abbrev pub left_out : PtRef → Left → PtRef
-left_out before (Last m) = ref_out m
-left_out before left = before
+abbrev pub left_monitor : PtRef → Left → PtRef
+left_monitor before (Last m) = ref_out m
+left_monitor before left = before
 
 abbrev pub LeavesByCode : Group → Pid → ℕ → Bool → Bool → PtRef → PtRef → GroupsState → GroupsState → Type 0
 LeavesByCode g p code was_last is_last before after old new =
-    (l : Left) × (code ≡ left_code l) × (is_last ≡ last_out was_last l) × (after ≡ left_out before l)
+    (l : Left) × (code ≡ left_code l) × (is_last ≡ last_out was_last l) × (after ≡ left_monitor before l)
     × LeavesGroup g p old l new
 
 abbrev pub ForgetsMember : Pid → ℕ → PtRef → PtRef → GroupsState → GroupsState → Type 0

@@ -1,7 +1,7 @@
 //! The codes of groups, and what their calls write.
 
 ghost use Rattle.std.specs.Prelude.{◌≡◌};
-ghost use Rattle.pt_c_tools.specs.Grouping.{join_code, joined_out, last_out, left_code, left_out};
+ghost use Rattle.pt_c_tools.specs.Grouping.{join_code, joined_out, last_out, left_code, left_monitor};
 
 use pt_c_values::codes::{DONE, MEMORY, NOTHING};
 use pt_c_values::crossing::ref_out;
@@ -31,7 +31,7 @@ pub(crate) fn show_joined(answer: Result<Ref, JoinError>, out: &mut PtRef) -> u3
 pub(crate) fn show_left(left: Left, last: &mut bool, out: &mut PtRef) -> u32
     ensures code { result ≡ left_code left }
     ensures last { last.new ≡ last_out last.old left }
-    ensures monitor { out.new ≡ left_out out.old left }
+    ensures monitor { out.new ≡ left_monitor out.old left }
 {
     match left {
         Left::NotThere => NOTHING,

@@ -14,9 +14,9 @@ use Rattle.pt_signal.specs.Values.{same_pid}
 use Rattle.pt_signal.proofs.Same.{same_pid_refl, same_pid_is}
 use Rattle.pt_names.specs.declared.group.Group.{Group}
 use Rattle.pt_names.specs.declared.group.Left.TheVariants.{Stays}
-use Rattle.pt_names.specs.Groups.{same_group, Counts, AreCounted, SetsCount, count_of, Placed, counts_at, counts_in, times_in, NoneIsEmpty, Places, Clears}
-use Rattle.pt_names.specs.Groups.{Watched, GroupsState, times_of, watched_of, monitor_of, groups_of, is_in, AreKept}
-use Rattle.pt_names.specs.Grouping.{GroupsChange, Enters, LeavesGroup}
+use Rattle.pt_names.specs.Groups.{same_group, Counts, AreThereOnce, SetsCount, count_in, Placed, counts_at, counts_in, times_in, NoneIsEmpty, PlacesMember, Clears}
+use Rattle.pt_names.specs.Groups.{Watched, GroupsState, times_of, watched_of, monitor_kept, groups_of, is_in, AreKept}
+use Rattle.pt_names.specs.Grouping.{GroupsChange, EntersGroup, LeavesGroup}
 use Rattle.pt_names.proofs.Sound.{by_test}
 use Rattle.pt_names.proofs.Naming.{some_is, both}
 
@@ -36,7 +36,7 @@ counted (Some zero) h = absurd (h refl)
 counted (Some (suc n)) h = sym (lt-ltb 0 (suc n) (omega arith))
 
 -- who is listed is there once at least
-pub listed_counted : (counts : Counts) → AreCounted counts → (p : Pid) → list_any (same_pid p) (keys_of counts) ≡ nat_lt 0 (count_of counts p)
+pub listed_counted : (counts : Counts) → AreThereOnce counts → (p : Pid) → list_any (same_pid p) (keys_of counts) ≡ nat_lt 0 (count_in counts p)
 listed_counted counts all p = sym (is_some-lookup (same_pid p) counts) ∙ counted (lookup (same_pid p) counts) (all p)
 
 -- no group is empty where one was put, or taken out
@@ -48,12 +48,12 @@ none_empty g old new w sound filled puts h is =
 -- who is there leaves a group that is not empty
 pub not_empty : (p : Pid) (n : ℕ) (old new : Counts) → 0 < n → SetsCount p n old new → Some new ≡ Some [] → ⊥
 not_empty p n old new more sets is =
-    let none : count_of new p ≡ 0 = ap (λ c. count_of c p) (some_is new [] is) in
-    let some : count_of new p ≡ n = sets p ∙ ap (λ b. cond b n (count_of old p)) (same_pid_refl p) in
+    let none : count_in new p ≡ 0 = ap (λ c. count_in c p) (some_is new [] is) in
+    let some : count_in new p ≡ n = sets p ∙ ap (λ b. cond b n (count_in old p)) (same_pid_refl p) in
     absurd (omega (arith, none, some, more))
 
 -- the group has what the map has there, and each other group what it had
-pub at_own : (g : Group) (p : Pid) (n : ℕ) (old new : Placed) → Places g p n old new → (h : Group)
+pub at_own : (g : Group) (p : Pid) (n : ℕ) (old new : Placed) → PlacesMember g p n old new → (h : Group)
     → counts_at new h ≡ cond (same_group g h) (counts_at new g) (counts_at old h)
 at_own g p n old new places h = go (same_group g h) refl
   where
@@ -62,7 +62,7 @@ at_own g p n old new places h = go (same_group g h) refl
     go false e = places.others h e
 
 -- an empty group is taken out
-pub taken_out : (g : Group) (p : Pid) (old mid new : Placed) → NoneIsEmpty old → Places g p 0 old mid
+pub taken_out : (g : Group) (p : Pid) (old mid new : Placed) → NoneIsEmpty old → PlacesMember g p 0 old mid
     → ((h : Group) → counts_at new h ≡ cond (same_group g h) None (counts_at mid h)) → NoneIsEmpty new
 taken_out g p old mid new sound places takes = none_empty g old new None sound (λ e. cc) all
   where
@@ -74,7 +74,7 @@ taken_out g p old mid new sound places takes = none_empty g old new None sound (
         go false e = places.others h e
 
 -- and a group that is not empty stays
-pub stays : (g : Group) (p : Pid) (old new : Placed) → NoneIsEmpty old → Places g p 0 old new → (counts_in new g ≡ [] → ⊥) → NoneIsEmpty new
+pub stays : (g : Group) (p : Pid) (old new : Placed) → NoneIsEmpty old → PlacesMember g p 0 old new → (counts_in new g ≡ [] → ⊥) → NoneIsEmpty new
 stays g p old new sound places filled =
     none_empty g old new (counts_at new g) sound (λ e. filled (ap (λ o. unwrap_or o []) e)) (at_own g p 0 old new places)
 
@@ -93,7 +93,7 @@ is_there None x h = absurd (cc)
 is_there (Some y) x h = refl
 
 -- how often each process is in each group, where that of one has changed
-module _ (g : Group) (p : Pid) (n : ℕ) (old new : Placed) (places : Places g p n old new) where
+module _ (g : Group) (p : Pid) (n : ℕ) (old new : Placed) (places : PlacesMember g p n old new) where
   times_here : (q : Pid) → same_pid p q ≡ true → times_in new g q ≡ n
   times_here q e = places.times q ∙ ap (λ b. cond b n (times_in old g q)) e
 
@@ -102,7 +102,7 @@ module _ (g : Group) (p : Pid) (n : ℕ) (old new : Placed) (places : Places g p
     where
       go : (b : Bool) → same_group g h ≡ b → times_in new h q ≡ times_in old h q
       go true same = subst (λ k. times_in new k q ≡ times_in old k q) (same_group_is g h same) (places.times q ∙ ap (λ b. cond b n (times_in old g q)) e)
-      go false other = ap (λ o. count_of (unwrap_or o []) q) (places.others h other)
+      go false other = ap (λ o. count_in (unwrap_or o []) q) (places.others h other)
 
 -- the groups of a process
 abbrev pub groups_in : Option Watched → List Group
@@ -117,7 +117,7 @@ module _ (old new : GroupsState) (kept : AreKept old) (p : Pid) (o : Option Watc
   still_watched filled q w is = by_test (λ x. x ≡ Some w → w.groups ≡ [] → ⊥) (same_pid p q) o (watched_of old q) (λ same. filled w) (λ other. kept.watched q w) (sym (puts q) ∙ is)
 
   -- where a process is in a group as often as its list says
-  pub kept_after : (g : Group) (n : ℕ) → Places g p n old.placed new.placed
+  pub kept_after : (g : Group) (n : ℕ) → PlacesMember g p n old.placed new.placed
       → ((h : Group) → list_any (same_group h) (groups_in o) ≡ cond (same_group g h) (nat_lt 0 n) (list_any (same_group h) (groups_of old p)))
       → ((w : Watched) → o ≡ Some w → w.groups ≡ [] → ⊥) → AreKept new
   kept_after g n places groups filled = record { agree = λ h q. go h q (same_pid p q) refl; watched = still_watched filled }
@@ -128,7 +128,7 @@ module _ (old new : GroupsState) (kept : AreKept old) (p : Pid) (o : Option Watc
           ∙ ap (nat_lt 0) (subst (λ k. n ≡ times_in new.placed k p) (same_group_is g h e) (sym (times_here g p n old.placed new.placed places p (same_pid_refl p))))
       own h false e =
           groups h ∙ ap (λ b. cond b (nat_lt 0 n) (list_any (same_group h) (groups_of old p))) e ∙ kept.agree h p
-          ∙ ap (λ x. nat_lt 0 (count_of (unwrap_or x []) p)) (sym (places.others h e))
+          ∙ ap (λ x. nat_lt 0 (count_in (unwrap_or x []) p)) (sym (places.others h e))
 
       go : (h : Group) (q : Pid) (b : Bool) → same_pid p q ≡ b → list_any (same_group h) (groups_of new q) ≡ is_in new h q
       go h q true e =
@@ -138,7 +138,7 @@ module _ (old new : GroupsState) (kept : AreKept old) (p : Pid) (o : Option Watc
           ap (λ x. list_any (same_group h) (groups_in x)) (has q false e) ∙ kept.agree h q
           ∙ ap (nat_lt 0) (sym (times_there g p n old.placed new.placed places h q e))
 
-  pub changed : (g : Group) (n : ℕ) → Places g p n old.placed new.placed → GroupsChange g p n (option_map (λ w. w.monitor) o) old new
+  pub changed : (g : Group) (n : ℕ) → PlacesMember g p n old.placed new.placed → GroupsChange g p n (option_map (λ w. w.monitor) o) old new
   changed g n places = record {
     places = places;
     monitor = ap (option_map (λ w. w.monitor)) (has p true (same_pid_refl p));
@@ -159,8 +159,8 @@ module _ (g : Group) (p : Pid) (m : Ref) (n : ℕ) (was «is» : Watched) (old n
       let watched = written ∙ ap (set_value (same_pid p) old.watched) same ∙ set_value_same (same_pid p) old.watched was (sym had) in
       λ i. record { placed = placed i; watched = watched i }
 
-  pub enters : (r : Result Ref AllocError) → AreKept old → IfOk r (λ k. k ≡ was.monitor) → OnOk r (Places g p n old.placed new.placed)
-      → OnErr r ((«is» ≡ was) × (new.placed ≡ old.placed) × (n ≡ 1)) → Enters g p m old r new
+  pub enters : (r : Result Ref AllocError) → AreKept old → IfOk r (λ k. k ≡ was.monitor) → OnOk r (PlacesMember g p n old.placed new.placed)
+      → OnErr r ((«is» ≡ was) × (new.placed ≡ old.placed) × (n ≡ 1)) → EntersGroup g p m old r new
   enters (Ok k) kept its places same = (
     its ∙ ap (λ o. unwrap_or (option_map (λ w. w.monitor) o) m) had,
     subst (λ (x : Option Ref). GroupsChange g p (times_of old g p + 1) x old new) (ap Some (monitor ∙ sym its))
@@ -168,7 +168,7 @@ module _ (g : Group) (p : Pid) (m : Ref) (n : ℕ) (was «is» : Watched) (old n
   )
   enters (Err e) kept its places same = (omega (arith, next, same.2), unchanged same.0 same.1)
 
-  pub entered : (r : Result Ref AllocError) → AreKept old → OnOk r (Places g p n old.placed new.placed)
+  pub entered : (r : Result Ref AllocError) → AreKept old → OnOk r (PlacesMember g p n old.placed new.placed)
       → OnOk r ((h : Group) → list_any (same_group h) «is».groups ≡ cond (same_group g h) true (list_any (same_group h) was.groups))
       → OnErr r ((«is» ≡ was) × (new.placed ≡ old.placed) × (n ≡ 1)) → AreKept new
   entered (Ok k) kept places groups same = kept_after old new kept p (Some «is») puts g n places all (λ w e. in_list w.groups g (own w e))
@@ -205,7 +205,7 @@ one_listed g h = or_false (same_group h g) ∙ turned ∙ sym (cond_same (same_g
 
 -- a process that was in no group
 pub begun : (g : Group) (p : Pid) (m : Ref) (w : Watched) (old new : GroupsState) → AreKept old → watched_of old p ≡ None
-    → Places g p 1 old.placed new.placed → w ≡ record { monitor = m; groups = g ∷ [] }
+    → PlacesMember g p 1 old.placed new.placed → w ≡ record { monitor = m; groups = g ∷ [] }
     → ((q : Pid) → watched_of new q ≡ cond (same_pid p q) (Some w) (watched_of old q)) → AreKept new
 begun g p m w old new kept none places its puts = kept_after old new kept p (Some w) puts g 1 places all filled
   where
@@ -237,7 +237,7 @@ cannot_fail P Q (Ok u) p q never = p
 cannot_fail P Q (Err e) p q never = absurd (never q)
 
 module _ (g : Group) (p : Pid) (old new : GroupsState) (kept : AreKept old) (more : 1 < times_of old g p)
-    (places : Places g p (times_of old g p - 1) old.placed new.placed) (watched : new.watched ≡ old.watched) where
+    (places : PlacesMember g p (times_of old g p - 1) old.placed new.placed) (watched : new.watched ≡ old.watched) where
   same_as : (q : Pid) → watched_of new q ≡ cond (same_pid p q) (watched_of old p) (watched_of old q)
   same_as q = ap (lookup (same_pid q)) watched ∙ go (same_pid p q) refl
     where
@@ -267,7 +267,7 @@ module _ (g : Group) (p : Pid) (old new : GroupsState) (kept : AreKept old) (mor
 
 -- a process that leaves one of its groups for good, and then it is in another still, or in none
 module _ (g : Group) (p : Pid) (was «is» : Watched) (old new : GroupsState) (kept : AreKept old) (had : Some was ≡ watched_of old p)
-    (places : Places g p 0 old.placed new.placed)
+    (places : PlacesMember g p 0 old.placed new.placed)
     (groups : (h : Group) → list_any (same_group h) «is».groups ≡ cond (same_group g h) false (list_any (same_group h) was.groups)) where
   fewer : (h : Group) → list_any (same_group h) «is».groups ≡ cond (same_group g h) (nat_lt 0 0) (list_any (same_group h) (groups_of old p))
   fewer h = groups h ∙ ap (λ o. cond (same_group g h) false (list_any (same_group h) (groups_in o))) had
@@ -291,7 +291,7 @@ module _ (g : Group) (p : Pid) (was «is» : Watched) (old new : GroupsState) (k
 pub cleared_none : (p : Pid) (placed : Placed) → Clears [] p placed placed
 cleared_none p placed = record { cleared = λ g e. absurd (cc); others = λ g e. refl }
 
-pub cleared_one : (xs : List Group) (g : Group) (p : Pid) (old mid new : Placed) → Clears xs p old mid → Places g p 0 mid new
+pub cleared_one : (xs : List Group) (g : Group) (p : Pid) (old mid new : Placed) → Clears xs p old mid → PlacesMember g p 0 mid new
     → Clears (xs ++ g ∷ []) p old new
 cleared_one xs g p old mid new before places = record { cleared = cleared; others = others }
   where
@@ -308,7 +308,7 @@ cleared_one xs g p old mid new before places = record { cleared = cleared; other
         ∙ ap (cond (same_pid p q) 0) (before.cleared h e q) ∙ zero_twice (same_pid p q) (times_in old h q)
     here h false e same q =
         subst (λ k. times_in new k q ≡ cond (same_pid p q) 0 (times_in mid k q)) (same_group_is g h same) (places.times q)
-        ∙ ap (λ o. cond (same_pid p q) 0 (count_of (unwrap_or o []) q)) (before.others h e)
+        ∙ ap (λ o. cond (same_pid p q) 0 (count_in (unwrap_or o []) q)) (before.others h e)
 
     or_nothing : (b : Bool) → (b || false) ≡ b
     or_nothing true = refl
@@ -321,7 +321,7 @@ cleared_one xs g p old mid new before places = record { cleared = cleared; other
         go true same q = here h (list_any (same_group h) xs) refl same q
         go false other q =
             let first : list_any (same_group h) xs ≡ true = sym (or_nothing (list_any (same_group h) xs)) ∙ sym (ap (λ b. list_any (same_group h) xs || cond b true false) other) ∙ sym (listed h) ∙ e in
-            ap (λ o. count_of (unwrap_or o []) q) (places.others h other) ∙ before.cleared h first q
+            ap (λ o. count_in (unwrap_or o []) q) (places.others h other) ∙ before.cleared h first q
 
     others : (h : Group) → list_any (same_group h) (xs ++ g ∷ []) ≡ false → counts_at new h ≡ counts_at old h
     others h e = go (list_any (same_group h) xs) (same_group g h) refl refl
@@ -344,12 +344,12 @@ forgotten p w old new kept had clears takes = record {
     none h true e =
         ap (nat_lt 0) (clears.cleared h e p ∙ ap (λ b. cond b 0 (times_of old h p)) (same_pid_refl p))
     none h false e =
-        ap (λ o. nat_lt 0 (count_of (unwrap_or o []) p)) (clears.others h e) ∙ sym (kept.agree h p)
+        ap (λ o. nat_lt 0 (count_in (unwrap_or o []) p)) (clears.others h e) ∙ sym (kept.agree h p)
         ∙ ap (λ o. list_any (same_group h) (groups_in o)) had ∙ e
 
     other : (h : Group) (q : Pid) (b : Bool) → list_any (same_group h) w.groups ≡ b → same_pid p q ≡ false → is_in new h q ≡ is_in old h q
     other h q true e apart = ap (nat_lt 0) (clears.cleared h e q ∙ ap (λ b. cond b 0 (times_of old h q)) apart)
-    other h q false e apart = ap (λ o. nat_lt 0 (count_of (unwrap_or o []) q)) (clears.others h e)
+    other h q false e apart = ap (λ o. nat_lt 0 (count_in (unwrap_or o []) q)) (clears.others h e)
 
     go : (h : Group) (q : Pid) (b : Bool) → same_pid p q ≡ b → list_any (same_group h) (groups_of new q) ≡ is_in new h q
     go h q true e =

@@ -16,16 +16,16 @@ abbrev pub Counts : Type 0
 Counts = List (Pid × ℕ)
 
 -- how often the process is there
-abbrev pub count_of : Counts → Pid → ℕ
-count_of counts p = unwrap_or (lookup (same_pid p) counts) 0
+abbrev pub count_in : Counts → Pid → ℕ
+count_in counts p = unwrap_or (lookup (same_pid p) counts) 0
 
 -- who is counted is there once at least
-abbrev pub AreCounted : Counts → Type 0
-AreCounted counts = (p : Pid) → lookup (same_pid p) counts ≡ Some 0 → ⊥
+abbrev pub AreThereOnce : Counts → Type 0
+AreThereOnce counts = (p : Pid) → lookup (same_pid p) counts ≡ Some 0 → ⊥
 
 -- the process is this often there, and each other one as often as before
 abbrev pub SetsCount : Pid → ℕ → Counts → Counts → Type 0
-SetsCount p n old new = (q : Pid) → count_of new q ≡ cond (same_pid p q) n (count_of old q)
+SetsCount p n old new = (q : Pid) → count_in new q ≡ cond (same_pid p q) n (count_in old q)
 
 -- each group that has a member, with its processes
 abbrev pub Placed : Type 0
@@ -38,14 +38,14 @@ abbrev pub counts_in : Placed → Group → Counts
 counts_in placed g = unwrap_or (counts_at placed g) []
 
 abbrev pub times_in : Placed → Group → Pid → ℕ
-times_in placed g p = count_of (counts_in placed g) p
+times_in placed g p = count_in (counts_in placed g) p
 
 -- no group is listed that has no member
 abbrev pub NoneIsEmpty : Placed → Type 0
 NoneIsEmpty placed = (g : Group) → counts_at placed g ≡ Some [] → ⊥
 
 -- the process is this often in the group, each other one as often as before, and the other groups are as they were
-pub record Places (g : Group) (p : Pid) (n : ℕ) (old new : Placed) : Type 0 where
+pub record PlacesMember (g : Group) (p : Pid) (n : ℕ) (old new : Placed) : Type 0 where
   pub times : SetsCount p n (counts_in old g) (counts_in new g)
   pub others : (h : Group) → same_group g h ≡ false → counts_at new h ≡ counts_at old h
 
@@ -76,8 +76,8 @@ abbrev pub watched_of : GroupsState → Pid → Option Watched
 watched_of s p = lookup (same_pid p) s.watched
 
 -- the monitor that reports the exit of the process
-abbrev pub monitor_of : GroupsState → Pid → Option Ref
-monitor_of s p = option_map (λ w. w.monitor) (watched_of s p)
+abbrev pub monitor_kept : GroupsState → Pid → Option Ref
+monitor_kept s p = option_map (λ w. w.monitor) (watched_of s p)
 
 -- the groups that the process is in, each once
 abbrev pub groups_of : GroupsState → Pid → List Group

@@ -3,13 +3,13 @@
 ghost use Rattle.std.specs.Prelude.{◌≡◌, ◌+◌, length, None};
 ghost use Rattle.std.specs.List.{list_any, IsDistinct};
 ghost use Rattle.pt_signal.specs.Values.{same_pid};
-ghost use Rattle.pt_names.specs.Groups.{Clears, groups_of, is_in, members_of, monitor_of, same_group, times_of, watched_of};
-ghost use Rattle.pt_names.specs.Grouping.{AreNone, Enters, JoinsGroup, LeavesAll, Leaving, LeavesGroup};
+ghost use Rattle.pt_names.specs.Groups.{Clears, groups_of, is_in, members_of, monitor_kept, same_group, times_of, watched_of};
+ghost use Rattle.pt_names.specs.Grouping.{AreNone, EntersGroup, JoinsGroup, LeavesAll, Leaving, LeavesGroup};
 ghost use Rattle.std.specs.Prelude.{◌≡◌, ◌+◌, length, None};
 ghost use Rattle.std.specs.List.{list_any, IsDistinct};
 ghost use Rattle.pt_signal.specs.Values.{same_pid};
-ghost use Rattle.pt_names.specs.Groups.{Clears, groups_of, is_in, members_of, monitor_of, same_group, times_of, watched_of};
-ghost use Rattle.pt_names.specs.Grouping.{AreNone, Enters, JoinsGroup, LeavesAll, Leaving, LeavesGroup};
+ghost use Rattle.pt_names.specs.Groups.{Clears, groups_of, is_in, members_of, monitor_kept, same_group, times_of, watched_of};
+ghost use Rattle.pt_names.specs.Grouping.{AreNone, EntersGroup, JoinsGroup, LeavesAll, Leaving, LeavesGroup};
 
 use crate::group::{Group, JoinError, Left};
 use crate::places::Table;
@@ -77,7 +77,7 @@ impl Groups {
 
     /// The monitor that reports the exit of the process, or `None` if it is in no group.
     pub fn monitor_of(&self, pid: Pid) -> Option<Ref>
-        ensures { result ≡ monitor_of self.now pid }
+        ensures { result ≡ monitor_kept self.now pid }
     {
         match self.watched.get(&pid) {
             Some(joined) => Some(joined.monitor()),
@@ -120,7 +120,7 @@ impl Groups {
     /// Adds a process to a group, in which it is so often then.
     fn enter(&mut self, group: Group, pid: Pid, monitor: Ref, times: u64) -> Result<Ref, AllocError>
         requires { times ≡ times_of self.old group pid + 1 }
-        ensures { Enters group pid monitor self.old result self.new }
+        ensures { EntersGroup group pid monitor self.old result self.new }
     {
         match self.watched.get_mut(&pid) {
             Some(joined) => joined.join(&mut self.table, group, pid, times),
@@ -131,7 +131,7 @@ impl Groups {
     /// Adds a process that is in no group yet.
     fn begin(&mut self, group: Group, pid: Pid, monitor: Ref) -> Result<Ref, AllocError>
         requires { watched_of self.old pid ≡ None }
-        ensures { Enters group pid monitor self.old result self.new }
+        ensures { EntersGroup group pid monitor self.old result self.new }
     {
         let joined = Joined::of(self.alloc, monitor, group)?;
         self.watched.reserve(1)?;

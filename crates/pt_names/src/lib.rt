@@ -1,4 +1,5 @@
-//! Names of processes, as Erlang's `register`, `whereis` and `unregister` keep them.
+//! Names of processes, as Erlang's `register`, `whereis` and `unregister` keep them, and groups of processes, as its `pg`
+//! does.
 //!
 //! [`Names`] knows no process. It keeps what it is given, and forgets a process when [`Names::forget`] is called for its
 //! exit. Each name is of one process, and each process has one name at most.
@@ -8,8 +9,11 @@
 //! supervisor starts asks for its name by a call, whose number stands for a name of a list
 //! ([`Registry::register_sender`]): `{via, ..}` of `gen_server:start_link`.
 //!
-//! Tests: `checks/tried/test_calls/names.rt.txt`, `checks/tried/test_calls/registry.rt.txt` and
-//! `crates/test_calls/src/layers/names.rt`.
+//! [`Groups`] are such a table of groups, each a number: [`Group`]. A process may be in many groups, and several times in
+//! one. It is in a group until it has left as often as it joined, or until [`Groups::forget`] is called for its exit.
+//!
+//! Tests: `checks/tried/test_calls/names.rt.txt`, `checks/tried/test_calls/registry.rt.txt`,
+//! `checks/tried/test_calls/groups.rt.txt` and `crates/test_calls/src/layers/names.rt`.
 //!
 //! # What is proved
 //!
@@ -29,6 +33,16 @@
 //!   monitor frees no name. (`HearsNames`, `IsFreed`)
 //! - **Unregistered.** `Registry::unregister` cancels the monitor of the name, or fails, and the name stays.
 //!   (`GivesUpName`)
+//! - **In a group.** A process is in a group as often as it joined less its leaves. Each call changes one process alone: all
+//!   others are in their groups as before. (`JoinsGroup`, `LeavesGroup`, `GroupsChange`)
+//! - **Members.** The members of a group are the processes that are in it, each once. The groups of a process are those that
+//!   it is in, each once.
+//! - **One monitor a process.** A process has a monitor exactly if it is in a group. It is the one that it first joined
+//!   with, and `leave` returns it with its last place. (`AreKept`, `Leaving`)
+//! - **Left by an exit.** After `Groups::forget` the process is in no group. The call visits the groups of that process and
+//!   no other. (`LeavesAll`)
+//! - **Groups that fail.** If `join` fails, nothing has changed. A process that is in the group needs no memory to join it
+//!   again. (`JoinsGroup`)
 #![tactic(auto)]
 
 mod group;

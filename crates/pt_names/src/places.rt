@@ -4,7 +4,7 @@ ghost use Rattle.std.specs.Prelude.{◌≡◌, ◌<◌, ◌↔◌, ◌∷◌, []
 ghost use Rattle.std.specs.List.{list_any, IsDistinct};
 ghost use Rattle.std.specs.Map.{keys_of};
 ghost use Rattle.pt_signal.specs.Values.{same_pid};
-ghost use Rattle.pt_names.specs.Groups.{Places, SetsCount, count_of, counts_in, times_in};
+ghost use Rattle.pt_names.specs.Groups.{PlacesMember, SetsCount, count_in, counts_in, times_in};
 
 use crate::group::Group;
 use indexmap::IndexMap;
@@ -19,13 +19,13 @@ struct Members {
 }
 
 impl Model for Members {
-    ghost use Rattle.pt_names.specs.Groups.{Counts, AreCounted};
+    ghost use Rattle.pt_names.specs.Groups.{Counts, AreThereOnce};
 
     ghost Value = { Counts };
 
     ghost view = { λ m. m.counts.entries };
 
-    ghost invariant = { λ m. AreCounted m.counts.entries };
+    ghost invariant = { λ m. AreThereOnce m.counts.entries };
 }
 
 impl Members {
@@ -40,7 +40,7 @@ impl Members {
     }
 
     fn count(&self, pid: Pid) -> u64
-        ensures { result ≡ count_of self.now pid }
+        ensures { result ≡ count_in self.now pid }
     {
         match self.counts.get(&pid) {
             Some(count) => *count,
@@ -51,7 +51,7 @@ impl Members {
     /// The processes, each once.
     fn pids(&self) -> &[Pid]
         ensures same { result.now ≡ keys_of self.now }
-        ensures listed { (p : Pid) → list_any (same_pid p) result.now ≡ nat_lt 0 (count_of self.now p) }
+        ensures listed { (p : Pid) → list_any (same_pid p) result.now ≡ nat_lt 0 (count_in self.now p) }
         ensures distinct { IsDistinct same_pid result.now }
     {
         self.counts.keys().as_slice()
@@ -61,7 +61,7 @@ impl Members {
     fn set(&mut self, pid: Pid, count: u64) -> Result<(), AllocError>
         requires { 0 < count }
         ensures sets { OnOk result (SetsCount pid count self.old self.new) }
-        ensures same { OnErr result ((self.new ≡ self.old) × (count_of self.old pid ≡ 0)) }
+        ensures same { OnErr result ((self.new ≡ self.old) × (count_in self.old pid ≡ 0)) }
     {
         self.counts.insert(pid, count)?;
         Ok(())
@@ -129,7 +129,7 @@ impl Table {
     /// Notes how often the process is in the group. This needs memory only if it was not in it.
     pub(crate) fn set(&mut self, group: Group, pid: Pid, count: u64) -> Result<(), AllocError>
         requires { 0 < count }
-        ensures places { OnOk result (Places group pid count self.old self.new) }
+        ensures places { OnOk result (PlacesMember group pid count self.old self.new) }
         ensures same { OnErr result ((self.new ≡ self.old) × (times_in self.old group pid ≡ 0)) }
     {
         match self.groups.get_mut(&group) {
@@ -142,7 +142,7 @@ impl Table {
     fn open(&mut self, group: Group, pid: Pid, count: u64) -> Result<(), AllocError>
         requires count { 0 < count }
         requires none { counts_in self.old group ≡ [] }
-        ensures places { OnOk result (Places group pid count self.old self.new) }
+        ensures places { OnOk result (PlacesMember group pid count self.old self.new) }
         ensures same { OnErr result (self.new ≡ self.old) }
     {
         let members = Members::of(self.alloc, pid, count)?;
@@ -152,7 +152,7 @@ impl Table {
 
     /// Removes the process from the group, and the group with its last process.
     pub(crate) fn remove(&mut self, group: Group, pid: Pid)
-        ensures { Places group pid 0 self.old self.new }
+        ensures { PlacesMember group pid 0 self.old self.new }
     {
         if take_out(&mut self.groups, group, pid) {
             let _ = self.groups.swap_remove(&group);
@@ -162,7 +162,7 @@ impl Table {
 
 /// Takes the process out of the group, and returns whether none is left in it.
 fn take_out(groups: &mut IndexMap<Group, Members>, group: Group, pid: Pid) -> bool
-    ensures places { Places group pid 0 groups.old.entries groups.new.entries }
+    ensures places { PlacesMember group pid 0 groups.old.entries groups.new.entries }
     ensures empty { IsTrue result ↔ (counts_in groups.new.entries group ≡ []) }
 {
     match groups.get_mut(&group) {

@@ -2,7 +2,7 @@
 
 ghost use Rattle.std.specs.Prelude.{◌≡◌, ◌+◌, ◌↔◌, ◌∷◌, [], cond, true, false, length, nat_lt, IfOk, OnOk, OnErr, IsTrue};
 ghost use Rattle.std.specs.List.{list_any, IsDistinct};
-ghost use Rattle.pt_names.specs.Groups.{Places, same_group, times_in};
+ghost use Rattle.pt_names.specs.Groups.{PlacesMember, same_group, times_in};
 
 use crate::group::Group;
 use crate::places::Table;
@@ -63,7 +63,7 @@ impl Joined {
         requires agree { list_any (same_group group) self.old.groups ≡ nat_lt 0 (times_in table.old group pid) }
         ensures monitor { self.new.monitor ≡ self.old.monitor }
         ensures kept { IfOk result (λ kept. kept ≡ self.old.monitor) }
-        ensures places { OnOk result (Places group pid times table.old table.new) }
+        ensures places { OnOk result (PlacesMember group pid times table.old table.new) }
         ensures groups { OnOk result ((g : Group) → list_any (same_group g) self.new.groups
             ≡ cond (same_group group g) true (list_any (same_group g) self.old.groups)) }
         ensures same { OnErr result ((self.new ≡ self.old) × (table.new ≡ table.old) × (times ≡ 1)) }

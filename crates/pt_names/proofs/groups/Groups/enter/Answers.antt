@@ -1,7 +1,7 @@
 -- `Groups::enter`: its contract where the process is in a group, and the invariant of `self`.
 use Rattle.std.proofs.Common.{◌≡◌, ◌+◌, ap, sym, ◌∙◌, subst}
 use Rattle.pt_names.specs.Groups.{GroupsState, times_of}
-use Rattle.pt_names.specs.Grouping.{Enters}
+use Rattle.pt_names.specs.Grouping.{EntersGroup}
 use Rattle.pt_names.proofs.Grouped.{enters, entered, is_there}
 use Rattle.pt_names.proofs.groups.Groups.enter.Goals as goal
 
@@ -23,7 +23,7 @@ returns-in-Some c =
     let «is» = c.join.new.self in
     let writes = c.get_mut.follows.holds «is» in
     let new : GroupsState = record { placed = c.join.new.table; watched = (c.get_mut.follows.lender «is»).entries } in
-    subst (λ (s : GroupsState). Enters c.args.group c.args.pid c.args.monitor s c.join.result new) c.self.view_is
+    subst (λ (s : GroupsState). EntersGroup c.args.group c.args.pid c.args.monitor s c.join.result new) c.self.view_is
     (enters c.args.group c.args.pid c.args.monitor c.args.times was «is»
     (record { placed = c.self.inside.table; watched = c.self.inside.watched.entries }) new
     (c.requires ∙ ap (λ s. times_of s c.args.group c.args.pid + 1) (sym c.self.view_is)) c.in-Some.ensures.value c.join.ensures.monitor

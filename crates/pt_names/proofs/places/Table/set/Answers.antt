@@ -2,7 +2,7 @@
 use Rattle.std.proofs.Common.{Some, [], unwrap_or, ap, sym, ◌∙◌}
 use Rattle.std.specs.Map.{set_value}
 use Rattle.std.proofs.lemmas.Map.Steps.{set_value_same}
-use Rattle.pt_names.specs.Groups.{same_group, counts_in, count_of}
+use Rattle.pt_names.specs.Groups.{same_group, counts_in, count_in}
 use Rattle.pt_names.proofs.Grouped.{none_empty, set_filled, on_err, is_there}
 use Rattle.pt_names.proofs.places.Table.set.Goals as goal
 
@@ -25,7 +25,7 @@ returns-in-Some-clause-same c =
     (λ h. (
       (c.get_mut.follows.holds is).0 ∙ ap (set_value (same_group c.args.group) old) h.0
           ∙ set_value_same (same_group c.args.group) old was (sym c.in-Some.ensures.value) ∙ c.self.view_is,
-      ap (λ z. count_of (counts_in z c.args.group) c.args.pid) (sym c.self.view_is)
-          ∙ ap (λ o. count_of (unwrap_or o []) c.args.pid) (sym c.in-Some.ensures.value) ∙ h.1,
+      ap (λ z. count_in (counts_in z c.args.group) c.args.pid) (sym c.self.view_is)
+          ∙ ap (λ o. count_in (unwrap_or o []) c.args.pid) (sym c.in-Some.ensures.value) ∙ h.1,
     ))
     c.set.ensures.same
