@@ -46,16 +46,19 @@
 #![tactic(auto)]
 
 mod group;
+mod group_registry;
 mod groups;
 mod laws;
 mod name;
 mod names;
+mod not_joined;
 mod places;
 mod registry;
 mod unregistered;
 mod watched;
 
 pub use group::{Group, JoinError, Left};
+pub use group_registry::{GroupError, GroupRegistry, Sent};
 pub use groups::Groups;
 pub use laws::names_keep_their_monitors;
 pub use name::{MAX_LETTERS, Name, names_tell_texts_apart};
