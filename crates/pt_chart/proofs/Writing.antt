@@ -1,6 +1,7 @@
 -- What a text is after a write, and the chart that it is.
-use Rattle.std.proofs.Common.{◌≡◌, ℕ, ◌+◌, ◌<◌, List, ◌++◌, length, get_or, take, Result, Ok, Err, ap, sym, ◌∙◌, append_assoc}
-use Rattle.std.proofs.lemmas.List.{flat_map_more, take_more}
+use Rattle.std.proofs.Common.{◌≡◌, ℕ, ◌+◌, ◌<◌, List, [], ◌++◌, length, get_or, take, Result, Ok, Err, Option, Some, None, ap, sym, ◌∙◌, append_assoc}
+use Rattle.std.proofs.lemmas.List.{append-nil, flat_map_more, take_more}
+use Rattle.std.specs.Io.KnownBytes.{Appends, Keeps}
 use Rattle.std.specs.List.{flat_map}
 use Rattle.std.specs.Prelude.{IfOk, OnOk, is_ok, if◌then◌else◌}
 use Rattle.pt_signal.specs.declared.pid.Pid.{Pid}
@@ -8,6 +9,28 @@ use Rattle.pt_events.specs.declared.event.Stamped.{Stamped}
 use Rattle.pt_chart.specs.declared.layout.Layout.{Layout}
 use Rattle.pt_chart.specs.Chart.{IsLayout, IsLegalHistory, ShowsHistory}
 use Rattle.pt_chart.specs.Drawing.{IsChart, drawing_text, drawn, column_names, page_of}
+
+-- what a writer holds after one write and another
+pub appends_then : (a b c : Option (List ℕ)) (x y : List ℕ) → Appends a b x → Appends b c y → Appends a c (x ++ y)
+appends_then None b c x y h k = tt
+appends_then (Some s) None c x y h k = absurd h
+appends_then (Some s) (Some t) None x y h k = absurd k
+appends_then (Some s) (Some t) (Some u) x y h k = k ∙ ap (λ z. z ++ y) h ∙ append_assoc s x y
+
+pub appends_keeps : (a b c : Option (List ℕ)) (x : List ℕ) → Appends a b x → Keeps b c → Appends a c x
+appends_keeps None b c x h k = tt
+appends_keeps (Some s) None c x h k = absurd h
+appends_keeps (Some s) (Some t) None x h k = absurd k
+appends_keeps (Some s) (Some t) (Some u) x h k = k ∙ h
+
+pub appends_nothing : (known : Option (List ℕ)) → Appends known known []
+appends_nothing None = tt
+appends_nothing (Some s) = sym (append-nil s)
+
+-- what holds at all holds where a call went well
+pub on_ok : {T E P : Type 0} (r : Result T E) → P → OnOk r P
+on_ok (Ok x) p = p
+on_ok (Err e) p = tt
 
 -- the same bytes, put together in another way
 pub reads_as : {T E : Type 0} (r : Result T E) (new old a b : List ℕ) → OnOk r (new ≡ old ++ a) → a ≡ b → OnOk r (new ≡ old ++ b)

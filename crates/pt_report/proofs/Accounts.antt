@@ -11,7 +11,7 @@ use Rattle.pt_accounts.specs.declared.account.Account.{Account}
 use Rattle.pt_accounts.specs.LivesState.{InEveryMerge, account_in}
 use Rattle.pt_report.specs.Summaries.{account_line, account_lines, noted_line, noted_lines}
 use Rattle.pt_report.specs.declared.notes.Note.{Note}
-use Rattle.pt_report.proofs.Writing.{appends_then, appends_keeps}
+use Rattle.pt_chart.proofs.Writing.{appends_then, appends_keeps}
 
 -- an account that is the one of the history
 pub told_line : (old new : Option (List ℕ)) (p : Pid) (a told : Option Account) → a ≡ told → Appends old new (account_line p a) → Appends old new (account_line p told)

@@ -5,4 +5,3 @@ mod Faults
 mod Passing
 mod Rest
 mod Settings
-mod Writing

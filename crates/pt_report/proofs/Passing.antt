@@ -38,7 +38,7 @@ use Rattle.pt_report.specs.Summaries.{SummarizesAs}
 use Rattle.pt_report.specs.declared.fault.ReportFault.{ReportFault}
 use Rattle.pt_report.specs.declared.fault.ReportFault.TheVariants.{Script, Memory, Desk, File}
 use Rattle.pt_report.proofs.Settings.{epoch_goes_on, same_settings}
-use Rattle.pt_report.proofs.Writing.{appends_nothing, appends_then}
+use Rattle.pt_chart.proofs.Writing.{appends_nothing, appends_then}
 
 -- the settings of a node after an epoch are those before it, with other clocks
 pub gathered_settings : (options : Options) (budget : ℕ) (config : Config) (old ran : Staffed) (g : GatheredState) → AreDesksOf config old.0 → RunsEpoch options budget old ran → Gathers ran.0 g → g.config ≡ config

@@ -179,7 +179,7 @@ fn write_epoch<W: Write>(out: &mut W, form: Form, events: &[Stamped]) -> Result<
     }
 }
 
-#[tactic(auto, using(crate::proofs::Writing::appends_keeps))]
+#[tactic(auto, using(pt_chart::proofs::Writing::appends_keeps))]
 fn write_all<W: Write>(out: &mut W, form: Form, events: &[Stamped]) -> io::Result<()>
     ensures { OnOk result (Appends (W.contents out.old) (W.contents out.new) (lines form events.now)) }
 {

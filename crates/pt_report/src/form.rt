@@ -21,7 +21,7 @@ pub(crate) enum Form {
 }
 
 /// Writes what comes before all events.
-#[tactic(auto, using(crate::proofs::Writing::appends_nothing))]
+#[tactic(auto, using(pt_chart::proofs::Writing::appends_nothing))]
 pub(crate) fn write_head<W: Write>(out: &mut W, form: Form) -> io::Result<()>
     ensures { OnOk result (Appends (W.contents out.old) (W.contents out.new) (form_head form)) }
 {

@@ -57,7 +57,7 @@ pub(crate) fn all_events(
 }
 
 /// Writes the events, then the letters left over, and flushes the writer.
-#[tactic(auto, using(crate::proofs::Writing::appends_then, crate::proofs::Writing::appends_keeps))]
+#[tactic(auto, using(pt_chart::proofs::Writing::appends_then, pt_chart::proofs::Writing::appends_keeps))]
 fn write_history<W: Write>(
     out: &mut W,
     form: Form,

@@ -1,7 +1,7 @@
 -- `write_text`: its contract.
 use Rattle.std.proofs.Common.{subst}
 use Rattle.std.specs.Io.KnownBytes.{Appends}
-use Rattle.pt_report.proofs.Writing.{appends_keeps, on_ok}
+use Rattle.pt_chart.proofs.Writing.{appends_keeps, on_ok}
 use Rattle.pt_report.proofs.chart.write_text.Goals as goal
 
 pub returns : goal.returns
