@@ -14,7 +14,7 @@ NUMBERS = count()
 
 
 class Group:
-    """Processes that are sent to together: a group of Erlang's `pg`. `Runtime.group` makes one.
+    """Processes to which a program sends together, as a group of Erlang's `pg`. `Runtime.group` makes one.
 
     A process may be in many groups. It may join a group several times, and is in it until it has left as often, or has exited. A
     group may go to any thread, and keeps no process alive. All of its processes are of the run that it was made for.

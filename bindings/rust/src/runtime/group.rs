@@ -30,7 +30,7 @@ impl Table {
     }
 }
 
-/// Processes that are sent to together: a group of Erlang's `pg`, with the type of the messages.
+/// Processes to which a program sends together, as a group of Erlang's `pg`, with the type of their messages.
 ///
 /// A process may be in many groups. It may join a group several times, and is in it until it has left as often, or has exited. A
 /// group may be cloned and go to any thread. It keeps no process alive. All of its processes are of the run that it was made for.
