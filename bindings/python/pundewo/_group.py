@@ -1,4 +1,4 @@
-"""Groups of processes. Which process is in which group says the library."""
+"""Groups of processes. The library keeps which process is in which group."""
 
 from __future__ import annotations
 
@@ -37,7 +37,7 @@ class Group:
         return True
 
     def join(self, process: Address) -> bool:
-        """Adds a process, once more if it is there already: `pg:join`. It has joined as this returns, on whatever thread. It
+        """Adds a process, once more if it is there already: `pg:join`. It has joined when this returns, on any thread. It
         returns False, and nothing changes, if the process has exited. Fault: MEMORY."""
         return self._engine.join(self._number, self._engine.own("process", process).pid)
 

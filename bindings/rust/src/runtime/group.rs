@@ -1,5 +1,5 @@
-//! Groups of processes. Which process is in which group says the library, in a table for each desk; the processes are found among
-//! those that live on the desk.
+//! Groups of processes. The library keeps which process is in which group, in a table for each desk. The processes are found
+//! among those that live on the desk.
 
 use super::address::Address;
 use super::hub::Hub;
@@ -14,7 +14,7 @@ use std::marker::PhantomData;
 use std::sync::Arc;
 use std::sync::atomic::{AtomicU64, Ordering::SeqCst};
 
-/// The monitor that a table is passed. (the thread of a desk hears of all exits by itself)
+/// The monitor that each join passes. (the thread of a desk hears of all exits by itself)
 const NO_MONITOR: Ref = Ref { desk: 0, number: 0 };
 
 /// The table of a desk, once a process of it has joined a group.
@@ -83,7 +83,7 @@ impl<M: Send + 'static> Group<M> {
         &self.text
     }
 
-    /// Adds a process, once more if it is there already: `pg:join`. It has joined as this returns, on whatever thread.
+    /// Adds a process, once more if it is there already: `pg:join`. It has joined when this returns, on any thread.
     ///
     /// # Errors
     ///
