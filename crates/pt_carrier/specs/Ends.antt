@@ -43,6 +43,10 @@ in_ends number cursor lanes = record {
   known = map (λ (s : Receiving). s.known) lanes;
 }
 
+-- the next look begins at the lane from desk k
+abbrev pub looking_from : ℕ → InEnds → InEnds
+looking_from k ends = record ends { cursor = k }
+
 -- the lanes go out from one desk, in order of desk
 abbrev pub GoOutFrom : ℕ → List Sending → Type 0
 GoOutFrom number lanes =

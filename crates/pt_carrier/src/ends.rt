@@ -8,7 +8,7 @@ ghost use Rattle.pt_signal.specs.declared.config.TheConstants.{MAX_DESKS};
 ghost use Rattle.pt_signal.specs.Boxes.{one_more};
 ghost use Rattle.pt_carrier.specs.Ends.{OutEnds, InEnds, out_ends, in_ends, GoOutFrom, ComeInTo, more_of};
 ghost use Rattle.pt_carrier.specs.Ends.{IsFull, HasPlace, HasPlaces, LooksAt, Collects, Shows, ShowNone};
-ghost use Rattle.pt_carrier.specs.Ends.{IsFirstFromCursor, IsFront};
+ghost use Rattle.pt_carrier.specs.Ends.{IsFirstFromCursor, IsFront, looking_from};
 ghost use Rattle.pt_carrier.specs.Lanes.{AllGo};
 ghost use Rattle.pt_carrier.specs.Node.{lists};
 ghost use Rattle.pt_carrier.specs.Meeting.{HaveMet, Meets};
@@ -228,6 +228,16 @@ impl Ins {
         };
         let letter = self.take(d);
         Some((d, letter))
+    }
+
+    /// Moves the cursor to desk `from`: the next look at the lanes begins there.
+    ///
+    /// A caller that chooses the order of lanes takes this call before each collect.
+    pub fn look_from(&mut self, from: u8)
+        requires { from < length self.old.place.rings }
+        ensures { self.new ≡ looking_from from self.old }
+    {
+        self.cursor = from;
     }
 
     /// The desk of the next letter to be collected: the first from the cursor upwards and round whose lane shows a

@@ -3,7 +3,7 @@ use Rattle.std.specs.Prelude.{◌≡◌, ℕ, ◌-◌, ◌^◌, ◌<◌, ◌≤�
 use Rattle.std.specs.Prelude.{Option, Some, None, Result, Ok, Err}
 use Rattle.pt_signal.specs.declared.config.TheConstants.{MAX_STAMP}
 use Rattle.pt_signal.specs.declared.letter.Letter.{Letter}
-use Rattle.pt_carrier.specs.Ends.{Collects, IsFirstFromCursor, ShowNone}
+use Rattle.pt_carrier.specs.Ends.{Collects, IsFirstFromCursor, ShowNone, looking_from}
 use Rattle.pt_shard.specs.ShardState.{handled}
 use Rattle.pt_shard.specs.Outbox.{holding}
 use Rattle.pt_shard.specs.declared.stop.Stop.{Stop}
@@ -11,6 +11,10 @@ use Rattle.pt_shard.specs.declared.stop.Stop.TheVariants.{Memory, Worn}
 use Rattle.pt_desk.specs.declared.turned.Turned.{Turned}
 use Rattle.pt_desk.specs.DeskState.{DeskState}
 use Rattle.pt_desk.specs.Posting.{Posts, total}
+
+-- the next turn looks at the lane from desk k before the others
+abbrev pub looking_first : ℕ → DeskState → DeskState
+looking_first k d = record d { ins = looking_from k d.ins }
 
 -- the letter is taken out of its lane and stands in the hold
 pub record TakesFromLane (l : Letter) (old new : DeskState) : Type 0 where

@@ -1,7 +1,7 @@
 //! A desk of a node.
 
 ghost use Rattle.std.specs.Prelude.{◌≡◌, ◌<◌, ◌+◌, ◌-◌, ◌^◌, ◌++◌, ℕ, [], length, min, true, Some, None, IfSome};
-ghost use Rattle.std.specs.Prelude.{IfOk, IsOk, cond, drop, is_some, slice_get, slice_index_or, ◌==◌};
+ghost use Rattle.std.specs.Prelude.{IfOk, IsOk, cond, drop, is_some, nat_lt, slice_get, slice_index_or, ◌==◌};
 ghost use Rattle.std.specs.Option.{option_copied};
 ghost use Rattle.pt_signal.specs.declared.signal.Signal.{Signal};
 ghost use Rattle.pt_events.specs.declared.event.Event.{Event};
@@ -26,7 +26,7 @@ ghost use Rattle.pt_desk.specs.Sight.{IsSeated, seat_of};
 ghost use Rattle.pt_desk.specs.Reaching.{LooksFirst, Reaches, has_link_to_make, has_monitor_to_make};
 ghost use Rattle.pt_desk.specs.Posting.{PostsTo, PostsSome, Posts, total};
 ghost use Rattle.pt_desk.specs.InPlace.{HandlesFront, HoldsFront, CanTell, seat_told};
-ghost use Rattle.pt_desk.specs.Turns.{HandlesAtMostOne, Turns};
+ghost use Rattle.pt_desk.specs.Turns.{HandlesAtMostOne, Turns, looking_first};
 
 use crate::turned::Turned;
 use pt_accounts::DeskLives;
@@ -577,6 +577,19 @@ impl Desk {
         match self.directory.probe(&mut self.seat, t) {
             Some(seen) => Err(self.shard.refuse(p, t, seen)),
             None => Ok(()),
+        }
+    }
+
+    /// Lets the next turn look at the lane from desk `from` before the others. The first letter that it collects is then
+    /// the oldest of that lane, if it shows one.
+    ///
+    /// Does nothing if the node has no such desk.
+    pub fn look_from(&mut self, from: u8)
+        ensures looks { self.new ≡ cond (nat_lt from self.old.shard.config.desks) (looking_first from self.old) self.old }
+        ensures goes_on { GoesOn self.old self.new }
+    {
+        if from < self.shard.config().desks {
+            self.ins.look_from(from);
         }
     }
 
