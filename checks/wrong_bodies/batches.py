@@ -374,7 +374,7 @@ def chosen(edits: list[Edit], given: argparse.Namespace, verdicts: dict[str, kep
 def is_kept(edit: Edit, verdicts: dict[str, kept.Verdict], sums: kept.Checksums) -> bool:
     """Whether a verdict is kept that was made from what is there now."""
     found = verdicts.get(edit.label)
-    return found is not None and found.checksum == sums.of_edit(edit.crate, file_of(edit).read_bytes())
+    return found is not None and found.checksum == sums.of_edit(edit, file_of(edit).read_bytes())
 
 
 def twins_of(crate: str, edits: list[Edit]) -> list[Edit]:
@@ -510,7 +510,7 @@ class Report:
         if found.verdict == "refused" and edit.clause is None:
             return "it names no clause"
         before = self.verdicts.get(edit.label)
-        is_old = before and before.checksum == self.sums.of_edit(edit.crate, file_of(edit).read_bytes())
+        is_old = before and before.checksum == self.sums.of_edit(edit, file_of(edit).read_bytes())
         if is_old and before and before.verdict == "refused" != found.verdict:
             return f"its kept verdict is 'refused', and this trial says '{found.verdict}'"
         return {
@@ -528,7 +528,7 @@ class Report:
         for edit, found in tried:
             if edit.label in labels:
                 verdict = "open" if edit.open else found.verdict
-                checksum = self.sums.of_edit(edit.crate, file_of(edit).read_bytes())
+                checksum = self.sums.of_edit(edit, file_of(edit).read_bytes())
                 now[edit.label] = kept.Verdict(verdict, found.reason, str(edit.clause or ""), checksum)
         kept.write(VERDICTS, now)
 

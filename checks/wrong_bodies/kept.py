@@ -1,8 +1,6 @@
 """The verdicts that the repository keeps: each in a line of verdicts.txt, beside a checksum of all that it was made from.
 
-That is the crate with its line of crates.txt, what it reads of all crates below it, the kit, the edit, and the file that
-decides. A check of a crate reads the definitions, contracts and lemmas of the crates below. It does not read how their
-functions are proved: the files that answer the goals of a function are read by the check of that function alone.
+That is the kit, the edit, the file that decides, and all that the changed function reaches by names (reach.py).
 """
 from __future__ import annotations
 
@@ -12,8 +10,9 @@ from collections import Counter
 from dataclasses import dataclass
 from pathlib import Path
 
-# The files that answer the goals of one function, in its own folder below proofs/. No module may cite them (tests.py).
-ANSWERS = ("Answers.antt", "Invariants.antt", "Proof.antt")
+from deciding import Edit
+from reach import Reach
+
 HEAD = """\
 # What a trial of each wrong body found, beside a checksum of all that it was made from: `batches.py --keep` writes it.
 # A line is: name, verdict, reason, clause, checksum. deciding.py says what the words mean. There are:
@@ -51,41 +50,34 @@ def write(file: Path, kept: dict[str, Verdict]) -> None:
 class Checksums:
     """The checksums of crates and of edits."""
 
-    def __init__(self, root: Path, crates: dict[str, list[str]], kit: str, deciding: Path):
+    def __init__(self, root: Path, crates: dict[str, list[str]], kit: str, deciding_file: Path):
         self.root, self.crates, self.kit = root, crates, kit
-        self.deciding = deciding.read_bytes()
-        self.known: dict[tuple[str, bool], str] = {}
+        self.deciding = deciding_file.read_bytes()
+        self.reach = Reach(root, crates)
+        self.known: dict[str, str] = {}
 
-    def of_crate(self, crate: str, from_above: bool = False) -> str:
-        """A checksum of a crate and of what it reads of all below it; or, from above, of what the crates above read of it."""
-        at = crate, from_above
-        if at not in self.known:
-            folder = self.root / "crates" / crate
+    def of_crate(self, crate: str) -> str:
+        """A checksum of all files of a crate and of the crates below it."""
+        if crate not in self.known:
             found = hashlib.sha256(f"{self.kit}\0{crate}\0{' '.join(sorted(self.crates[crate]))}\0".encode())
             for below in sorted(it for it in self.crates[crate] if it in self.crates):
-                found.update(self.of_crate(below, True).encode())
-            found.update(sources(folder, from_above).encode())
-            self.known[at] = found.hexdigest()
-        return self.known[at]
+                found.update(self.of_crate(below).encode())
+            found.update(sources(self.root / "crates" / crate).encode())
+            self.known[crate] = found.hexdigest()
+        return self.known[crate]
 
-    def of_edit(self, crate: str, edit: bytes) -> str:
-        """A checksum of all that the verdict of an edit is made from."""
-        return hashlib.sha256(b"\0".join([self.of_crate(crate).encode(), edit, self.deciding])).hexdigest()[:20]
+    def of_edit(self, edit: Edit, text: bytes) -> str:
+        """A checksum of all that the verdict of an edit is made from, of which this is the file."""
+        reached = self.reach.checksum(edit)
+        return hashlib.sha256(b"\0".join([self.kit.encode(), reached.encode(), text, self.deciding])).hexdigest()[:20]
 
 
-def sources(folder: Path, from_above: bool = False) -> str:
-    """A checksum of a crate's own files that a check reads; from above, without the answers to the goals of its functions."""
+def sources(folder: Path) -> str:
+    """A checksum of a crate's own files that a check reads."""
     found = hashlib.sha256()
     for path in sorted(it for part in ("src", "specs", "proofs") for it in (folder / part).rglob("*") if it.is_file()):
-        if from_above and is_answers(path.relative_to(folder)):
-            continue
         found.update(f"{path.relative_to(folder)}\0".encode() + path.read_bytes() + b"\0")
     return found.hexdigest()
-
-
-def is_answers(path: Path) -> bool:
-    """Whether the file at this path in a crate answers the goals of one function."""
-    return path.parts[0] == "proofs" and len(path.parts) > 2 and path.name in ANSWERS
 
 
 def is_drawn(label: str, commit: str) -> bool:

@@ -16,6 +16,7 @@ from pathlib import Path
 sys.dont_write_bytecode = True
 import deciding
 import kept
+import reach
 from deciding import Edit, Finding, Said
 
 HERE = Path(__file__).resolve().parent
@@ -217,40 +218,6 @@ class Files(unittest.TestCase):
             kept.write(file, verdicts)
             self.assertEqual(kept.read(file), verdicts)
 
-    def test_a_checksum_is_of_the_crates_below_too(self) -> None:
-        with tempfile.TemporaryDirectory() as room:
-            root = Path(room)
-            for crate in ("low", "high"):
-                (root / "crates" / crate / "src").mkdir(parents=True)
-                (root / "crates" / crate / "src/lib.rt").write_text(crate)
-            (root / "deciding.py").write_text("")
-
-            def now(kit: str = "one", edit: bytes = b"edit") -> str:
-                return kept.Checksums(root, {"low": [], "high": ["low"]}, kit, root / "deciding.py").of_edit("high", edit)
-
-            first = now()
-            self.assertEqual(first, now())
-            self.assertNotEqual(first, now(kit="two"))
-            self.assertNotEqual(first, now(edit=b"other"))
-            (root / "crates/low/src/lib.rt").write_text("changed")
-            self.assertNotEqual(first, now())
-
-    def test_a_checksum_has_no_answers_of_the_crates_below(self) -> None:
-        with tempfile.TemporaryDirectory() as room:
-            root = Path(room)
-            for path in ("low/proofs/lib/run/Answers.antt", "low/proofs/Runs.antt", "high/proofs/lib/run/Answers.antt"):
-                (root / "crates" / path).parent.mkdir(parents=True, exist_ok=True)
-                (root / "crates" / path).write_text("first")
-            (root / "deciding.py").write_text("")
-            seen = set()
-            for path, changes in (("low/proofs/lib/run/Answers.antt", False), ("low/proofs/Runs.antt", True), ("high/proofs/lib/run/Answers.antt", True)):
-                before = kept.Checksums(root, {"low": [], "high": ["low"]}, "kit", root / "deciding.py").of_edit("high", b"edit")
-                (root / "crates" / path).write_text("changed")
-                after = kept.Checksums(root, {"low": [], "high": ["low"]}, "kit", root / "deciding.py").of_edit("high", b"edit")
-                self.assertEqual(before != after, changes, path)
-                seen |= {before, after}
-            self.assertEqual(len(seen), 3)
-
     def test_no_module_cites_the_answers_of_a_function(self) -> None:
         crates = Path(__file__).resolve().parent.parent.parent / "crates"
         cites = re.compile(r"use Rattle\.\w+\.proofs\.[\w.+]*\.(Answers|Invariants|Proof)\.\{")
@@ -261,6 +228,85 @@ class Files(unittest.TestCase):
     def test_a_tenth_is_drawn(self) -> None:
         drawn = sum(kept.is_drawn(f"crate/edit_{it}", "0123") for it in range(1000))
         self.assertTrue(60 < drawn < 140, drawn)
+
+
+class Reached(unittest.TestCase):
+    """What changes the checksum of a verdict: a small repository of two crates, and one change of it at a time."""
+
+    FILES = {
+        "low/specs/Counts.antt": "use Rattle.std.specs.Prelude.{ℕ, ◌+◌}\n\nabbrev pub Count : Type 0\nCount = ℕ\n\n"
+        "-- one more\nabbrev pub more : Count → Count\nmore n = n + 1\n\npub hidden : Count → Count\nhidden n = n\n",
+        "low/src/lib.rt": "ghost use low.specs.Counts.{more};\n\n/// A counter.\npub struct Counter {\n    count: u8,\n}\n\nimpl Counter {\n"
+        "    /// Adds one.\n    #[inline(always)]\n    pub fn add(&mut self)\n        ensures { self.new ≡ more self.old }\n    {\n"
+        "        self.count += 1;\n    }\n}\n",
+        "low/proofs/Adding.antt": "use low.specs.Counts.{more as one_more}\n\nmodule _ (n : Count) where\n  pub added : one_more n ≡ n + 1\n  added = refl\n",
+        "high/src/lib.rt": "use low::Counter;\n\nfn add_two(counter: &mut Counter)\n    ensures { counter.new ≡ two counter.old }\n{\n"
+        "    counter.add();\n    counter.add();\n}\n\nfn rest(a: u8) -> u8 {\n    a\n}\n",
+        "high/specs/Twice.antt": "use low.specs.Counts.{more}\n\nabbrev pub two : Count → Count\ntwo n = more (more n)\n",
+        "high/proofs/add_two/Answers.antt": "use low.proofs.Adding.{added}\n\npub returns : goal.returns\nreturns c = added c.n\n",
+    }
+
+    def checksum(self, file: str = "", old: str = "", new: str = "", kit: str = "kit", edit: bytes = b"edit", function: str = "add_two") -> str:
+        with tempfile.TemporaryDirectory() as room:
+            root = Path(room)
+            for path, text in self.FILES.items():
+                if path == file:
+                    self.assertEqual(text.count(old), 1, old)
+                    text = text.replace(old, new)
+                (root / "crates" / path).parent.mkdir(parents=True, exist_ok=True)
+                (root / "crates" / path).write_text(text)
+            (root / "deciding.py").write_text("")
+            tried = Edit("high", "it", [("src/lib.rt", "    counter.add();\n}", "}")], functions=[function] if function else [], outside=not function)
+            return kept.Checksums(root, {"low": [], "high": ["low"]}, kit, root / "deciding.py").of_edit(tried, edit)
+
+    def test_what_is_reached_counts(self) -> None:
+        for file, old, new in (
+            ("high/src/lib.rt", "counter.add();\n    counter", "counter.add(); // twice\n    counter"),
+            ("high/src/lib.rt", "counter.new ≡ two", "counter.new ≡ one"),
+            ("high/specs/Twice.antt", "more (more n)", "more n"),
+            ("high/proofs/add_two/Answers.antt", "added c.n", "added c.m"),
+            ("low/src/lib.rt", "self.new ≡ more self.old", "self.new ≡ self.old"),
+            ("low/src/lib.rt", "count: u8", "count: u16"),
+            ("low/specs/Counts.antt", "n + 1", "n + 2"),
+            ("low/specs/Counts.antt", "Count = ℕ", "Count = ℤ"),
+            ("low/proofs/Adding.antt", "(n : Count)", "(n : Other)"),
+            ("low/proofs/Adding.antt", "one_more n ≡", "one_more m ≡"),
+            ("low/proofs/Adding.antt", "{more as one_more}", "{hidden as one_more}"),
+            ("high/specs/Twice.antt", "low.specs.Counts", "low.specs.Others"),
+        ):
+            self.assertNotEqual(self.checksum(), self.checksum(file, old, new), f"{file}: {new}")
+
+    def test_the_kit_and_the_edit_count(self) -> None:
+        self.assertNotEqual(self.checksum(), self.checksum(kit="other"))
+        self.assertNotEqual(self.checksum(), self.checksum(edit=b"other"))
+
+    def test_what_is_not_reached_does_not_count(self) -> None:
+        for file, old, new in (
+            ("high/src/lib.rt", "    a\n", "    a + 1\n"),
+            ("high/src/lib.rt", "fn rest", "/// The rest.\nfn more_rest() {}\n\nfn rest"),
+            ("low/src/lib.rt", "self.count += 1;", "self.count = self.count + 1;"),
+            ("low/src/lib.rt", "/// A counter.", "/// A counter, with words."),
+            ("low/src/lib.rt", "    /// Adds one.", "    pub fn other(&self) -> u8 {\n        0\n    }\n\n    /// Adds one."),
+            ("low/specs/Counts.antt", "-- one more", "-- another comment"),
+            ("low/specs/Counts.antt", "{ℕ, ◌+◌}", "{ℕ, ◌+◌, List}"),
+            ("low/specs/Counts.antt", "hidden n = n", "hidden n = n\n\nabbrev pub less : Count\nless = 0"),
+            ("low/proofs/Adding.antt", "added = refl", "added = sym refl"),
+        ):
+            self.assertEqual(self.checksum(), self.checksum(file, old, new), f"{file}: {new}")
+
+    def test_of_an_edit_outside_of_functions_the_whole_crate_counts(self) -> None:
+        self.assertNotEqual(self.checksum(function=""), self.checksum("high/src/lib.rt", "    a\n", "    a + 1\n", function=""))
+        self.assertEqual(self.checksum(function=""), self.checksum("low/specs/Counts.antt", "hidden n = n", "hidden n = 0", function=""))
+
+    def test_what_is_unfolded_in_its_file_is_read_whole(self) -> None:
+        text = "pub one : ℕ\none = 1\n\nabbrev pub two : ℕ\nunfolding one\ntwo = one + one\n\npub three : ℕ\nthree = 3\n"
+        self.assertEqual([it.text.split("\n")[-1] for it in reach.parts_of_antt(text)], ["one = 1", "two = one + one", "pub three : ℕ"])
+
+    def test_the_parts_of_a_source_file(self) -> None:
+        parts = {name: it.text for it in reach.parts_of_source(self.FILES["low/src/lib.rt"], "") for name in it.names}
+        self.assertEqual(sorted(parts), ["Counter", "add"])
+        self.assertIn("#[inline(always)]\n    pub fn add(&mut self)\n        ensures { self.new ≡ more self.old }", parts["add"])
+        self.assertNotIn("count += 1", parts["add"])
 
 
 if __name__ == "__main__":

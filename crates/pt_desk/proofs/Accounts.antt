@@ -10,7 +10,7 @@ use Rattle.pt_signal.specs.Process.{sent}
 use Rattle.pt_events.specs.declared.event.Event.{Event}
 use Rattle.pt_events.specs.History.{sent_by}
 use Rattle.pt_events.specs.Journal.{letter, letters, posts, gots, Agrees}
-use Rattle.pt_carrier.specs.Ends.{Place, OutEnds, InEnds, more_of, Collects}
+use Rattle.pt_carrier.specs.Ends.{Place, OutEnds, InEnds, more_of, Collects, looking_from}
 use Rattle.pt_carrier.specs.Meeting.{out_kept, in_kept}
 use Rattle.pt_shard.specs.ShardState.{ShardState, box, past, written, handled, came_event}
 use Rattle.pt_shard.specs.Outbox.{sent_on_some, holding, held_from}
@@ -148,4 +148,17 @@ accounted_met s o o' i i' acc p q = record {
   collected_desks = ap (λ (k : Place × ℕ × List (List Letter)). length k.2) q ∙ acc.collected_desks;
   posted = λ e l. acc.posted e l ∙ ap (λ (k : Place × List (List Letter) × List ℕ). get_or k.1 e [] ++ box s e) (sym p);
   collected = λ d l. subst (λ (k : Place × ℕ × List (List Letter)). Agrees (get_or k.2 d []) (gots s.journal d) (held_from d s.hold)) (sym q) (acc.collected d l);
+}
+
+-- another lane is looked at first
+pub accounted_looking : (s : ShardState) (o : OutEnds) (i : InEnds) (k : ℕ) → IsAccounted s o i → IsAccounted s o (looking_from k i)
+accounted_looking s o i k acc = record {
+  out_number = acc.out_number;
+  in_number = acc.in_number;
+  out_desks = acc.out_desks;
+  in_desks = acc.in_desks;
+  posted_desks = acc.posted_desks;
+  collected_desks = acc.collected_desks;
+  posted = acc.posted;
+  collected = acc.collected;
 }

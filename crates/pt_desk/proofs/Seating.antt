@@ -14,7 +14,7 @@ use Rattle.pt_accounts.specs.DeskLives.{DeskTable, IsTableOf}
 use Rattle.pt_events.specs.History.{at_start, is_unborn}
 use Rattle.pt_directory.specs.Views.{new_read}
 use Rattle.pt_directory.specs.Seats.{DirectoryState, SeatState, add_death, death_of}
-use Rattle.pt_carrier.specs.Ends.{OutEnds, InEnds}
+use Rattle.pt_carrier.specs.Ends.{OutEnds, InEnds, looking_from}
 use Rattle.pt_carrier.specs.Meeting.{out_kept, in_kept}
 use Rattle.pt_shard.specs.declared.loss.Loss.{Loss}
 use Rattle.pt_shard.specs.ShardState.{ShardState, past, written, ended_in}
@@ -23,7 +23,7 @@ use Rattle.pt_signal.specs.declared.config.Config.{Config}
 use Rattle.pt_shard.specs.Outbox.{sent_on_some}
 use Rattle.pt_shard.specs.Fit.{IsFit}
 use Rattle.pt_desk.specs.DeskState.{IsDesk, IsAccounted}
-use Rattle.pt_desk.proofs.Accounts.{accounted_by, accounted_met}
+use Rattle.pt_desk.proofs.Accounts.{accounted_by, accounted_looking, accounted_met}
 use Rattle.pt_desk.proofs.Posted.{of_parts}
 
 abbrev pub sight_of : DirectoryState → SeatState → DeskTable → Sight
@@ -116,6 +116,11 @@ lost_whole s s' o i v seat keeps lost after fit whole =
 pub met_whole : (s : ShardState) (o o' : OutEnds) (i i' : InEnds) (v : Sight) (seat : SeatState) → out_kept o' ≡ out_kept o → in_kept i' ≡ in_kept i → IsWhole s o i v seat → IsWhole s o' i' v seat
 met_whole s o o' i i' v seat outs ins whole =
     (record { fit = whole.0.fit; accounts = accounted_met s o o' i i' whole.0.accounts outs ins; seated = whole.0.seated }, whole.1)
+
+-- a desk that looks at another lane first
+pub looking_whole : (s : ShardState) (o : OutEnds) (i i' : InEnds) (v : Sight) (seat : SeatState) (k : ℕ) → i' ≡ looking_from k i → IsWhole s o i v seat → IsWhole s o i' v seat
+looking_whole s o i i' v seat k is whole =
+    (record { fit = whole.0.fit; accounts = subst (IsAccounted s o) (sym is) (accounted_looking s o i k whole.0.accounts); seated = whole.0.seated }, whole.1)
 
 -- a desk after one more read ---------------------------------------------------------
 

@@ -13,7 +13,7 @@ use Rattle.pt_shard.specs.Extends.{Extends}
 use Rattle.pt_desk.specs.Sight.{Sight, SeesOn}
 use Rattle.pt_desk.specs.DeskState.{DeskState, GoesOn, IsAccounted, place}
 use Rattle.pt_desk.specs.Posting.{Posts}
-use Rattle.pt_desk.specs.Turns.{TakesFromLane, Fetches, FindsNone, HandlesNext, HandlesAll, Stays, EndsWith, handled_held}
+use Rattle.pt_desk.specs.Turns.{TakesFromLane, Fetches, FindsNone, HandlesNext, HandlesAll, Stays, EndsWith, handled_held, looking_first}
 use Rattle.pt_desk.specs.InPlace.{HandlesFront}
 use Rattle.pt_carrier.proofs.Collecting.{front_taken}
 use Rattle.pt_desk.proofs.Accounts.{accounted_handled, accounted_taken}
@@ -123,6 +123,9 @@ goes_on_then old mid new a b = record { shard = extends_then old.shard mid.shard
 
 pub same_goes_on : (old new : DeskState) → new ≡ old → GoesOn old new
 same_goes_on old new h = record { shard = subst (λ (d : DeskState). Extends old.shard d.shard) (sym h) (extends old.shard); place = ap place h; sight = subst (λ (d : DeskState). SeesOn old.sight d.sight) (sym h) (sees_same old.sight) }
+
+pub looking_goes_on : (k : ℕ) (d : DeskState) → GoesOn d (looking_first k d)
+looking_goes_on k d = record { shard = extends d.shard; place = refl; sight = sees_same d.sight }
 
 posts_go_on : (old new : DeskState) → Posts old new → GoesOn old new
 posts_go_on old new p = record {

@@ -1,0 +1,345 @@
+"""What the verdict of a wrong body rests on: its function, and each contract, definition and lemma that this reaches by names.
+
+A check of a function reads its body and the answers to its goals. Of all else it reads what these name: contracts,
+definitions, types and lemmas, and what those name in turn, in this crate and in the crates below. A wrong body that was
+refused stays refused as long as all of that stays as it is. So a new call or lemma, an import, a comment, and the body of
+another function leave its verdict as it was.
+
+The texts are split into parts: a function without its body, a type, an `impl` block without its functions, or a definition
+or lemma of antt. Names are matched as words, whatever they mean at their place, so too much is reached rather than too little.
+"""
+from __future__ import annotations
+
+import hashlib
+import re
+from collections.abc import Iterable, Iterator
+from dataclasses import dataclass
+from functools import cache, cached_property
+from pathlib import Path
+
+import deciding
+
+WORD = re.compile(r"[A-Za-z_][\w'-]*|[^\w\s(){}\[\],;.'\"◌]+")
+DECLARES = re.compile(r"(?:pub(?:\(\w+\))? )?(?:unsafe )?(?:struct|enum|union|trait|const|static|type|mod|macro_rules!) *(\w+)")
+DEFINES = re.compile(r"(?:(?:abbrev|unfoldable|unfolding|pub|starred|instance|partial) )*(?:(?:record|data) )?([A-Za-z_][\w'-]*|◌[^\s{},.()]+◌)(?= |$)")
+# What others read whole.
+OPEN = re.compile(r"(pub )?(abbrev|unfoldable|record|data)\b|pub (record|data)\b")
+
+
+@dataclass(frozen=True)
+class Part:
+    """A part of a crate: the names by which others reach it, its text without comments, and the names in that."""
+
+    names: frozenset[str]
+    text: str
+    words: frozenset[str]
+
+
+class File:
+    """A file: its text without comments and imports, and where its imports come from."""
+
+    def __init__(self, text: str, comment: str):
+        kept: list[str] = []
+        imports: list[str] = []
+        is_open = False
+        for line in text.split("\n"):
+            if is_open or re.match(r"\s*(pub )?(ghost )?use ", line):
+                imports.append(line) if not is_open else imports.append(imports.pop() + " " + line.strip())
+                is_open = not line.rstrip().endswith((";", "}") if comment == "--" else ";")
+            elif line.strip() and not line.lstrip().startswith(comment):
+                kept.append(line.rstrip())
+        self.text = "\n".join(kept)
+        self.origins = dict(it for line in imports for it in origins_in(line))
+
+    def part(self, names: Iterable[str], text: str) -> Part:
+        """A part of this file. Beside its text is where each imported name in it comes from."""
+        words = words_of(text)
+        used = {name: self.origins[name] for name in sorted(words & self.origins.keys())}
+        origins = "".join(f"\n{name} of {path} {original}" for name, (path, original) in used.items())
+        return Part(frozenset(names), text + origins, words | {original for _, original in used.values()})
+
+
+def origins_in(line: str) -> Iterator[tuple[str, tuple[str, str]]]:
+    """Each name that a line imports, with the path that it is of and its name there."""
+    path, _, names = re.sub(r"^\s*(pub )?(ghost )?use ", "", line).partition("{")
+    found = re.findall(r"([A-Za-z_][\w'-]*|◌[^\s{},]+◌)(?: as (\w+))?", names) if names else re.findall(r"(\w+)(?: as (\w+))?;?$", path)
+    for original, alias in found:
+        yield (alias or original).strip("◌"), (path.strip(), original.strip("◌"))
+
+
+def words_of(text: str) -> frozenset[str]:
+    """The names in a text; of one with a hyphen also those on its sides."""
+    found = set(WORD.findall(text))
+    return frozenset(found | {piece for it in found if "-" in it for piece in it.split("-") if piece})
+
+
+def begin_of(lines: list[str], function: deciding.Function) -> int:
+    """The line in which the attributes of a function begin."""
+    at = function.first
+    while at > 0 and lines[at - 1].strip() and not re.search(r"[{};]$", lines[at - 1].rstrip()):
+        at -= 1
+    return at
+
+
+def header_of(lines: list[str], function: deciding.Function) -> str:
+    """The attributes of a function, its arguments and its contract, without its body."""
+    indent = re.match(" *", lines[function.first])
+    opens = f"{indent[0] if indent else ''}{{"
+    own = lines[begin_of(lines, function) : function.last + 1]
+    end = next((at for at, line in enumerate(own) if line.rstrip() == opens), None)
+    if end is None:
+        end = next((at + 1 for at, line in enumerate(own) if line.rstrip().endswith(" {")), len(own))
+    return "\n".join(own[:end])
+
+
+def parts_of_source(text: str, module: str) -> list[Part]:
+    """The parts of a source file."""
+    lines = text.split("\n")
+    file = File(text, "//")
+    functions = deciding.functions_of(text, module)
+    parts = [file.part([it.path.split("::")[-1]], File(header_of(lines, it), "//").text) for it in functions]
+    within = {at for it in functions for at in range(begin_of(lines, it), it.last + 1)}
+    rest = File("\n".join("" if at in within else line for at, line in enumerate(lines)), "//").text
+    return parts + [file.part(names_declared(it), it) for it in blocks_of(rest)]
+
+
+def blocks_of(text: str) -> list[str]:
+    """The items of a source file whose functions are cut out: each from the line at the margin that begins it."""
+    blocks: list[list[str]] = []
+    for line in text.split("\n"):
+        begins = line[:1] not in ("", " ", "}", ")") and not (blocks and blocks[-1][-1].startswith("#["))
+        if begins or not blocks:
+            blocks.append([])
+        blocks[-1].append(line)
+    return ["\n".join(it) for it in blocks if any(it)]
+
+
+def names_declared(block: str) -> frozenset[str]:
+    """The names by which an item is reached: its own, or those in the line of an `impl`. None: it is read by its own crate alone."""
+    for line in block.split("\n"):
+        declared = DECLARES.match(line)
+        if declared:
+            return frozenset({declared[1]})
+        if re.match(r"(unsafe )?impl\b", line):
+            return words_of(block.partition("{")[0]) - {"impl", "for", "where", "unsafe", "mut", "dyn"}
+    return frozenset()
+
+
+def parts_of_antt(text: str) -> list[Part]:
+    """The parts of a file of specs/ or proofs/: each definition or lemma.
+
+    A lemma is abstract outside of its module: others read what it says, and not its proof. So are definitions, but for
+    an `abbrev`, for what is `unfoldable`, a record or a type, and what a definition of the same file unfolds.
+    """
+    file = File(text, "--")
+    unfolded = {word for line in file.text.split("\n") if line.lstrip().startswith("unfolding ") for word in line.split()}
+    return [file.part(names, it) for names, it in definitions_in(file.text.split("\n"), "", unfolded)]
+
+
+def definitions_in(lines: list[str], scope: str, unfolded: set[str]) -> Iterator[tuple[list[str], str]]:
+    """The definitions at the margin of these lines, behind the parameters of the module that they are in."""
+    for block in blocks_at_margin(lines):
+        name = first_name(block[0])
+        if block[0].startswith("module "):
+            head = next((at for at, line in enumerate(block) if line.rstrip().endswith(" where")), len(block) - 1)
+            inner = [line.removeprefix("  ") for line in block[head + 1 :]]
+            yield from definitions_in(inner, scope + "\n".join(block[: head + 1]) + "\n", unfolded)
+        else:
+            is_open = OPEN.match(block[0]) is not None or name in unfolded
+            yield [name] if name else [], scope + "\n".join(block if is_open else statement_of(block))
+
+
+def statement_of(block: list[str]) -> list[str]:
+    """What a definition says, without the equations behind that."""
+    return block[: next((at for at, line in enumerate(block[1:], 1) if line[:1] not in " })"), len(block))]
+
+
+def blocks_at_margin(lines: list[str]) -> list[list[str]]:
+    """The definitions at the margin, in order: what a name begins, with its equations and what is indented below them."""
+    blocks: list[list[str]] = []
+    for line in lines:
+        if not line.strip():
+            continue
+        begins = line[0] not in " })" and (" : " in line or " where" in line or line.startswith(("module ", "record ", "data ", "abbrev ", "pub ")))
+        is_equation = bool(blocks) and begins and first_name(line) == first_name(blocks[-1][0])
+        if not blocks or begins and not is_equation:
+            blocks.append([])
+        blocks[-1].append(line)
+    return blocks
+
+
+def first_name(line: str) -> str:
+    """The name that a line defines, or nothing."""
+    found = DEFINES.match(line)
+    return found[1].strip("◌") if found else ""
+
+
+class Reach:
+    """The parts of all crates, and what is reached from a text of one of them."""
+
+    def __init__(self, root: Path, crates: dict[str, list[str]]):
+        self.root, self.crates = root, crates
+        self.parts: list[Part] = []
+        self.of_crate: dict[str, range] = {}
+        self.named: dict[str, dict[str, list[int]]] = {}
+        for crate in crates:
+            first = len(self.parts)
+            self.parts += parts_of_crate(root / "crates" / crate)
+            self.of_crate[crate] = range(first, len(self.parts))
+            self.named[crate] = {}
+            for at in self.of_crate[crate]:
+                for name in self.parts[at].names:
+                    self.named[crate].setdefault(name, []).append(at)
+        self.seen: dict[str, list[str]] = {}
+
+    def visible(self, crate: str) -> list[str]:
+        """This crate and those below it."""
+        if crate not in self.seen:
+            found = {crate: None}
+            for below in self.crates[crate]:
+                if below in self.crates:
+                    found.update(dict.fromkeys(self.visible(below)))
+            self.seen[crate] = list(found)
+        return self.seen[crate]
+
+    @cached_property
+    def digests(self) -> list[bytes]:
+        """A checksum of each part."""
+        return [hashlib.sha256((" ".join(sorted(it.names)) + "\0" + it.text).encode()).digest() for it in self.parts]
+
+    @cached_property
+    def closures(self) -> list[int]:
+        """What each part reaches, itself included: a number with a bit for each part."""
+        return closures_of([self.reached_by(self.parts[at].words, crate) for crate, own in self.of_crate.items() for at in own])
+
+    def reached_by(self, words: Iterable[str], crate: str) -> list[int]:
+        """The parts that these words name, read in this crate."""
+        known = [self.named[it] for it in self.visible(crate)]
+        return [at for word in words for names in known for at in names.get(word, ())]
+
+    def checksum(self, edit: deciding.Edit) -> str:
+        """A checksum of the functions that an edit changes, with the answers to their goals and all that they reach."""
+        own = self.read_of(edit)
+        words = {word for it in own for word in it.words} | words_of(" ".join(old + " " + new for _, old, new in edit.pairs))
+        bits = 0
+        for at in self.reached_by(words, edit.crate):
+            bits |= self.closures[at]
+        found = hashlib.sha256("\0".join(it.text for it in own).encode())
+        for digest in sorted(self.digests[at] for at in set_bits(bits)):
+            found.update(digest)
+        return found.hexdigest()
+
+    def read_of(self, edit: deciding.Edit) -> list[Part]:
+        """What a check reads of the functions themselves; of an edit outside of all functions, the whole crate."""
+        answers, bodies, rest = self.bodies_of(edit.crate)
+        if edit.outside:
+            return [*answers.values(), *bodies.values(), *rest]
+        own = [(paths, it) for paths, it in answers.items() if any(deciding.same(path, name) for path in paths for name in edit.functions)]
+        wanted = {path for paths, _ in own for path in paths} | set(edit.functions)
+        return [it for _, it in own] + [it for (path, _), it in bodies.items() if any(deciding.same(name, path) for name in wanted)]
+
+    @cache
+    def bodies_of(self, crate: str) -> tuple[dict[tuple[str, ...], Part], dict[tuple[str, str], Part], list[Part]]:
+        """The answers of a crate by the functions whose goals they answer, its functions whole, and the rest of it."""
+        folder = self.root / "crates" / crate
+        answers: dict[tuple[str, ...], Part] = {}
+        for path in sorted((folder / "proofs").rglob("*.antt")):
+            at = path.relative_to(folder)
+            if is_answers(at):
+                text = path.read_text()
+                file = File(text, "--")
+                answers[(str(at), *deciding.proofs_in(deciding.function_at(str(at)), text))] = file.part([], file.text)
+        bodies: dict[tuple[str, str], Part] = {}
+        for path in sorted((folder / "src").rglob("*.rt")):
+            bodies.update(bodies_in(path.read_text(), str(path.relative_to(folder))))
+        return answers, bodies, [self.parts[at] for at in self.of_crate[crate]]
+
+
+def bodies_in(text: str, path: str) -> dict[tuple[str, str], Part]:
+    """The functions of a source file, each with its body and with the tactics of its file."""
+    lines = text.split("\n")
+    file = File(text, "//")
+    tactics = "".join(line + "\n" for line in lines if line.startswith("#!["))
+    found: dict[tuple[str, str], Part] = {}
+    for it in deciding.functions_of(text, deciding.module_of(path)):
+        own = File("\n".join(lines[begin_of(lines, it) : it.last + 1]), "//").text
+        found[it.path, f"{path}:{it.first}"] = file.part([], tactics + own)
+    return found
+
+
+def set_bits(bits: int) -> list[int]:
+    """The places of the bits that are set."""
+    text = bin(bits)[:1:-1]
+    return [at for at, it in enumerate(text) if it == "1"]
+
+
+def parts_of_crate(folder: Path) -> list[Part]:
+    """All parts of a crate, but for the answers to the goals of its functions."""
+    found: list[Part] = []
+    for file in sorted((folder / "src").rglob("*.rt")):
+        found += parts_of_source(file.read_text(), deciding.module_of(str(file.relative_to(folder))))
+    for part in ("specs", "proofs"):
+        for file in sorted((folder / part).rglob("*.antt")):
+            if not is_answers(file.relative_to(folder)):
+                found += parts_of_antt(file.read_text())
+    return found
+
+
+# The files that answer the goals of one function, in its own folder below proofs/. No module may cite them (tests.py).
+ANSWERS = ("Answers.antt", "Invariants.antt", "Proof.antt")
+
+
+def is_answers(path: Path) -> bool:
+    """Whether the file at this path in a crate answers the goals of one function."""
+    return path.parts[0] == "proofs" and len(path.parts) > 2 and path.name in ANSWERS
+
+
+def closures_of(edges: list[list[int]]) -> list[int]:
+    """What each node of a graph reaches, itself included, as bits. Nodes that reach each other share it (Tarjan)."""
+    count = len(edges)
+    order, low = [-1] * count, [0] * count
+    on_stack = [False] * count
+    stack: list[int] = []
+    found = [0] * count
+    clock = 0
+    for start in range(count):
+        if order[start] >= 0:
+            continue
+        work = [(start, 0)]
+        while work:
+            at, next_edge = work.pop()
+            if next_edge == 0:
+                order[at] = low[at] = clock
+                clock += 1
+                stack.append(at)
+                on_stack[at] = True
+            for place in range(next_edge, len(edges[at])):
+                to = edges[at][place]
+                if order[to] < 0:
+                    work += [(at, place + 1), (to, 0)]
+                    break
+                if on_stack[to]:
+                    low[at] = min(low[at], order[to])
+            else:
+                if low[at] == order[at]:
+                    close(at, stack, on_stack, edges, found)
+                if work:
+                    low[work[-1][0]] = min(low[work[-1][0]], low[at])
+    return found
+
+
+def close(first: int, stack: list[int], on_stack: list[bool], edges: list[list[int]], found: list[int]) -> None:
+    """Takes a set of nodes that reach each other from the stack, and notes what each of them reaches."""
+    members = stack[stack.index(first) :]
+    del stack[-len(members) :]
+    bits = 0
+    for it in members:
+        on_stack[it] = False
+        bits |= 1 << it
+    own = set(members)
+    for it in members:
+        for to in edges[it]:
+            if to not in own:
+                bits |= found[to]
+    for it in members:
+        found[it] = bits
