@@ -14,5 +14,6 @@ pub mod Serving
 pub mod Handing
 pub mod Admitting
 pub mod Upholding
+pub mod Paired
 pub mod Runs
 pub mod Resting

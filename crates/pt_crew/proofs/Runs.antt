@@ -3,7 +3,7 @@ use Rattle.std.proofs.Common.{◌≡◌, ◌≢◌, ⊎_elim, ℕ, zero, suc, �
 use Rattle.std.specs.Prelude.{◌==◌}
 use Rattle.std.proofs.Math.ListN.{get_or-append}
 use Rattle.std.proofs.lemmas.Bool.{and_parts, cases_eq, eqb-true}
-use Rattle.std.proofs.lemmas.List.{get_or-map, get_or-set_other, get_or-set_same, get_or_push, length-map, nil_from_length}
+use Rattle.std.proofs.lemmas.List.{get_or-set_other, get_or-set_same, get_or_push, nil_from_length}
 use Rattle.pt_shard.specs.ShardState.{ShardState}
 use Rattle.pt_desk.specs.DeskState.{DeskState}
 use Rattle.pt_desk.specs.Turns.{Turns}
@@ -26,6 +26,7 @@ use Rattle.pt_crew.specs.Crews.{Attends, CrewDoes, members, queue, roles}
 use Rattle.pt_behaviour.specs.Upholding.{Relation, IsUpheld}
 use Rattle.pt_crew.specs.Running.{is_idle, CrewsDo, UpholdsOn, AllUphold, RunUpholds, RoundsUphold, RestUpholds}
 use Rattle.pt_crew.proofs.Upholding.{step_upholds, turn_upholds}
+use Rattle.pt_crew.proofs.Paired.{paired_on, same_on}
 use Rattle.pt_crew.proofs.Reading.{awake_all}
 use Rattle.pt_crew.proofs.Waking.{knows_later}
 
@@ -43,17 +44,7 @@ looked_again : (stop : Option Stopped) (last new : List DeskState) → LooksAgai
 looked_again None last new h = ap (map desk_kept) h
 looked_again (Some s) last new h = h
 
--- of the desk with its crew
-abbrev fst : {B : Type 0} → DeskState × Crew B → DeskState
-fst p = p.0
-
-abbrev snd : {B : Type 0} → DeskState × Crew B → Crew B
-snd p = p.1
-
 module _ {B : Type 0} (stands : Relation B) where
-  same_on : (c c' : Crew B) (d d' : DeskState) → c ≡ c' → d ≡ d' → UpholdsOn stands c d.shard → UpholdsOn stands c' d'.shard
-  same_on c c' d d' e f a = subst (λ (x : Crew B). UpholdsOn stands x d'.shard) e (subst (λ (x : DeskState). UpholdsOn stands c x.shard) f a)
-
   -- the first desks have crews, which uphold that
   abbrev pub FirstUphold : List (Crew B) → List DeskState → Type 0
   FirstUphold crews desks = (d : ℕ) (c : Crew B) (x : DeskState) → d < length crews → UpholdsOn stands (get_or crews d c) (get_or desks d x).shard
@@ -63,11 +54,11 @@ module _ {B : Type 0} (stands : Relation B) where
       → FirstUphold crews desks → UpholdsOn stands crew desk.shard → FirstUphold (crews ++ crew ∷ []) (set desks (length crews) desk)
   one_more crews desks crew desk within first own d c x l = ⊎_elim
       (λ (here : d ≡ k). subst (λ j. UpholdsOn stands (get_or (crews ++ crew ∷ []) j c) (get_or (set desks k desk) j x).shard) (sym here)
-      (same_on crew (get_or (crews ++ crew ∷ []) k c) desk (get_or (set desks k desk) k x) (sym (get_or_push crews crew c k refl)) (sym (get_or-set_same desks k desk x within)) own))
+      (same_on (UpholdsOn stands) crew (get_or (crews ++ crew ∷ []) k c) desk (get_or (set desks k desk) k x) (sym (get_or_push crews crew c k refl)) (sym (get_or-set_same desks k desk x within)) own))
       (λ (apart : d ≢ k).
       let count = length-append crews (crew ∷ []) in
       let before : d < k = omega (arith, l, apart, count) in
-      same_on (get_or crews d c) (get_or (crews ++ crew ∷ []) d c) (get_or desks d x) (get_or (set desks k desk) d x)
+      same_on (UpholdsOn stands) (get_or crews d c) (get_or (crews ++ crew ∷ []) d c) (get_or desks d x) (get_or (set desks k desk) d x)
       (sym (get_or-append crews (crew ∷ []) c d before)) (sym (get_or-set_other desks k d desk x apart)) (first d c x before))
       (cases_eq d k)
     where
@@ -100,40 +91,19 @@ module _ {B : Type 0} (answers : Answers B) (stands : Relation B) (k : IsUpheld 
   workers_on lets budget (suc count) old new (last, before, begins, turn) a = worker_on budget last new turn (workers_on lets budget count old last before a)
 
   module _ (lets : BeginRelation (Crew B)) (turns budget : ℕ) where
-    paired_on : (old : List DeskState) (crews : List (Crew B)) (new : List DeskState) (later : List (Crew B))
+    all_uphold : (old : List DeskState) (crews : List (Crew B)) (new : List DeskState) (later : List (Crew B))
         → RunsPaired (AllWork lets (CrewsDo answers) turns budget) old crews new later → AllUphold stands crews old → AllUphold stands later new
-    paired_on old crews new later r a = record {
-      count = later_count ∙ sym new_count;
-      each = λ d c x l.
-          let p : DeskState × Crew B = (x, c) in
-          let in_after : d < length r.after = omega (arith, l, new_count) in
-          let in_before : d < length r.before = omega (arith, in_after, r.each.count) in
-          let was : UpholdsOn stands (get_or r.before d p).1 (get_or r.before d p).0.shard =
-          same_on stands (get_or crews d c) (get_or r.before d p).1 (get_or old d x) (get_or r.before d p).0
-          (ap (λ (cs : List (Crew B)). get_or cs d c) (sym r.begun.seconds) ∙ get_or-map snd r.before d p c in_before)
-          (ap (λ (ds : List DeskState). get_or ds d x) (sym r.begun.firsts) ∙ get_or-map fst r.before d p x in_before)
-          (a.each d c x (omega (arith, in_before, old_count))) in
-          let w = r.runs d p in_before in
-          same_on stands (get_or r.after d p).1 (get_or later d c) (get_or r.after d p).0 (get_or new d x)
-          (sym (ap (λ (cs : List (Crew B)). get_or cs d c) (sym r.ended.seconds) ∙ get_or-map snd r.after d p c in_after))
-          (sym (ap (λ (ds : List DeskState). get_or ds d x) (sym r.ended.firsts) ∙ get_or-map fst r.after d p x in_after))
-          (workers_on (lets (get_or r.before d p).0.shard.number) budget w.count (get_or r.before d p) (get_or r.after d p) w.took was);
-    }
-      where
-        old_count : length old ≡ length r.before
-        old_count = sym (ap length r.begun.firsts) ∙ length-map r.before fst
-
-        new_count : length new ≡ length r.after
-        new_count = sym (ap length r.ended.firsts) ∙ length-map r.after fst
-
-        later_count : length later ≡ length r.after
-        later_count = sym (ap length r.ended.seconds) ∙ length-map r.after snd
+    all_uphold old crews new later r a =
+        let each = paired_on (UpholdsOn stands) (AllWork lets (CrewsDo answers) turns budget) old crews new later r
+        (λ d p within. workers_on (lets (get_or r.before d p).0.shard.number) budget (r.runs d p within).count (get_or r.before d p) (get_or r.after d p) (r.runs d p within).took)
+        (record { count = a.count; each = a.each }) in
+        record { count = each.count; each = each.each }
 
     run_on : (Runs : List (DeskState × Crew B) → List (DeskState × Crew B) → Type 0) → ((xs ys : List (DeskState × Crew B)) → Runs xs ys → AllWork lets (CrewsDo answers) turns budget xs ys)
         → (old : List DeskState) (crews : List (Crew B)) (result : Result (Unit {0}) RunFault) (new : List DeskState) (later : List (Crew B))
         → RunsNode Runs old crews result new later → AllUphold stands crews old → AllUphold stands later new
     run_on Runs all old crews (Ok done) new later r a =
-        paired_on old crews new later (record { before = r.before; after = r.after; begun = r.begun; ended = r.ended; each = r.each; runs = all r.before r.after r.runs }) a
+        all_uphold old crews new later (record { before = r.before; after = r.after; begun = r.begun; ended = r.ended; each = r.each; runs = all r.before r.after r.runs }) a
     run_on Runs all old crews (Err Works) new later r a = subst (λ (x : List DeskState). AllUphold stands later x) (sym r.1) (subst (λ (x : List (Crew B)). AllUphold stands x old) (sym r.2) a)
     run_on Runs all old crews (Err Memory) new later r a = subst (λ (x : List DeskState). AllUphold stands later x) (sym r.1) (subst (λ (x : List (Crew B)). AllUphold stands x old) (sym r.2) a)
 

@@ -12,6 +12,7 @@ use Rattle.pt_events.specs.declared.event.Stamped.{Stamped}
 use Rattle.pt_events.specs.History.{is_unborn}
 use Rattle.pt_shard.specs.ShardState.{ShardState, phase_of}
 use Rattle.pt_shard.specs.Extends.{Extends}
+use Rattle.pt_desk.proofs.Turning.{extends}
 use Rattle.pt_behaviour.specs.declared.behaviour.Next.{Next}
 use Rattle.pt_behaviour.specs.declared.behaviour.Next.TheVariants.{Wait, WaitUntil, Proceed, Running, Stop}
 use Rattle.pt_crew.specs.declared.crew.Member.{Member}
@@ -217,7 +218,7 @@ rotated mem p rest k = record {
   once = IsDistinct-push same_pid_laws rest p (IsDistinct-tail same_pid p rest k.once) (none_of p rest (IsDistinct-head same_pid p rest k.once));
 }
 
-pub turned : {B : Type 0} (mem : Members B) (p : Pid) (rest now : List Pid) (read : ℕ) (d : ShardState) → now ≡ rest ++ p ∷ [] → Knows mem (p ∷ rest) read d → Knows mem now read d
+turned : {B : Type 0} (mem : Members B) (p : Pid) (rest now : List Pid) (read : ℕ) (d : ShardState) → now ≡ rest ++ p ∷ [] → Knows mem (p ∷ rest) read d → Knows mem now read d
 turned mem p rest now read d is k = record {
   more = k.more;
   seen = k.seen;
@@ -297,6 +298,20 @@ absent_at mem p none q = none_at (same_pid p q) (mem q) (λ same. subst (λ (x :
 pub no_place : {X Y : Type 0} (r : Option X) (a : Option Y) → r ≡ None → is_some r ≡ is_some a → a ≡ None
 no_place r None e h = refl
 no_place r (Some y) e h = absurd (let k = ap is_some e in cc)
+
+-- the first of the queue is no member, and is passed over
+pub first_passed : {B X : Type 0} {place : Option X} {p : Pid} {start rest : List Pid} {read : ℕ} {d : ShardState} (mem : Members B) → start ≡ p ∷ rest → place ≡ None → is_some place ≡ is_some (mem p)
+    → Knows mem start read d → Knows mem rest read d
+first_passed {place} {p} {start} {rest} {read} {d} mem is none found k =
+    changed mem mem p None (p ∷ rest) rest read d d (extends d) absent (taken_out mem mem p None rest absent (λ m e. some_none None m refl e)) (λ m e. some_none None m refl e)
+    (λ m e. some_none None m refl e) (subst (λ (ps : List Pid). Knows mem ps read d) is k)
+  where
+    absent : (q : Pid) → mem q ≡ cond (same_pid p q) None (mem q)
+    absent = absent_at mem p (no_place place (mem p) none found)
+
+-- or it goes behind the others
+pub first_turned : {B : Type 0} {p : Pid} {start rest now : List Pid} {read : ℕ} {d : ShardState} (mem : Members B) → start ≡ p ∷ rest → now ≡ rest ++ p ∷ [] → Knows mem start read d → Knows mem now read d
+first_turned {p} {start} {rest} {now} {read} {d} mem is later k = turned mem p rest now read d later (subst (λ (ps : List Pid). Knows mem ps read d) is k)
 
 -- written back as it was
 pub same_back : {X : Type 0} (mem : Pid → Option X) (p : Pid) (v : X) → mem p ≡ Some v → (q : Pid) → cond (same_pid p q) (Some v) (mem q) ≡ mem q

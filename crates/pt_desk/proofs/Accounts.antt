@@ -152,13 +152,5 @@ accounted_met s o o' i i' acc p q = record {
 
 -- another lane is looked at first
 pub accounted_looking : (s : ShardState) (o : OutEnds) (i : InEnds) (k : ℕ) → IsAccounted s o i → IsAccounted s o (looking_from k i)
-accounted_looking s o i k acc = record {
-  out_number = acc.out_number;
-  in_number = acc.in_number;
-  out_desks = acc.out_desks;
-  in_desks = acc.in_desks;
-  posted_desks = acc.posted_desks;
-  collected_desks = acc.collected_desks;
-  posted = acc.posted;
-  collected = acc.collected;
-}
+accounted_looking s o i k acc =
+    record { out_number = acc.out_number; in_number = acc.in_number; out_desks = acc.out_desks; in_desks = acc.in_desks; posted_desks = acc.posted_desks; collected_desks = acc.collected_desks; posted = acc.posted; collected = acc.collected }

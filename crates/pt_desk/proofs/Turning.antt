@@ -20,15 +20,6 @@ use Rattle.pt_desk.proofs.Accounts.{accounted_handled, accounted_taken}
 use Rattle.pt_desk.proofs.Posted.{of_parts}
 
 -- the letter in the hold is handled
-pub next_held : (s s1 s2 : ShardState) (o : OutEnds) (i : InEnds) (v : Sight) (l : Letter) → s.hold ≡ Some l → max s.clock l.stamp < 2 ^ 62 → s1 ≡ handled l s → s2 ≡ holding None s1
-    → HandlesNext l (of_parts s o i v) (of_parts s2 o i v)
-next_held s s1 s2 o i v l holds within handles frees = record {
-  fetched = of_parts s o i v;
-  fetches = inl (holds, refl);
-  within = within;
-  after = ap (λ (z : ShardState). of_parts z o i v) (frees ∙ ap (λ (z : ShardState). holding None z) handles);
-}
-
 pub held_accounted : (s s1 s2 : ShardState) (o : OutEnds) (i : InEnds) (l : Letter) → length s.outbox ≡ s.config.desks → IsAccounted s o i → s.hold ≡ Some l → s1 ≡ handled l s → s2 ≡ holding None s1 → IsAccounted s2 o i
 held_accounted s s1 s2 o i l boxes acc holds handles frees =
     subst (λ z. IsAccounted z o i) (sym (frees ∙ ap (λ (z : ShardState). holding None z) handles)) (accounted_handled s o i boxes acc l holds)

@@ -26,6 +26,7 @@ use Rattle.pt_crew.specs.declared.crew.Member.{Member}
 use Rattle.pt_behaviour.specs.Behaving.{Answers}
 use Rattle.pt_crew.specs.Crews.{Attends, AreBorn, members, queue, role, roles}
 use Rattle.pt_crew.specs.Running.{CrewsDo}
+use Rattle.pt_crew.proofs.Paired.{EachHolds, paired_on}
 use Rattle.pt_crew.proofs.Waking.{knows_later}
 use Rattle.pt_epochs.specs.Driving.{AllWorkLet, LetsBegin, TakesLet}
 use Rattle.pt_epochs.specs.Idle.{InTurns, Leg, Legs, Worked}
@@ -39,9 +40,8 @@ abbrev shard_of : DeskState → ShardState
 shard_of d = d.shard
 
 -- each crew attends the desk at its place
-record Attend {B : Type 0} (crews : List (Crew B)) (desks : List DeskState) : Type 0 where
-  count : length crews ≡ length desks
-  each : (d : ℕ) (c : Crew B) (x : DeskState) → d < length desks → Attends (get_or crews d c) (get_or desks d x).shard
+abbrev Attend : {B : Type 0} → List (Crew B) → List DeskState → Type 0
+Attend crews desks = EachHolds Attends crews desks
 
 of_desks : {B : Type 0} (crews : List (Crew B)) (desks : List DeskState) → Attend crews desks → AllAttend crews (all_shards desks)
 of_desks crews desks a = record {
@@ -77,44 +77,11 @@ module _ {B : Type 0} (answers : Answers B) where
   workers_on lets budget zero old new h a = subst (λ (x : DeskState × Crew B). Attends x.1 x.0.shard) (sym h) a
   workers_on lets budget (suc count) old new (last, before, begins, turn) a = worker_on budget last new turn (workers_on lets budget count old last before a)
 
-  same_on : (c c' : Crew B) (d d' : DeskState) → c ≡ c' → d ≡ d' → Attends c d.shard → Attends c' d'.shard
-  same_on c c' d d' e f a = subst (λ (x : Crew B). Attends x d'.shard) e (subst (λ (x : DeskState). Attends c x.shard) f a)
-
-  abbrev fst : DeskState × Crew B → DeskState
-  fst p = p.0
-
-  abbrev snd : DeskState × Crew B → Crew B
-  snd p = p.1
-
-  module _ (lets : LetsBegin (Crew B)) (turns budget : ℕ) where
-    paired_on : (old : List DeskState) (crews : List (Crew B)) (new : List DeskState) (after : List (Crew B))
-        → RunsPaired (AllWorkLet lets (CrewsDo answers) turns budget) old crews new after → Attend crews old → Attend after new
-    paired_on old crews new after r a = record {
-      count = after_count ∙ sym new_count;
-      each = λ d c x l.
-          let p : DeskState × Crew B = (x, c) in
-          let in_after : d < length r.after = omega (arith, l, new_count) in
-          let in_before : d < length r.before = omega (arith, in_after, r.each.count) in
-          let was : Attends (get_or r.before d p).1 (get_or r.before d p).0.shard =
-          same_on (get_or crews d c) (get_or r.before d p).1 (get_or old d x) (get_or r.before d p).0
-          (ap (λ (cs : List (Crew B)). get_or cs d c) (sym r.begun.seconds) ∙ get_or-map snd r.before d p c in_before)
-          (ap (λ (ds : List DeskState). get_or ds d x) (sym r.begun.firsts) ∙ get_or-map fst r.before d p x in_before)
-          (a.each d c x (omega (arith, in_before, old_count))) in
-          let w = r.runs d p in_before in
-          same_on (get_or r.after d p).1 (get_or after d c) (get_or r.after d p).0 (get_or new d x)
-          (sym (ap (λ (cs : List (Crew B)). get_or cs d c) (sym r.ended.seconds) ∙ get_or-map snd r.after d p c in_after))
-          (sym (ap (λ (ds : List DeskState). get_or ds d x) (sym r.ended.firsts) ∙ get_or-map fst r.after d p x in_after))
-          (workers_on lets budget w.count (get_or r.before d p) (get_or r.after d p) w.took was);
-    }
-      where
-        old_count : length old ≡ length r.before
-        old_count = sym (ap length r.begun.firsts) ∙ length-map r.before fst
-
-        new_count : length new ≡ length r.after
-        new_count = sym (ap length r.ended.firsts) ∙ length-map r.after fst
-
-        after_count : length after ≡ length r.after
-        after_count = sym (ap length r.ended.seconds) ∙ length-map r.after snd
+  all_attend : (lets : LetsBegin (Crew B)) (turns budget : ℕ) (old : List DeskState) (crews : List (Crew B)) (new : List DeskState) (after : List (Crew B))
+      → RunsPaired (AllWorkLet lets (CrewsDo answers) turns budget) old crews new after → Attend crews old → Attend after new
+  all_attend lets turns budget old crews new after r =
+      paired_on Attends (AllWorkLet lets (CrewsDo answers) turns budget) old crews new after r
+      (λ d p within. workers_on lets budget (r.runs d p within).count (get_or r.before d p) (get_or r.after d p) (r.runs d p within).took)
 
   go_on_on : (crews : List (Crew B)) (old new : List DeskState) → AllDesksGoOn old new → Attend crews old → Attend crews new
   go_on_on crews old new on a = record {
@@ -128,7 +95,7 @@ module _ {B : Type 0} (answers : Answers B) where
     leg_on : (turns : ℕ) (old : Worked (Crew B)) (did : Rested) (new : Worked (Crew B)) → Leg (InTurns answers lets budget) budget turns old did new → Attend old.works old.desks → Attend new.works new.desks
     leg_on turns old did new leg a =
         go_on_on new.works leg.ran new.desks (all_rounds_go_on (max budget 1) leg.ran did new.desks leg.rests)
-        (paired_on lets turns budget old.desks old.works leg.ran new.works leg.runs a)
+        (all_attend lets turns budget old.desks old.works leg.ran new.works leg.runs a)
 
     legs_on : (Goes : Worked (Crew B) → Type 0) (legs : List ℕ) (old new : Worked (Crew B)) → Legs (InTurns answers lets budget) budget Goes legs old new → Attend old.works old.desks → Attend new.works new.desks
     legs_on Goes [] old new h a = subst (λ (w : Worked (Crew B)). Attend w.works w.desks) (sym h) a

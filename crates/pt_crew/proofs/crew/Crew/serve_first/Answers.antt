@@ -1,7 +1,5 @@
 -- `Crew::serve_first`: its clauses `knows`, `room`, `serves`, `timers` and `told`.
-use Rattle.std.proofs.Common.{List, ◌∷◌, Option, None, refl, sym, subst, ◌∙◌, arith}
-use Rattle.pt_signal.specs.declared.pid.Pid.{Pid}
-use Rattle.pt_desk.proofs.Turning.{extends}
+use Rattle.std.proofs.Common.{Option, None, refl, sym, subst, ◌∙◌, arith}
 use Rattle.pt_behaviour.specs.declared.behaviour.Next.{Next}
 use Rattle.pt_behaviour.specs.Births.{bore, born}
 use Rattle.pt_crew.specs.Crews.{members, queue, roles}
@@ -9,55 +7,29 @@ use Rattle.pt_crew.specs.Outside.{next_in_front, tells_or}
 use Rattle.pt_crew.specs.Parts.{kept_as}
 use Rattle.pt_behaviour.specs.Behaving.{Answers}
 use Rattle.pt_crew.specs.Visiting.{SeesTo}
-use Rattle.pt_crew.specs.Waking.{Knows}
-use Rattle.pt_behaviour.proofs.Cases.{some_none}
-use Rattle.pt_crew.proofs.Waking.{changed, taken_out, turned, absent_at, no_place}
+use Rattle.pt_crew.proofs.Waking.{first_passed, first_turned, no_place}
 use Rattle.pt_crew.proofs.Visiting.{passes_first, refused_first, is_there}
 use Rattle.pt_crew.proofs.Serving.{Came, begins_it, front_next, serves_it, slept_clear, knows_it, timers_for_it, room_for_it}
 use Rattle.pt_crew.proofs.crew.Crew.serve_first.Goals as goal
 
 pub returns-in_default-place_of-clause-knows : goal.returns-in_default-place_of-clause-knows
-returns-in_default-place_of-clause-knows g c =
-    let p = c.in-Some.p in
-    let mem = members c.args.self.now in
-    let rest = c.pop_front.new.self.items in
-    let d = c.args.desk.now.shard in
-    let none = no_place c.place_of.result (mem p) c.in_default-place_of.is c.place_of.ensures.found in
-    λ k. changed mem mem p None (p ∷ rest) rest c.args.self.now.read d d (extends d) (absent_at mem p none)
-    (taken_out mem mem p None rest (absent_at mem p none) (λ m is. some_none None m refl is))
-    (λ m is. some_none None m refl is) (λ m is. some_none None m refl is)
-    (subst (λ (ps : List Pid). Knows mem ps c.args.self.now.read d) c.in-Some.ensures.items k)
-
-pub returns-then-is_err-clause-knows : goal.returns-then-is_err-clause-knows
-returns-then-is_err-clause-knows g c =
-    let p = c.in-Some.p in
-    let mem = members c.args.self.now in
-    let rest = c.pop_front.new.self.items in
-    let d = c.args.desk.now.shard in
-    λ k. turned mem p rest c.push_back_reserved.new.self.items c.args.self.now.read d c.push_back_reserved.ensures.items
-    (subst (λ (ps : List Pid). Knows mem ps c.args.self.now.read d) c.in-Some.ensures.items k)
-
-pub returns-then-is_err-clause-room : goal.returns-then-is_err-clause-room
-returns-then-is_err-clause-room g c =
-    let l = c.in-Some.ensures.len in
-    let z = c.in-Some.ensures.capacity in
-    let m = c.push_back_reserved.ensures.len in
-    let y = c.push_back_reserved.ensures.capacity in
-    λ room. omega (arith, l, z, m, y, room)
+returns-in_default-place_of-clause-knows g c = first_passed (members c.args.self.now) c.in-Some.ensures.items c.in_default-place_of.is c.place_of.ensures.found
 
 pub returns-in_default-place_of-clause-serves : goal.returns-in_default-place_of-clause-serves
 returns-in_default-place_of-clause-serves g c =
-    let p = c.in-Some.p in
-    let old = c.args.self.now in
-    let none = no_place c.place_of.result (members old p) c.in_default-place_of.is c.place_of.ensures.found in
-    passes_first (tells_or g.B.Behaviour.answers g.B.Outside.tells (next_in_front (queue old) (roles old)) None) old.queue.items c.pop_front.new.self.items old _ p c.args.desk.now.shard c.in-Some.ensures.items refl none (record { members = λ q. refl; waiting = refl; left = refl; refused = refl; time = refl })
+    passes_first (tells_or g.B.Behaviour.answers g.B.Outside.tells (next_in_front (queue c.args.self.now) (roles c.args.self.now)) None) c.args.self.now.queue.items c.pop_front.new.self.items c.args.self.now _ c.in-Some.p c.args.desk.now.shard c.in-Some.ensures.items refl
+    (no_place c.place_of.result (members c.args.self.now c.in-Some.p) c.in_default-place_of.is c.place_of.ensures.found) (record { members = λ q. refl; waiting = refl; left = refl; refused = refl; time = refl })
+
+pub returns-then-is_err-clause-knows : goal.returns-then-is_err-clause-knows
+returns-then-is_err-clause-knows g c = first_turned (members c.args.self.now) c.in-Some.ensures.items c.push_back_reserved.ensures.items
 
 pub returns-then-is_err-clause-serves : goal.returns-then-is_err-clause-serves
 returns-then-is_err-clause-serves g c =
-    let p = c.in-Some.p in
-    let old = c.args.self.now in
-    refused_first (tells_or g.B.Behaviour.answers g.B.Outside.tells (next_in_front (queue old) (roles old)) None) old.queue.items c.pop_front.new.self.items old _ p c.args.desk.now.shard c.in-Some.ensures.items c.push_back_reserved.ensures.items (λ q. refl) refl c.reserve.ensures.items refl refl
-    (is_there c.place_of.result (members old p) c.in-Some-place_of.place c.in-Some-place_of.is c.place_of.ensures.found)
+    refused_first (tells_or g.B.Behaviour.answers g.B.Outside.tells (next_in_front (queue c.args.self.now) (roles c.args.self.now)) None) c.args.self.now.queue.items c.pop_front.new.self.items c.args.self.now _ c.in-Some.p c.args.desk.now.shard c.in-Some.ensures.items c.push_back_reserved.ensures.items (λ q. refl) refl
+    c.reserve.ensures.items refl refl (is_there c.place_of.result (members c.args.self.now c.in-Some.p) c.in-Some-place_of.place c.in-Some-place_of.is c.place_of.ensures.found)
+
+pub returns-then-is_err-clause-room : goal.returns-then-is_err-clause-room
+returns-then-is_err-clause-room g c = λ room. omega (arith, c.in-Some.ensures.len, c.in-Some.ensures.capacity, c.push_back_reserved.ensures.len, c.push_back_reserved.ensures.capacity, room)
 
 pub returns-clause-serves : goal.returns-clause-serves
 returns-clause-serves g c =
