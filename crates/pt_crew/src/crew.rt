@@ -344,7 +344,7 @@ impl<B: Behaviour + Drop> Crew<B> {
         ensures refused { OnErr result (IsSame self.old self.new) }
         ensures attends { (d : ShardState) → Attends self.old d → IsOk result × Attends self.new d }
     {
-        let Some(place) = self.hints.place_of(&self.members, p) else {
+        let Some(place) = self.hints.place_of(&self.members, &p) else {
             return Ok(false);
         };
         let (_, member) = self.members.pair_mut(place);
@@ -371,7 +371,7 @@ impl<B: Behaviour + Drop> Crew<B> {
         ensures rest { KeepsRest self.old self.new }
         ensures attends { (d : ShardState) → Attends self.old d → Attends self.new d }
     {
-        let Some(place) = self.hints.place_of(&self.members, p) else {
+        let Some(place) = self.hints.place_of(&self.members, &p) else {
             return Err(behaviour);
         };
         let (_, member) = self.members.pair_mut(place);
@@ -390,7 +390,7 @@ impl<B: Behaviour + Drop> Crew<B> {
         ensures timers { AllMarked p self.old → HasTimers self.old → HasTimers self.new }
         ensures room { HasRoom self.old → HasRoom self.new }
     {
-        let Some(place) = self.hints.place_of(&self.members, p) else {
+        let Some(place) = self.hints.place_of(&self.members, &p) else {
             return;
         };
         let (_, member) = self.members.pair_mut(place);
@@ -441,7 +441,7 @@ impl<B: Behaviour + Drop> Crew<B> {
         ensures refused { OnErr result (IsSame self.old self.new) }
         ensures room { HasRoom self.old → IsOk result × HasRoom self.new }
     {
-        let Some(place) = self.hints.place_of(&self.members, p) else {
+        let Some(place) = self.hints.place_of(&self.members, &p) else {
             return Ok(());
         };
         let (_, member) = self.members.pair_mut(place);
@@ -649,7 +649,7 @@ impl<B: Behaviour + Drop> Crew<B> {
         let Some(p) = self.queue.pop_front() else {
             return;
         };
-        let Some(place) = self.hints.place_of(&self.members, p) else {
+        let Some(place) = self.hints.place_of(&self.members, &p) else {
             return;
         };
         if self.left.reserve(1).is_err() {
@@ -659,7 +659,7 @@ impl<B: Behaviour + Drop> Crew<B> {
         }
         let (_, member) = self.members.pair_mut(place);
         let came = tend(member, &mut self.births, desk, self.time, p);
-        let tended = sleep(member, &mut self.timers, p, came);
+        let tended = sleep(member, &mut self.timers, &p, came);
         member.queued = tended.goes_behind();
         member.clear = false;
         self.put(p, tended);
@@ -734,7 +734,7 @@ impl<B: Outside + Drop> Crew<B> {
         let Some(p) = self.queue.pop_front() else {
             return None;
         };
-        let Some(place) = self.hints.place_of(&self.members, p) else {
+        let Some(place) = self.hints.place_of(&self.members, &p) else {
             return None;
         };
         if self.left.reserve(1).is_err() {
@@ -744,7 +744,7 @@ impl<B: Outside + Drop> Crew<B> {
         }
         let (_, member) = self.members.pair_mut(place);
         let (came, told) = serve(member, &mut self.births, desk, self.time, p);
-        let tended = sleep(member, &mut self.timers, p, came);
+        let tended = sleep(member, &mut self.timers, &p, came);
         member.queued = tended.goes_behind();
         self.put(p, tended);
         told

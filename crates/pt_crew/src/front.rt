@@ -61,7 +61,7 @@ pub(crate) fn tend<B: Behaviour + Drop>(
     ensures tends { MemberTends p result member.new desk.new.shard }
     ensures goes_on { GoesOn desk.old desk.new }
 {
-    match gets(member.next, desk, time, p) {
+    match gets(member.next, desk, time, &p) {
         Ok(item) => {
             hand(member, births, desk, time, p, item);
             handed(member.next, desk, p)
@@ -93,7 +93,7 @@ pub(crate) fn serve<B: Outside + Drop>(
     ensures goes_on { GoesOn desk.old desk.new }
 {
     member.clear = false;
-    match gets(member.next, desk, time, p) {
+    match gets(member.next, desk, time, &p) {
         Ok(item) => pass(member, births, desk, time, p, item),
         Err(came) => (came, None),
     }
@@ -152,25 +152,25 @@ fn apart<B>(member: &mut Member<B>, desk: &Desk, p: Pid) -> Tended
 
 /// What a process gets that does this next: an item or `None`. If it gets nothing, then what comes of it.
 #[inline(always)]
-fn gets(next: Next, desk: &mut Desk, time: u64, p: Pid) -> Result<Option<Item>, Tended>
-    ensures gets { Gets time p next desk.old.shard result desk.new.shard }
+fn gets(next: Next, desk: &mut Desk, time: u64, p: &Pid) -> Result<Option<Item>, Tended>
+    ensures gets { Gets time p.now next desk.old.shard result desk.new.shard }
     ensures goes_on { GoesOn desk.old desk.new }
 {
     match next {
-        Next::Stop(reason) => match desk.exit(p, reason) {
+        Next::Stop(reason) => match desk.exit(*p, reason) {
             Ok(()) => Err(Tended::Gone),
             Err(Fault::Gone) => Err(Tended::Gone),
             Err(_) => Err(Tended::Refused),
         },
         Next::Proceed => {
-            if desk.alive_here(p) {
+            if desk.alive_here(*p) {
                 Ok(None)
             } else {
                 Err(Tended::Gone)
             }
         }
         Next::Running => {
-            if desk.alive_here(p) {
+            if desk.alive_here(*p) {
                 Err(Tended::Idle)
             } else {
                 Err(Tended::Gone)
@@ -178,7 +178,7 @@ fn gets(next: Next, desk: &mut Desk, time: u64, p: Pid) -> Result<Option<Item>, 
         }
         // (one call, so that it becomes a part of this function)
         Next::Wait(pick) | Next::WaitUntil(pick, _) => {
-            receive(desk, p, pick, wait_is_over(next, time))
+            receive(desk, *p, pick, wait_is_over(next, time))
         }
     }
 }
@@ -250,15 +250,15 @@ fn hand<B: Behaviour + Drop>(
 pub(crate) fn sleep<B>(
     member: &mut Member<B>,
     timers: &mut Timers<Pid>,
-    p: Pid,
+    p: &Pid,
     tended: Tended,
 ) -> Tended
-    ensures { SleepsUntil (sleeper tended member.old.next) p tended member.old timers.old result member.new timers.new }
+    ensures { SleepsUntil (sleeper tended member.old.next) p.now tended member.old timers.old result member.new timers.new }
 {
     let (Tended::Idle, Next::WaitUntil(_pick, at)) = (tended, member.next) else {
         return tended;
     };
-    match timers.start(at, p) {
+    match timers.start(at, *p) {
         Ok(timer) => {
             member.timer = Some(timer);
             Tended::Idle

@@ -44,21 +44,21 @@ impl Hints {
     /// The place of p among the members: the last place of the member of its slot, or else the place that its hash
     /// leads to.
     #[inline(always)]
-    pub(crate) fn place_of<V>(&mut self, members: &IndexMap<Pid, V>, p: Pid) -> Option<usize>
-        ensures index { result ≡ index_of_by (same_pid p) members.now }
-        ensures found { is_some result ≡ is_some (get same_pid members.now p) }
+    pub(crate) fn place_of<V>(&mut self, members: &IndexMap<Pid, V>, p: &Pid) -> Option<usize>
+        ensures index { result ≡ index_of_by (same_pid p.now) members.now }
+        ensures found { is_some result ≡ is_some (get same_pid members.now p.now) }
         ensures within { IfSome result (λ place. place < index_map_len members.now) }
     {
         if let Some(place) = self.hint(members, p) {
             return Some(place);
         }
-        self.look_up(members, p)
+        self.look_up(members, *p)
     }
 
     /// The place that was noted for p, if p is the member there.
     #[inline(always)]
-    fn hint<V>(&self, members: &IndexMap<Pid, V>, p: Pid) -> Option<usize>
-        ensures { IfSome result (λ place. index_of_by (same_pid p) members.now ≡ Some place) }
+    fn hint<V>(&self, members: &IndexMap<Pid, V>, p: &Pid) -> Option<usize>
+        ensures { IfSome result (λ place. index_of_by (same_pid p.now) members.now ≡ Some place) }
     {
         let place = self.guess(p.slot);
         stands_at(members, place, p).then_some(place)
@@ -102,11 +102,11 @@ impl Hints {
 
 /// Whether p is the member at that place.
 #[inline(always)]
-fn stands_at<V>(members: &IndexMap<Pid, V>, place: usize, p: Pid) -> bool
-    ensures { IsTrue result ↔ (index_of_by (same_pid p) members.now ≡ Some place) }
+fn stands_at<V>(members: &IndexMap<Pid, V>, place: usize, p: &Pid) -> bool
+    ensures { IsTrue result ↔ (index_of_by (same_pid p.now) members.now ≡ Some place) }
 {
     match members.as_slice().get_index(place) {
-        Some((key, _member)) => *key == p,
+        Some((key, _member)) => *key == *p,
         None => false,
     }
 }
