@@ -28,35 +28,63 @@ OPEN = re.compile(r"(pub )?(abbrev|unfoldable|record|data)\b|pub (record|data)\b
 
 @dataclass(frozen=True)
 class Part:
-    """A part of a crate: the names by which others reach it, its text without comments, and the names in that."""
+    """A part of a crate: the names by which others reach it, and its text without comments.
+
+    `words` are the names in the text that may be of a part, and `lemmas` those that may be of a lemma. A local part is reached
+    from its own crate alone.
+    """
 
     names: frozenset[str]
     text: str
     words: frozenset[str]
+    lemmas: frozenset[str]
+    local: bool = False
+    is_lemma: bool = False
 
 
 class File:
-    """A file: its text without comments and imports, and where its imports come from."""
+    """A file: its text without comments and imports, where its imports come from, and what it exports under another name."""
 
     def __init__(self, text: str, comment: str):
-        kept: list[str] = []
-        imports: list[str] = []
-        is_open = False
-        for line in text.split("\n"):
-            if is_open or re.match(r"\s*(pub )?(ghost )?use ", line):
-                imports.append(line) if not is_open else imports.append(imports.pop() + " " + line.strip())
-                is_open = not line.rstrip().endswith((";", "}") if comment == "--" else ";")
-            elif line.strip() and not line.lstrip().startswith(comment):
-                kept.append(line.rstrip())
-        self.text = "\n".join(kept)
+        self.text, imports = split(text, comment)
+        self.is_source = comment == "//"
         self.origins = dict(it for line in imports for it in origins_in(line))
+        # (a variant is imported from its type)
+        self.types = {path: {word for word in words_of(path) if word[0].isupper()} for path, _ in self.origins.values()}
+        self.defines = frozenset() if self.is_source else names_defined(self.text)
+        exported = dict(it for line in imports if line.startswith("pub ") for it in origins_in(line))
+        self.renamed = [self.part([name], name) for name, (_, original) in exported.items() if name != original]
 
-    def part(self, names: Iterable[str], text: str) -> Part:
-        """A part of this file. Beside its text is where each imported name in it comes from."""
+    def part(self, names: Iterable[str], text: str, local: bool = False, is_lemma: bool = False) -> Part:
+        """A part of this file. Beside its text is where each imported name in it comes from.
+
+        A file of antt imports each name of another file. A source file names lemmas in its tactics alone, or imports them.
+        """
         words = words_of(text)
         used = {name: self.origins[name] for name in sorted(words & self.origins.keys())}
         origins = "".join(f"\n{name} of {path} {original}" for name, (path, original) in used.items())
-        return Part(frozenset(names), text + origins, words | {original for _, original in used.values()})
+        imported = {original for _, original in used.values()}.union(*(self.types[path] for path, _ in used.values()))
+        if not self.is_source:
+            known = (words & self.defines) | imported
+            return Part(frozenset(names), text + origins, known, known, local, is_lemma)
+        tactics = words_of(" ".join(line for line in text.split("\n") if "tactic(" in line))
+        cited = {original for path, original in used.values() if ".proofs." in path}
+        return Part(frozenset(names), text + origins, words | imported, tactics | cited, local, is_lemma)
+
+
+def split(text: str, comment: str) -> tuple[str, list[str]]:
+    """The lines of a text that are not empty nor a comment, without its imports; and the imports, a line each."""
+    kept: list[str] = []
+    imports: list[str] = []
+    is_open = False
+    for line in text.split("\n"):
+        begun = line.lstrip()
+        if is_open or begun.startswith(("use ", "ghost use ", "pub use ")):
+            imports.append(imports.pop() + " " + begun if is_open else line)
+            is_open = not line.rstrip().endswith((";", "}") if comment == "--" else ";")
+        elif begun and not begun.startswith(comment):
+            kept.append(line.rstrip())
+    return "\n".join(kept), imports
 
 
 def origins_in(line: str) -> Iterator[tuple[str, tuple[str, str]]]:
@@ -65,6 +93,11 @@ def origins_in(line: str) -> Iterator[tuple[str, tuple[str, str]]]:
     found = re.findall(r"([A-Za-z_][\w'-]*|◌[^\s{},]+◌)(?: as (\w+))?", names) if names else re.findall(r"(\w+)(?: as (\w+))?;?$", path)
     for original, alias in found:
         yield (alias or original).strip("◌"), (path.strip(), original.strip("◌"))
+
+
+def names_defined(text: str) -> frozenset[str]:
+    """All names that begin a line of a file of antt, and so all that it defines."""
+    return frozenset(first_name(line.lstrip()) for line in text.split("\n") if " : " in line or " where" in line)
 
 
 def words_of(text: str) -> frozenset[str]:
@@ -97,10 +130,15 @@ def parts_of_source(text: str, module: str) -> list[Part]:
     lines = text.split("\n")
     file = File(text, "//")
     functions = deciding.functions_of(text, module)
-    parts = [file.part([it.path.split("::")[-1]], File(header_of(lines, it), "//").text) for it in functions]
+    parts = [file.part([it.path.split("::")[-1]], split(header_of(lines, it), "//")[0], is_local(lines[it.first])) for it in functions]
     within = {at for it in functions for at in range(begin_of(lines, it), it.last + 1)}
-    rest = File("\n".join("" if at in within else line for at, line in enumerate(lines)), "//").text
-    return parts + [file.part(names_declared(it), it) for it in blocks_of(rest)]
+    rest = split("\n".join("" if at in within else line for at, line in enumerate(lines)), "//")[0]
+    return parts + [file.part(names_declared(it), it) for it in blocks_of(rest)] + file.renamed
+
+
+def is_local(line: str) -> bool:
+    """Whether a function that begins so is of its crate alone. One of an `impl` without `pub` may be that of a trait."""
+    return re.match(r" *pub\(", line) is not None or re.match(r"pub | ", line) is None
 
 
 def blocks_of(text: str) -> list[str]:
@@ -125,7 +163,7 @@ def names_declared(block: str) -> frozenset[str]:
     return frozenset()
 
 
-def parts_of_antt(text: str) -> list[Part]:
+def parts_of_antt(text: str, is_lemma: bool = False) -> list[Part]:
     """The parts of a file of specs/ or proofs/: each definition or lemma.
 
     A lemma is abstract outside of its module: others read what it says, and not its proof. So are definitions, but for
@@ -133,11 +171,11 @@ def parts_of_antt(text: str) -> list[Part]:
     """
     file = File(text, "--")
     unfolded = {word for line in file.text.split("\n") if line.lstrip().startswith("unfolding ") for word in line.split()}
-    return [file.part(names, it) for names, it in definitions_in(file.text.split("\n"), "", unfolded)]
+    return [file.part(names, it, local, is_lemma) for names, it, local in definitions_in(file.text.split("\n"), "", unfolded)] + file.renamed
 
 
-def definitions_in(lines: list[str], scope: str, unfolded: set[str]) -> Iterator[tuple[list[str], str]]:
-    """The definitions at the margin of these lines, behind the parameters of the module that they are in."""
+def definitions_in(lines: list[str], scope: str, unfolded: set[str]) -> Iterator[tuple[list[str], str, bool]]:
+    """The definitions at the margin of these lines, behind the parameters of the module that they are in; whether each is local."""
     for block in blocks_at_margin(lines):
         name = first_name(block[0])
         if block[0].startswith("module "):
@@ -146,7 +184,7 @@ def definitions_in(lines: list[str], scope: str, unfolded: set[str]) -> Iterator
             yield from definitions_in(inner, scope + "\n".join(block[: head + 1]) + "\n", unfolded)
         else:
             is_open = OPEN.match(block[0]) is not None or name in unfolded
-            yield [name] if name else [], scope + "\n".join(block if is_open else statement_of(block))
+            yield [name] if name else [], scope + "\n".join(block if is_open else statement_of(block)), re.match(r"(\w+ )*?pub ", block[0]) is None
 
 
 def statement_of(block: list[str]) -> list[str]:
@@ -182,14 +220,17 @@ class Reach:
         self.parts: list[Part] = []
         self.of_crate: dict[str, range] = {}
         self.named: dict[str, dict[str, list[int]]] = {}
+        self.offered: dict[str, dict[str, list[int]]] = {}
         for crate in crates:
             first = len(self.parts)
             self.parts += parts_of_crate(root / "crates" / crate)
             self.of_crate[crate] = range(first, len(self.parts))
-            self.named[crate] = {}
+            self.named[crate], self.offered[crate] = {}, {}
             for at in self.of_crate[crate]:
                 for name in self.parts[at].names:
                     self.named[crate].setdefault(name, []).append(at)
+                    if not self.parts[at].local:
+                        self.offered[crate].setdefault(name, []).append(at)
         self.seen: dict[str, list[str]] = {}
 
     def visible(self, crate: str) -> list[str]:
@@ -210,19 +251,23 @@ class Reach:
     @cached_property
     def closures(self) -> list[int]:
         """What each part reaches, itself included: a number with a bit for each part."""
-        return closures_of([self.reached_by(self.parts[at].words, crate) for crate, own in self.of_crate.items() for at in own])
+        return closures_of([self.reached_by([self.parts[at]], crate) for crate, own in self.of_crate.items() for at in own])
 
-    def reached_by(self, words: Iterable[str], crate: str) -> list[int]:
-        """The parts that these words name, read in this crate."""
-        known = [self.named[it] for it in self.visible(crate)]
-        return [at for word in words for names in known for at in names.get(word, ())]
+    def reached_by(self, parts: Iterable[Part], crate: str) -> list[int]:
+        """The parts that these parts of a crate name."""
+        known = [self.named[crate], *(self.offered[it] for it in self.visible(crate) if it != crate)]
+        return [at for it in parts for word in it.words | it.lemmas for names in known for at in names.get(word, ()) if self.may_name(it, word, at)]
+
+    def may_name(self, part: Part, word: str, at: int) -> bool:
+        """Whether this word of a part may mean the part at this place."""
+        return word in (part.lemmas if self.parts[at].is_lemma else part.words)
 
     def checksum(self, edit: deciding.Edit) -> str:
         """A checksum of the functions that an edit changes, with the answers to their goals and all that they reach."""
         own = self.read_of(edit)
-        words = {word for it in own for word in it.words} | words_of(" ".join(old + " " + new for _, old, new in edit.pairs))
+        new = " ".join(new for _, _, new in edit.pairs)
         bits = 0
-        for at in self.reached_by(words, edit.crate):
+        for at in self.reached_by([*own, Part(frozenset(), new, words_of(new), frozenset())], edit.crate):
             bits |= self.closures[at]
         found = hashlib.sha256("\0".join(it.text for it in own).encode())
         for digest in sorted(self.digests[at] for at in set_bits(bits)):
@@ -262,7 +307,7 @@ def bodies_in(text: str, path: str) -> dict[tuple[str, str], Part]:
     tactics = "".join(line + "\n" for line in lines if line.startswith("#!["))
     found: dict[tuple[str, str], Part] = {}
     for it in deciding.functions_of(text, deciding.module_of(path)):
-        own = File("\n".join(lines[begin_of(lines, it) : it.last + 1]), "//").text
+        own = split("\n".join(lines[begin_of(lines, it) : it.last + 1]), "//")[0]
         found[it.path, f"{path}:{it.first}"] = file.part([], tactics + own)
     return found
 
@@ -281,7 +326,7 @@ def parts_of_crate(folder: Path) -> list[Part]:
     for part in ("specs", "proofs"):
         for file in sorted((folder / part).rglob("*.antt")):
             if not is_answers(file.relative_to(folder)):
-                found += parts_of_antt(file.read_text())
+                found += parts_of_antt(file.read_text(), part == "proofs")
     return found
 
 

@@ -291,6 +291,8 @@ class Reached(unittest.TestCase):
             ("low/specs/Counts.antt", "{ℕ, ◌+◌}", "{ℕ, ◌+◌, List}"),
             ("low/specs/Counts.antt", "hidden n = n", "hidden n = n\n\nabbrev pub less : Count\nless = 0"),
             ("low/proofs/Adding.antt", "added = refl", "added = sym refl"),
+            ("low/proofs/Adding.antt", "  pub added", "  two : Other\n  two = refl\n\n  pub added"),
+            ("low/src/lib.rt", "/// A counter.", "fn two(a: u8) {}\n\npub(crate) fn add_two() {}\n\n/// A counter."),
         ):
             self.assertEqual(self.checksum(), self.checksum(file, old, new), f"{file}: {new}")
 
@@ -301,6 +303,14 @@ class Reached(unittest.TestCase):
     def test_what_is_unfolded_in_its_file_is_read_whole(self) -> None:
         text = "pub one : ℕ\none = 1\n\nabbrev pub two : ℕ\nunfolding one\ntwo = one + one\n\npub three : ℕ\nthree = 3\n"
         self.assertEqual([it.text.split("\n")[-1] for it in reach.parts_of_antt(text)], ["one = 1", "two = one + one", "pub three : ℕ"])
+
+    def test_what_is_exported_under_another_name_is_reached_by_it(self) -> None:
+        part = reach.parts_of_source("pub use low::{MOST, LANE as CAPACITY};\n", "")[0]
+        self.assertEqual((part.names, "LANE" in part.words), (frozenset({"CAPACITY"}), True))
+
+    def test_a_variant_reaches_its_type(self) -> None:
+        text = "use Rattle.low.specs.declared.fault.Fault.TheVariants.{Full}\n\nabbrev pub Is : Fault → Type 0\nIs f = f ≡ Full\n"
+        self.assertIn("Fault", reach.parts_of_antt(text.replace("Fault →", "_ →"))[0].words)
 
     def test_the_parts_of_a_source_file(self) -> None:
         parts = {name: it.text for it in reach.parts_of_source(self.FILES["low/src/lib.rt"], "") for name in it.names}
