@@ -323,3 +323,34 @@ fn such_an_exit_signal_is_chosen() -> Result<(), Error> {
     assert_eq!(runtime.wait()?.panics, 0);
     Ok(())
 }
+
+/// A process that begins to trap exits before such an exit signal comes gets it of the exited process, and none if it has
+/// unlinked itself. One from outside with the same reason keeps its sender.
+#[test]
+fn such_an_exit_signal_is_trapped_in_time() -> Result<(), Error> {
+    let (runtime, (give, told)) = (Runtime::builder().desks(1).start()?, channel());
+    let servers = [exited(&runtime, 0)?, exited(&runtime, 0)?, exited(&runtime, 0)?];
+    let pids = [servers[0].pid(), servers[1].pid(), servers[2].pid()];
+    let links = runtime.spawn(Plays(Box::new(move |cx, event| {
+        if let Some(Event::Exit(exit)) = &event {
+            let place = pids.iter().position(|pid| *pid == exit.pid);
+            give.send((place, exit.reason)).expect("a test");
+            return Next::Wait;
+        }
+        servers.iter().for_each(|server| cx.link(server).expect("a link"));
+        cx.unlink(&servers[1]).expect("an unlink");
+        cx.trap_exits(true).expect("a flag");
+        // (while it traps, the signal is a message)
+        cx.link(&servers[1]).expect("a link");
+        cx.link(&servers[0]).expect("a link");
+        cx.unlink(&servers[1]).expect("an unlink");
+        Next::Only(Pick::ExitOf(pids[2]))
+    })))?;
+    let heard = [told.recv_timeout(LONG)?, told.recv_timeout(LONG)?, told.recv_timeout(LONG)?];
+    assert_eq!(heard, [2, 0, 0].map(|place| (Some(place), Reason::Noproc)));
+    runtime.exit(&links, Reason::Noproc)?;
+    assert_eq!(told.recv_timeout(LONG)?, (None, Reason::Noproc));
+    runtime.exit(&links, Reason::Kill)?;
+    assert_eq!((runtime.wait()?.panics, told.try_recv().is_err()), (0, true));
+    Ok(())
+}

@@ -145,7 +145,7 @@ impl<M: Send + 'static> Context<'_, M> {
         let target = target.into().pid_in(&self.worker.hub)?;
         match self.monitor_living(target)? {
             Some(monitor) => Ok(monitor),
-            None => self.tell_gone(GONE, target).map(gone_monitor),
+            None => self.monitor_gone(target),
         }
     }
 
@@ -159,18 +159,24 @@ impl<M: Send + 'static> Context<'_, M> {
         }
     }
 
-    /// Has this process told that one which it monitors or links itself with had exited. It returns the number of the news.
+    /// Has this process told that one which it monitors had exited.
+    fn monitor_gone(&mut self, target: Pid) -> Result<Ref, Fault> {
+        let number = self.tell_gone(GONE, target)?;
+        self.gone.monitored.insert(number, target);
+        Ok(gone_monitor(number))
+    }
+
+    /// Sends the news of an exited process, and returns the number of the news.
     fn tell_gone(&mut self, kind: u32, target: Pid) -> Result<i64, Fault> {
         let num = fresh_number();
         self.worker.tell_itself(self.me.pid(), Body { kind, num, who: Some(target) })?;
-        self.gone.insert(num, target);
         Ok(num)
     }
 
     /// Takes a monitor back. Nothing more is told of it.
     pub fn demonitor(&mut self, monitor: Ref) {
         if let Some(number) = number_of_gone(monitor) {
-            self.gone.remove(&number);
+            self.gone.monitored.remove(&number);
             return;
         }
         self.aside.forget(monitor);
@@ -196,10 +202,15 @@ impl<M: Send + 'static> Context<'_, M> {
     fn link_gone(&mut self, to: Pid) -> Result<(), Fault> {
         let (me, porter) = (self.me.pid(), self.worker.porter);
         if self.worker.desk().traps(me) == Some(true) {
-            return self.tell_gone(GONE_LINK, to).map(drop);
+            let number = self.tell_gone(GONE_LINK, to)?;
+            self.gone.linked.insert(number, to);
+            return Ok(());
         }
         let sent = self.worker.desk().exit_signal(porter, me, Reason::Noproc);
-        self.worker.noted(sent)
+        self.worker.noted(sent)?;
+        // (it may trap exits before the signal comes)
+        self.gone.sent(to);
+        Ok(())
     }
 
     /// Takes the link with another process away: Erlang's `unlink`.
@@ -210,6 +221,7 @@ impl<M: Send + 'static> Context<'_, M> {
     pub fn unlink(&mut self, to: impl Into<Target>) -> Result<(), Fault> {
         let (me, to) = (self.me.pid(), to.into().pid_in(&self.worker.hub)?);
         self.me.mailbox.take_panic(News::Exit(to));
+        self.gone.unlink(to);
         let done = self.worker.desk().unlink(me, to);
         self.worker.noted(done)
     }
@@ -271,7 +283,7 @@ impl<M: Send + 'static> Context<'_, M> {
     pub fn postpone(&mut self, event: Event<M>) -> bool {
         let Some(told) = self.told.take() else { return false };
         if told.is_picked {
-            keep_older(self.worker, self.me, self.aside, told.item);
+            keep_older(self.worker, self.me, self.aside, self.gone, told.item);
         }
         self.aside.postpone(told, event, &self.me.mailbox);
         self.me.look_at_bound();

@@ -1,11 +1,50 @@
 //! Monitors of processes that are known to have exited, and links with them. The table makes none of these: their news is a
-//! message that a desk sends.
+//! message that a desk sends, or an exit signal that it sends in the place of the exited process.
 
 use super::numbers::Numbered;
-use crate::{Pid, Ref};
+use crate::{Item, Pid, Reason, Ref};
+use std::collections::VecDeque;
 
-/// The processes of those whose news has not come, by the numbers of the news.
-pub(crate) type Gone = Numbered<Pid>;
+/// The processes of those whose news has not come.
+#[derive(Default)]
+pub(crate) struct Gone {
+    /// Those that are monitored, by the numbers of the news.
+    pub(crate) monitored: Numbered<Pid>,
+    /// Those that are linked with a process that trapped exits then, by the numbers of the news.
+    pub(crate) linked: Numbered<Pid>,
+    /// Those that are linked with one that did not, in order. `None` if the link was taken away.
+    signals: VecDeque<Option<Pid>>,
+}
+
+impl Gone {
+    /// The desk has sent the exit signal of this one.
+    pub(crate) fn sent(&mut self, pid: Pid) {
+        self.signals.push_back(Some(pid));
+    }
+
+    /// The link with this one is taken away: its exit signal is nothing to the process.
+    pub(crate) fn unlink(&mut self, pid: Pid) {
+        self.linked.retain(|_, of| *of != pid);
+        self.signals.iter_mut().filter(|of| **of == Some(pid)).for_each(|of| *of = None);
+    }
+
+    /// Whether the exit signal of this one is to come.
+    pub(crate) fn has_link(&self, pid: Pid) -> bool {
+        self.linked.values().any(|of| *of == pid) || self.signals.contains(&Some(pid))
+    }
+
+    /// The item, with the exited process in it if the desk has sent it in the place of that. `None` if the link with that was
+    /// taken away.
+    pub(crate) fn name(&mut self, porter: Pid, item: Item) -> Option<Item> {
+        match item {
+            Item::Exit(from, Reason::Noproc) if from == porter => {
+                let of = self.signals.pop_front().unwrap_or(Some(from))?;
+                Some(Item::Exit(of, Reason::Noproc))
+            }
+            item => Some(item),
+        }
+    }
+}
 
 /// No desk has this number, so no monitor of the table is one of these.
 const NO_DESK: u8 = u8::MAX;

@@ -66,8 +66,12 @@ impl<B: Behaviour> Process<B> {
 
     /// What the handler is told of an item that the library has handed out. `None` if it is told nothing, also since the
     /// process does not take the item now.
-    fn event_from_table(&mut self, worker: &mut Worker, item: Item) -> Option<Event<B::Message>> {
-        let panic = news_of(item).and_then(|news| self.me.mailbox.take_panic(news));
+    fn event_from_table(
+        &mut self,
+        worker: &mut Worker,
+        item: Item,
+        panic: Option<Arc<str>>,
+    ) -> Option<Event<B::Message>> {
         if !matches!(self.wanted, Wanted::All) && !self.wanted.takes(&item, ends_call(&self.calls, &item)) {
             self.aside.keep(item, panic);
             return None;
@@ -99,11 +103,11 @@ impl<B: Behaviour> Process<B> {
                 self.close(worker, number).then_some(Event::Answer(Answer { number, given }))
             }
             Item::User(_, Body { kind: GONE, num: number, .. }) => {
-                let (monitor, pid) = (gone_monitor(number), self.gone.remove(&number)?);
+                let (monitor, pid) = (gone_monitor(number), self.gone.monitored.remove(&number)?);
                 Some(Event::Down(Down { monitor, pid, reason: Reason::Noproc, panic: None }))
             }
             Item::User(_, Body { kind: GONE_LINK, num: number, .. }) => {
-                let pid = self.gone.remove(&number)?;
+                let pid = self.gone.linked.remove(&number)?;
                 Some(Event::Exit(Exit { pid, reason: Reason::Noproc, panic: None }))
             }
             // (a mailbox was read)
@@ -158,7 +162,13 @@ impl<B: Behaviour> Process<B> {
 }
 
 /// Keeps what waits and is older than an item that the library has picked out, so that it comes first later.
-pub(crate) fn keep_older<M: Send + 'static>(worker: &mut Worker, me: &Address<M>, aside: &mut Aside<M>, picked: &Item) {
+pub(crate) fn keep_older<M: Send + 'static>(
+    worker: &mut Worker,
+    me: &Address<M>,
+    aside: &mut Aside<M>,
+    gone: &mut Gone,
+    picked: &Item,
+) {
     let pid = me.pid();
     let waiting = worker.desk().waiting(pid);
     let count = waiting.map_or(0, |waiting| older(&me.mailbox, waiting, picked));
@@ -166,7 +176,9 @@ pub(crate) fn keep_older<M: Send + 'static>(worker: &mut Worker, me: &Address<M>
         let taken = worker.desk().receive(pid, Pick::Any);
         let Ok(Some(item)) = worker.noted(taken) else { return };
         let panic = news_of(item).and_then(|news| me.mailbox.take_panic(news));
-        aside.keep(item, panic);
+        if let Some(item) = gone.name(worker.porter, item) {
+            aside.keep(item, panic);
+        }
     }
 }
 
@@ -194,8 +206,11 @@ impl<B: Behaviour> Actor for Process<B> {
             What::Proceed => Some(Event::Proceed),
             What::Timeout => Some(Event::Timeout),
             What::Item(item) => {
-                told = Some(Told { item, age: None, is_picked: self.picks() });
-                match self.event_from_table(worker, *item) {
+                let panic = news_of(*item).and_then(|news| self.me.mailbox.take_panic(news));
+                let Some(item) = self.gone.name(worker.porter, *item) else { return self.next };
+                held = item;
+                told = Some(Told { item: &held, age: None, is_picked: self.picks() });
+                match self.event_from_table(worker, item, panic) {
                     Some(event) => Some(event),
                     None => return self.next,
                 }

@@ -152,12 +152,12 @@ impl Wanted {
     }
 }
 
-/// What the library is to hand out for a pick. The news of a monitor of a process that had exited is a message to it, and so is
-/// the exit signal of a link with one.
+/// What the library is to hand out for a pick. The news of a monitor of a process that had exited is a message to it, and the
+/// exit signal of a link with one is a message or of the desk.
 pub(crate) fn pick_of(pick: Pick, gone: &Gone) -> Pick {
     match pick {
         Pick::DownOf(monitor) if number_of_gone(monitor).is_some() => Pick::Kind(GONE),
-        Pick::ExitOf(pid) if gone.values().any(|of| *of == pid) => Pick::Any,
+        Pick::ExitOf(pid) if gone.has_link(pid) => Pick::Any,
         pick => pick,
     }
 }
