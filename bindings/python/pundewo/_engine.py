@@ -24,7 +24,7 @@ from ._sending import HOLDS, Task, answer_key, kind_of, request_key
 from ._report import Crash, report, text_of
 from ._selection import ANSWER, FIRST_KIND, MESSAGE, NEWS, Waits
 from ._supervisor import Supervisor
-from .values import ANY, ITEMS, JOBS, KILL, SHUTDOWN, U8, U64, Body, Item, Pick, Pid, Reason, Ref, unchecked
+from .values import ANY, ITEMS, JOBS, KILL, NOPROC, SHUTDOWN, U8, U64, Body, Item, Pick, Pid, Reason, Ref, unchecked
 
 log = logging.getLogger("pundewo")
 
@@ -518,7 +518,7 @@ class Engine(Supervising):
     def _chosen(self, seat: Seat, waits: Waits) -> Optional[Pick]:
         """What the library is to hand out for what a process waits for. None if it is told first what it did not take before."""
         chosen = waits if isinstance(waits, Pick) else waits.pick()
-        # (the exit signal of one that had exited is a message to the library)
+        # (the exit signal of one that had exited is a message to the library, or another's)
         if chosen is not None and chosen.name == "exit-of" and chosen.what in seat.gone:
             chosen = None
         if chosen is None and seat.aside is None:
@@ -537,7 +537,7 @@ class Engine(Supervising):
             return self._result(event) if isinstance(event, Answer) else event
         pid, reason = pid_of(item.pid), reason_of(item.reason)
         if item.code == EXIT:
-            return Exit(pid, reason, seat.texts.pop(pid, None))
+            return self._exit_of(seat, pid, reason)
         if item.code != DOWN:
             return None
         reference = ref_of(item.reference)
@@ -549,6 +549,14 @@ class Engine(Supervising):
             return None
         return Down(reference, pid, reason, text)
 
+    def _exit_of(self, seat: Seat, pid: Pid, reason: Reason) -> Optional[Exit]:
+        """An exit signal, of an exited process if the desk has sent it in the place of that. None if the link with that was taken
+        away."""
+        if seat.gone.signals and reason == NOPROC and pid == self.porters[pid.shard].pid:
+            gone = seat.gone.signals.popleft()
+            return None if gone is None else Exit(gone, reason, None)
+        return Exit(pid, reason, seat.texts.pop(pid, None))
+
     def _value_of(self, seat: Seat, item: CItem) -> Optional[Event]:
         """The value of a message, or None if it was taken back, or nobody waits for it any more."""
         body = item.body
@@ -558,7 +566,7 @@ class Engine(Supervising):
                 return Message(value, pid_of(item.pid))
             event: Optional[Event] = value
             if isinstance(event, Exit):
-                seat.gone.remove(event.pid)
+                del seat.gone.told[body.num]
             if not isinstance(event, Answer):
                 return event
             # (an answer that the server has not sent itself, or that its time is over)

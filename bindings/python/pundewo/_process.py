@@ -185,12 +185,37 @@ class Seat:
         self.waits = self.crossing + WAITS
         # the children, if it is a supervisor
         self.family: Optional[Family] = None
-        # those that had exited as it linked itself with them, whose exit signals have not come
-        self.gone: list[Pid] = []
+        self.gone = Gone()
         # whether it may be in a group
         self.is_in_groups = False
         # whether the library picks out what it takes, if it said what that is with its last answer
         self.picks = False
+
+
+class Gone:
+    """Those that had exited as a process linked itself with them, whose exit signals have not come."""
+
+    __slots__ = ("told", "signals")
+
+    def __init__(self) -> None:
+        # by the number of the message that is the signal, since the process trapped exits
+        self.told: dict[int, Pid] = {}
+        # in order, if the desk has sent the signal in their place. None if the link was taken away
+        self.signals: Deque[Optional[Pid]] = deque()
+
+    def __bool__(self) -> bool:
+        return bool(self.told or self.signals)
+
+    def __contains__(self, pid: object) -> bool:
+        return pid in self.told.values() or pid in self.signals
+
+    def unlink(self, pid: Pid) -> list[int]:
+        """The link with this one is taken away. It returns the numbers of the messages that are nothing to the process now."""
+        numbers = [number for number, of in self.told.items() if of == pid]
+        for number in numbers:
+            del self.told[number]
+        self.signals = deque(None if of == pid else of for of in self.signals)
+        return numbers
 
 
 class Kid:
@@ -403,8 +428,8 @@ class Context:
     def unlink(self, to: Union[Address, Pid]) -> None:
         """Takes the link with another process away: Erlang's `unlink/1`."""
         pid = self._pid_of("to", to)
-        self._desk().unlink(self.pid, pid)
-        self._seat.texts.pop(pid, None)
+        engine = self._here()
+        engine.unlink(self._seat, pid)
 
     def exit(self, to: Union[Address, Pid], reason: Reason = SHUTDOWN) -> None:
         """Sends an exit signal: Erlang's `exit/2`. KILL ends any process. Any other reason but NORMAL ends a process that

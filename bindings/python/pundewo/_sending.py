@@ -278,12 +278,22 @@ class Sending:
             if fault.code != Code.NOPROC:
                 raise
             if desk.traps(me):
-                self.news(seat, lambda _: Exit(to, NOPROC, None))
-                seat.gone.append(to)
+                news = self.news(seat, lambda _: Exit(to, NOPROC, None))
+                seat.gone.told[news.number] = to
             else:
                 desk.exit_signal(self.porters[me.shard].pid, me, NOPROC)
+                # (it may trap exits before the signal comes)
+                seat.gone.signals.append(to)
         finally:
             self.touch()
+
+    def unlink(self, seat: Seat, to: Pid) -> None:
+        """Takes a link away. If that process had exited before the link, its exit signal is nothing to this one now."""
+        self.desks[seat.pid.shard].unlink(seat.pid, to)
+        seat.texts.pop(to, None)
+        for number in seat.gone.unlink(to):
+            self.payloads.pop(number, None)
+        self.touch()
 
     def demonitor(self, seat: Seat, monitor: Ref) -> None:
         seat.texts.pop(monitor, None)

@@ -361,6 +361,42 @@ class Exited(unittest.TestCase):
         self.assertEqual(told[7].value, "later")
 
     @quiet
+    def test_such_an_exit_signal_is_trapped_in_time(self) -> None:
+        told: list[Any] = []
+
+        def handle(cx: r.Context, event: Any) -> Any:
+            if isinstance(event, r.Exit):
+                told.append(event)
+                return None
+            for dead in exited:
+                cx.link(dead)
+            cx.unlink(exited[1])
+            cx.trap()
+            # (while it traps, the signal is a message)
+            cx.link(exited[1])
+            cx.link(exited[0])
+            cx.unlink(exited[1])
+            return r.Next.only(p.Pick("exit-of", exited[2].pid))
+
+        with Running(r.Runtime()) as running:
+            run = running.run
+            exited = [run.spawn(Echo()) for _ in range(3)]
+            links = run.spawn(Doing(handle))
+            for dead in exited:
+                run.exit(dead, p.KILL)
+                wait_until(lambda: not dead.is_alive())
+            links.send("link")
+            wait_until(lambda: len(told) == 3)
+            run.exit(links, p.NOPROC)
+            wait_until(lambda: len(told) == 4)
+            run.exit(links, p.KILL)
+            wait_until(lambda: not links.is_alive())
+        self.assertEqual(told[:3], [r.Exit(exited[place].pid, p.NOPROC, None) for place in (2, 0, 0)])
+        self.assertEqual(told[3].reason, p.NOPROC)
+        self.assertNotIn(told[3].pid, [dead.pid for dead in exited])
+        self.assertEqual(len(told), 4)
+
+    @quiet
     @in_asyncio
     async def test_a_program_is_told_alike(self) -> None:
         async with r.Runtime(2) as run, run.mailbox() as mailbox:
