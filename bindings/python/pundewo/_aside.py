@@ -6,7 +6,7 @@ from bisect import insort
 from collections import deque
 from typing import Any, Callable, Deque, Iterable, Optional, Union
 
-from ._behaviour import Answer, Down, Event, Exit, Message, Request
+from ._behaviour import LOST, Answer, Down, Event, Exit, Message, Request
 from ._selection import ANSWER, MESSAGE, REQUEST, Waits, Wants, is_function, letter
 from .values import ANY, Pick, Pid, Ref
 
@@ -25,6 +25,11 @@ def is_of(monitor: Ref, event: Event) -> bool:
 def sender_of(event: Event) -> object:
     """The process that has sent this, if it is a message, a request or an answer."""
     return event.call.server if isinstance(event, Answer) else event.sender if isinstance(event, (Message, Request)) else None
+
+
+def first_asked(held: Iterable[tuple[int, Event]]) -> Optional[int]:
+    """The place of the first message or request."""
+    return next((place for place, (_, event) in enumerate(held) if isinstance(event, (Message, Request))), None)
 
 
 def older(waiting: Iterable[tuple[object, Optional[int]]], sender: Pid, age: Optional[int]) -> int:
@@ -46,7 +51,7 @@ def older(waiting: Iterable[tuple[object, Optional[int]]], sender: Pid, age: Opt
 class Aside:
     """What waits for one process, the oldest first."""
 
-    __slots__ = ("waits", "_kind", "_kept", "_postponed", "_ready", "_told", "_count", "_seen", "_looked")
+    __slots__ = ("waits", "_kind", "_kept", "_postponed", "_ready", "_told", "_count", "_seen", "_looked", "_has_lost")
 
     def __init__(self, kind: Callable[[Any], int]) -> None:
         # what the process waits for, and the kind that its behaviour gives a value
@@ -61,6 +66,8 @@ class Aside:
         # how many of the first are not taken by what was looked for last
         self._seen = 0
         self._looked: Waits = ANY
+        # whether there may be a LOST
+        self._has_lost = False
 
     def __len__(self) -> int:
         return len(self._kept) + len(self._postponed) + (self._ready is not None)
@@ -115,8 +122,30 @@ class Aside:
         """Puts what the process is told back into its place, where it waits for `retry`."""
         insort(self._postponed, (self._told, event))
 
+    def lose(self) -> bool:
+        """Drops the oldest message or request that waits, and returns whether there was one. LOST comes in its place."""
+        kept, postponed = first_asked(self._kept), first_asked(self._postponed)
+        if kept is not None and (postponed is None or self._kept[kept][0] < self._postponed[postponed][0]):
+            self._kept[kept] = self._kept[kept][0], LOST
+            self._has_lost, self._seen = True, 0
+        elif postponed is not None:
+            self._postponed[postponed] = self._postponed[postponed][0], LOST
+        return (kept, postponed) != (None, None)
+
+    def takes_lost(self) -> bool:
+        """Takes a LOST out, if one waits, and returns whether one did."""
+        for place, (age, event) in enumerate(self._kept if self._has_lost else ()):
+            if event is LOST:
+                self._told = age
+                del self._kept[place]
+                self._seen = 0
+                return True
+        self._has_lost = False
+        return False
+
     def retry(self) -> None:
         """All that was postponed may be taken."""
+        self._has_lost |= any(event is LOST for _, event in self._postponed)
         self._kept = deque(sorted((*self._kept, *self._postponed), key=lambda it: it[0]))
         self._postponed.clear()
         self._seen = 0
@@ -128,8 +157,10 @@ class Aside:
         self._seen = 0
 
     def _takes(self, event: Event) -> object:
-        """Whether the process waits for this event."""
+        """Whether the process waits for this event. (it always takes LOST)"""
         waits = self.waits
+        if event is LOST:
+            return True
         if isinstance(waits, Pick):
             return self._fits(waits, event)
         if isinstance(event, (Message, Request)):

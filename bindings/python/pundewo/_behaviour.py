@@ -7,6 +7,7 @@ from functools import partial
 from typing import TYPE_CHECKING, Any, Callable, NamedTuple, Optional, Union
 
 from ._abi import CCall
+from ._bound import Bound
 from ._report import Holder
 from ._selection import Selection, Wants
 from .values import ANY, NORMAL, U32, Pick, Pid, Reason, Ref, _Checked, maybe, of_type, one_of, shown, unchecked
@@ -124,12 +125,13 @@ class Exit(NamedTuple):
 
 
 class Tick(NamedTuple):
-    """What no other process sent: TIMEOUT, the time is over for which the process waited; PROCEED, as it said."""
+    """What no other process sent: TIMEOUT, the time is over for which the process waited; PROCEED, as it said; LOST, a message
+    was dropped, since too many waited (`Bound.drop_oldest`)."""
 
     name: str
 
 
-TIMEOUT, PROCEED = Tick("timeout"), Tick("proceed")
+TIMEOUT, PROCEED, LOST = Tick("timeout"), Tick("proceed"), Tick("lost")
 
 
 def held_up(text: str, holder: Optional[Holder]) -> str:
@@ -186,13 +188,15 @@ class Unanswered(CallFault):
 
 
 class InboxFull(Exception):
-    """A message was not sent: as many as may wait do (`Runtime(inbox=..)`)."""
+    """A message was not sent: as many as may wait do, in the run (`Runtime(inbox=..)`) or for its receiver
+    (`Behaviour.most_waiting`)."""
 
-    def __init__(self) -> None:
-        super().__init__("the message is not sent: the inbox of the run is full")
+    def __init__(self, of: str = "the inbox of the run") -> None:
+        self.of = of
+        super().__init__(f"the message is not sent: {of} is full")
 
     def __reduce__(self) -> tuple[Any, ...]:
-        return type(self), ()
+        return type(self), (self.of,)
 
 
 class RunOver(CallFault):
@@ -285,6 +289,10 @@ class Behaviour(ABC):
     named in a warning of `logging`.
     """
 
+    # how many messages and requests may wait for such a process, and what happens if one more comes. It is read as the process
+    # is spawned
+    most_waiting: Optional[Bound] = None
+
     # whether it ends the processes that it has spawned, when it is told to exit
     _ends_children = False
 
@@ -309,5 +317,6 @@ class Behaviour(ABC):
 def behaviour_of(value: object) -> Behaviour:
     """The value, which is a behaviour."""
     if isinstance(value, Behaviour):
+        maybe("Behaviour.most_waiting", value.most_waiting, Bound)
         return value
     raise TypeError(f"behaviour is {shown(value)}, and must be of type Behaviour")

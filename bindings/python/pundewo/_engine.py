@@ -12,10 +12,11 @@ from typing import Any, Callable, Deque, Optional, Union
 from . import Code, Config, Desk, Fault, Gathered, History, NotGoneOn, Quiet, go_on, open_node
 from ._archive import Sink
 from ._behaviour import (
-    CRASH, GO_ON, HALTS, KILLS, OVER, PROCEED, STOP, TIMEOUT, Answer, Behaviour, Call, CallFault, CallTimeout, Down, Event, Exit,
+    CRASH, GO_ON, HALTS, KILLS, LOST, OVER, PROCEED, STOP, TIMEOUT, Answer, Behaviour, Call, CallFault, CallTimeout, Down, Event, Exit,
     Message, Next, Request, RunOver, ServerDown, behaviour_of,
 )
 from ._aside import Aside, older
+from ._bound import DROPPED, Room
 from ._abi import CAnswer, CItem, CJob, CPid
 from ._family import StandIn, Supervising
 from ._library import pid_of, reader, reason_of, ref_of
@@ -89,10 +90,12 @@ class Engine(Supervising):
         """Whether this is the thread of the run, which is in no round, and nothing that came before is to be done first."""
         return not self._inside and not self.inbox and self.thread == get_ident()
 
-    def send_from_outside(self, to: Address, value: Any) -> bool:
+    def send_from_outside(self, to: Address, value: Any, is_entered: bool = False) -> bool:
+        """Sends in the name of those outside. It may count as waiting already."""
         if self.order == OVER:
             return False
-        return self.send(self.porters[to.pid.shard if to._engine is self else 0], to, value)
+        send = self.send_entered if is_entered else self.send
+        return send(self.porters[to.pid.shard if to._engine is self else 0], to, value)
 
     def ask(self, to: Address, value: Any, done: Callable[[Answer], None]) -> Call:
         """A call from outside. Whoever makes it waits as long as it likes, and then takes `give_up`."""
@@ -349,7 +352,8 @@ class Engine(Supervising):
         return address
 
     def take_in(self, pid: Pid, tag: int, behaviour: Behaviour, parent: Optional[Pid], obeys: Optional[Pid] = None) -> Seat:
-        seat = Seat(self, Address(pid, self, type(behaviour)), tag, behaviour, parent)
+        room = None if behaviour.most_waiting is None else Room(behaviour.most_waiting)
+        seat = Seat(self, Address(pid, self, type(behaviour), room), tag, behaviour, parent)
         self.seats[tag] = self.pids[pid] = seat
         if behaviour._ends_children and isinstance(behaviour, Supervisor):
             porter = self.porters[pid.shard]
@@ -367,7 +371,7 @@ class Engine(Supervising):
             return
         self.running, self._place = seat, place
         try:
-            if code == ITEM and item == USER and kind == MESSAGE:
+            if code == ITEM and item == USER and kind == MESSAGE and seat.room is None:
                 message = unchecked(Message, (self.payloads.pop(num), unchecked(Pid, (shard, slot, version))))
                 if seat.aside is None:
                     self.event = message
@@ -420,7 +424,7 @@ class Engine(Supervising):
             came = self._event_of(seat, job.item)
             if came is None or seat.aside is not None:
                 return seat.does if came is None else self._offer(seat, came)
-            self.event = came
+            self._takes(seat, came)
             next_ = seat.behaviour.handle(seat.cx, came)
             return WAITS if next_ is None and seat.aside is None else self._does(seat, next_)
         elif seat.aside is not None:
@@ -429,14 +433,22 @@ class Engine(Supervising):
 
     def _tells(self, seat: Seat, event: Event) -> bytes:
         """Runs the handler of a process, and returns what it does next."""
-        self.event = event
+        self._takes(seat, event)
         return self._does(seat, seat.behaviour.handle(seat.cx, event))
+
+    def _takes(self, seat: Seat, event: Event) -> None:
+        """A process takes this."""
+        self.event = event
+        if seat.room is not None and isinstance(event, (Message, Request)):
+            seat.room.leave()
 
     def _offer(self, seat: Seat, event: Event) -> bytes:
         """The same of what the library has handed out, if the process takes that now. If not, it waits."""
         if seat.aside is not None and not seat.aside.came(event):
             self.kept += isinstance(event, (Message, Request))
-            return seat.does
+            if not seat.aside.takes_lost():
+                return seat.does
+            event = LOST
         return self._tells(seat, event)
 
     def _taken_from_aside(self, aside: Aside) -> Optional[Event]:
@@ -456,7 +468,11 @@ class Engine(Supervising):
         if seat.picks and seat.does is not WAITS and job.code == ITEM:
             self._keep_older(seat, seat.aside, event, job.item)
         seat.aside.postpone(event)
-        self.kept += isinstance(event, (Message, Request))
+        if isinstance(event, (Message, Request)):
+            self.kept += 1
+            if seat.room is not None:
+                seat.room.come_back()
+                self.look_at(seat.pid, seat.room)
         return True
 
     def _keep_older(self, seat: Seat, aside: Aside, event: Event, picked: CItem) -> None:
@@ -561,7 +577,9 @@ class Engine(Supervising):
         """The value of a message, or None if it was taken back, or nobody waits for it any more."""
         body = item.body
         if not body.has_who:
-            value: Any = self.payloads.pop(body.num, None)
+            value = self._value_at(seat, body.num)
+            if value is LOST:
+                return LOST
             if body.kind == MESSAGE or FIRST_KIND <= body.kind < NEWS:
                 return Message(value, pid_of(item.pid))
             event: Optional[Event] = value
@@ -573,11 +591,18 @@ class Engine(Supervising):
             is_late = isinstance(event.fault, CallTimeout)
             return event if self.expire(event.call, self.now() if is_late else U64) else None
         if body.kind != ANSWER:
-            asked: Optional[Event] = self.payloads.pop(request_key(item.pid.shard, body.num), None)
+            asked: Optional[Event] = self._value_at(seat, request_key(item.pid.shard, body.num))
             return asked
         answer: Optional[Event] = self.payloads.pop(answer_key(seat.pid.shard, body.num), None)
         call = seat.calls.get(body.num)
         return None if call is None or self.hear(seat, call, item) is None else answer
+
+    def _value_at(self, seat: Seat, key: int) -> Any:
+        """What is kept under this for a process: LOST if it was dropped."""
+        value = self.payloads.pop(key, None)
+        if seat.room is not None:
+            seat.room.keys.pop(key, None)
+        return LOST if value is DROPPED else value
 
     def _result(self, answer: Answer) -> Optional[Event]:
         """A call has ended by this: what its client is told, if it is a process, and waits for it."""
@@ -603,6 +628,11 @@ class Engine(Supervising):
         except Fault:  # no memory: the crew tries again
             self._answers[seat.pid.shard].append(seat.crossing + bytes_of("stop", reason=CRASH))
         report(logging.ERROR, Crash(seat.pid, seat.cx.me.name, text), error=error)
+
+    def overflow(self, of: Pid) -> None:
+        seat = self.pids.get(of)
+        if seat is not None and self.desks[of.shard].alive(of):
+            self._crash(seat, OverflowError("more messages wait than may"))
 
     def _leave_text(self, of: Pid, key: Union[Ref, Pid], text: str) -> None:
         """Keeps the text of a crash for a process that gets news of it. (a supervisor of a crew reads none)"""

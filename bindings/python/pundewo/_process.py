@@ -12,6 +12,7 @@ from typing import TYPE_CHECKING, Any, Deque, Generator, Optional, Union
 from . import Desk, Fault
 from . import Next as Does
 from ._abi import CAnswer, CPid
+from ._bound import Room
 from ._library import c_next
 from ._behaviour import (
     GO_ON, OVER, Alarm, Answer, Behaviour, Call, CallTimeout, Down, Event, Exit, InboxFull, Message, Request,
@@ -31,10 +32,12 @@ if TYPE_CHECKING:
 class Address:
     """A process of a run, to which anything can be sent. It stays valid when the process has exited."""
 
-    __slots__ = ("pid", "name", "_engine", "_crossing", "_kind")
+    __slots__ = ("pid", "name", "_engine", "_crossing", "_kind", "_room")
 
-    def __init__(self, pid: Pid, engine: Engine, behaviour: type[Behaviour]):
+    def __init__(self, pid: Pid, engine: Engine, behaviour: type[Behaviour], room: Optional[Room]):
         self.pid, self.name, self._engine = pid, behaviour.__name__, engine
+        # what waits for it, if its behaviour bounds that
+        self._room = room
         # what gives a value its kind, if the behaviour does
         self._kind = None if behaviour.kind is Behaviour.kind else behaviour.kind
         # where it is sent to, as the library takes it, made once: itself, or the porter of a supervisor
@@ -55,7 +58,8 @@ class Address:
 
     def send(self, value: Any) -> bool:
         """Sends a message from any thread. What one thread sends comes in order. It returns False, and the message is
-        dropped, if the process is known to have exited, or if the run is over or drains. In a behaviour take `Context.send`.
+        dropped, if the process is known to have exited or takes no more (`Bound.refuse`), or if the run is over or drains. In a
+        behaviour take `Context.send`.
 
         If as many messages wait as may (`Runtime(inbox=..)`), it waits for room, but not on the thread of the run.
         """
@@ -70,9 +74,13 @@ class Address:
 
     def try_send(self, value: Any) -> bool:
         """The same, but it never waits. InboxFull if as many messages wait as may, or others wait for room."""
-        if not self._is_closed() and not self._engine.has_room():
+        if self._is_closed():
+            return False
+        if not self._engine.has_room():
             raise InboxFull
-        return self._send(value)
+        if self._room is not None and not self._room.enter():
+            raise InboxFull(f"the mailbox of {self.pid}")
+        return self._send_entered(value)
 
     async def send_async(self, value: Any) -> bool:
         """The same for an asyncio program of any thread, which waits for room."""
@@ -92,15 +100,19 @@ class Address:
         return self.pid not in engine.pids or engine.order == OVER or engine.drains and not engine.is_inside()
 
     def _send(self, value: Any) -> bool:
-        engine = self._engine
-        if self.pid not in engine.pids or engine.order == OVER or engine.drains and not engine.is_inside():
+        if self._is_closed() or self._room is not None and not self._room.enter():
             return False
+        return self._send_entered(value)
+
+    def _send_entered(self, value: Any) -> bool:
+        """Sends what counts as waiting already, if that is counted."""
+        engine = self._engine
         if engine.is_between():
             try:
-                return engine.send_from_outside(self, value)
+                return engine.send_from_outside(self, value, True)
             except Fault:  # no memory, or the clock is at its end: the run halts with this
                 pass
-        engine.post(lambda: engine.send_from_outside(self, value))
+        engine.post(lambda: engine.send_from_outside(self, value, True))
         return True
 
     async def call(self, value: Any, limit: float = 5.0) -> Any:
@@ -163,7 +175,7 @@ class Seat:
     """A process with its behaviour."""
 
     __slots__ = ("pid", "tag", "behaviour", "cx", "calls", "texts", "does", "told", "aside", "crossing", "waits", "names",
-                 "family", "gone", "is_in_groups", "picks")
+                 "family", "gone", "is_in_groups", "picks", "room")
 
     def __init__(self, engine: Engine, address: Address, tag: int, behaviour: Behaviour, parent: Optional[Pid]):
         self.pid, self.tag, self.behaviour = address.pid, tag, behaviour
@@ -175,6 +187,7 @@ class Seat:
         # what it was to do when it was told something
         self.does = WAITS
         self.told = GO_ON
+        self.room = address._room
         # what it was handed and does not take now, if it chooses
         self.aside: Optional[Aside] = None
         # the names that it was given
@@ -332,8 +345,8 @@ class Context:
     def send(self, to: Address, value: Any) -> bool:
         """Sends a message: Erlang's `!`. It comes after all that this process sent that one before.
 
-        It returns False, and the message is dropped, if the receiver is known to have exited. If it exits later, the message
-        is dropped then.
+        It returns False, and the message is dropped, if the receiver is known to have exited, or takes no more (`Bound.refuse`).
+        If it exits later, the message is dropped then.
         """
         engine = self._engine
         if engine.thread != get_ident() or engine.order == OVER:
@@ -342,6 +355,8 @@ class Context:
             of_type("to", to, Address)
         if to._engine is not engine:
             return to.send(value)
+        if to._room is not None:
+            return engine.send(self.me, to, value)
         return engine.carry(MESSAGE if to._kind is None else letter(to._kind(value), MESSAGE), self.me, to, value)
 
     def send_all(self, to: Group, value: Any) -> int:
@@ -369,7 +384,7 @@ class Context:
     def postpone(self, event: Event) -> bool:
         """Puts what the handler is told back into its place: `postpone` of Erlang's `gen_statem`. It waits there, also if the
         process would take it, until `retry`. It returns False, and nothing is postponed, if the handler is not told this now,
-        if it was postponed before, or if it is TIMEOUT or PROCEED, which did not wait."""
+        if it was postponed before, or if it is TIMEOUT, PROCEED or LOST, which did not wait."""
         if not isinstance(event, (Message, Request, Down, Exit, Answer)):
             of_type("event", event, Tick)
             return False

@@ -14,6 +14,7 @@ from ._behaviour import (
     GO_ON, OVER, Alarm, Answer, Call, CallTimeout, Event, Exit, Request, ServerDown, Unanswered,
 )
 from ._abi import HEARD_CODES, CBody, CCall, CHeard, CItem, CRequest, CTimer
+from ._bound import DROP_OLDEST, DROPPED, Room
 from ._process import Address, Seat
 from ._report import Holder, report
 from ._selection import ANSWER, MESSAGE, NEWS, REQUEST, letter
@@ -249,7 +250,42 @@ class Sending:
     def send(self, sender: Address, to: Address, value: Any) -> bool:
         if to._engine is not self:
             return to.send(value)
-        return self.carry(MESSAGE if to._kind is None else letter(to._kind(value), MESSAGE), sender, to, value)
+        if to._room is not None and not to._room.enter():
+            return False
+        return self.send_entered(sender, to, value)
+
+    def send_entered(self, sender: Address, to: Address, value: Any) -> bool:
+        """Sends what counts as waiting already, if that is counted."""
+        sent, room = False, to._room
+        try:
+            sent = self.carry(MESSAGE if to._kind is None else letter(to._kind(value), MESSAGE), sender, to, value)
+        finally:
+            if room is not None and not sent:
+                room.leave()
+        if room is not None and sent:
+            room.keys[self._number] = None
+            self.look_at(to.pid, room)
+        return sent
+
+    def look_at(self, of: Pid, room: Room) -> None:
+        """One more waits for a process. If that is too many, the oldest is dropped, or the process crashes."""
+        if not room.has_too_many():
+            return
+        seat = self.pids.get(of)
+        if room.bound.name != DROP_OLDEST:
+            self.post(lambda: self.overflow(of))
+        elif seat is not None and seat.aside is not None and seat.aside.lose():
+            self.kept -= 1
+            room.leave()
+        elif room.keys:
+            oldest = next(iter(room.keys))
+            del room.keys[oldest]
+            self.payloads[oldest] = DROPPED
+            room.leave()
+
+    def overflow(self, of: Pid) -> None:
+        """More wait for a process than may: it crashes, unless it has exited."""
+        raise NotImplementedError
 
     def news(self, seat: Seat, make: Callable[[Ref], Event]) -> Ref:
         """Tells a process at once what would have come if its target had exited later. The reference is of no desk."""
@@ -310,11 +346,19 @@ class Sending:
     def call(self, seat: Seat, to: Address, value: Any, limit: Optional[float], call: Call) -> Call:
         """Asks a process in the name of another. Without a limit its end is the client's own."""
         call.client, call.server, desk = seat, to.pid, self.desks[seat.pid.shard]
+        room = to._room
+        if room is not None and not room.enter():
+            self.news(seat, lambda _: Answer(call, None, Unanswered()))
+            return call
         began, until = monotonic(), U64 if limit is None else self._at(limit)
         try:
             kind = REQUEST if to._kind is None else letter(to._kind(value), REQUEST)
             asked = _ask(desk, seat.cx.me._crossing, to._crossing, kind, until)
-        except AskFault as fault:
+        except BaseException as fault:
+            if room is not None:
+                room.leave()
+            if not isinstance(fault, AskFault):
+                raise
             if fault.left_open is not None:
                 self.left_open.add(fault.left_open)
             if fault.code != Code.NOPROC:
@@ -325,12 +369,17 @@ class Sending:
         call.asked_at = self._number = self._number + 1
         request = request_key(desk.number, asked.monitor.number)
         self.payloads[request] = Request(self, call, seat.pid, value)
+        if room is not None:
+            room.keys[request] = None
+            self.look_at(to.pid, room)
         if limit is not None:
             try:
                 call.alarm = self.set_alarm(
                     limit, lambda: self.tell(call, Answer(call, None, CallTimeout(self.blame(began)))))
             except BaseException:  # what was asked goes to nobody
                 del self.payloads[request]
+                if room is not None and room.keys.pop(request, self) is None:
+                    room.leave()
                 self.close(call)
                 raise
         self.touch()

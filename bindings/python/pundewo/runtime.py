@@ -46,9 +46,10 @@ from typing import Any, Callable, Deque, NamedTuple, Optional, TypeVar
 from . import Config
 from ._archive import HistoryFile, Sink
 from ._behaviour import (
-    CRASH, GO_ON, KILLS, OVER, PROCEED, STOP, TIMEOUT, Answer, Behaviour, Call, CallFault, CallTimeout, Down, Event, Exit,
+    CRASH, GO_ON, KILLS, LOST, OVER, PROCEED, STOP, TIMEOUT, Answer, Behaviour, Call, CallFault, CallTimeout, Down, Event, Exit,
     InboxFull, Message, Next, Request, RunOver, ServerDown, SpawnTimeout, Tick, Unanswered, behaviour_of, held_up, seconds,
 )
+from ._bound import Bound
 from ._engine import Engine
 from ._group import Group
 from ._process import Address, Context, Timer
@@ -60,8 +61,8 @@ from ._supervisor import (
 from .values import NORMAL, SHUTDOWN, U8, U64, Pid, Reason, flag, number, of_type, shown
 
 __all__ = [
-    "ANSWER", "BRUTAL_KILL", "CRASH", "FIRST_KIND", "INFINITY", "MESSAGE", "PROCEED", "REQUEST", "TIMEOUT",
-    "WHICH_CHILDREN", "Address", "Answer", "Behaviour", "Call", "CallFault", "CallTimeout", "Child", "Context", "Crash",
+    "ANSWER", "BRUTAL_KILL", "CRASH", "FIRST_KIND", "INFINITY", "LOST", "MESSAGE", "PROCEED", "REQUEST", "TIMEOUT",
+    "WHICH_CHILDREN", "Address", "Answer", "Behaviour", "Bound", "Call", "CallFault", "CallTimeout", "Child", "Context", "Crash",
     "DeleteChild", "Down", "Event", "Exit", "Group", "Halt", "Halted", "HistoryFile", "Holder", "InboxFull", "Mailbox",
     "Message", "Next", "NotEnded", "Report", "Request", "Restart", "RestartChild", "RunOver", "Runtime", "Selection",
     "ServerDown", "Sink", "SpawnTimeout", "StartChild", "Summary", "Supervisor", "TerminateChild", "Tick", "Timer",

@@ -104,8 +104,8 @@ class Only(Domain):
         return list(self.values)
 
     def bad(self, draw: random.Random) -> Iterator[Any]:
-        yield from (7, -7, 2**70, True, 1.5, "crash", "Normal", "", b"normal", ("normal",), object(), str)
-        yield from [value for value in (None, 0) if value not in self.values]
+        yield from (7, -7, 2**70, True, 1.5, "Normal", "", b"normal", ("normal",), object(), str)
+        yield from [value for value in (None, 0, "crash") if value not in self.values]
         yield v.Pid(0, 0, 1)
 
 

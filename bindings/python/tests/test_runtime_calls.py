@@ -153,6 +153,8 @@ CALLS: dict[str, dict[str, dict[str, Domain]]] = {
         "wait": {"limit": MAYBE_SECONDS, "pick": PICK}, "proceed": {}, "stop": {"reason": REASON},
         "only": {"wants": WANTS, "limit": MAYBE_SECONDS, **APART},
     },
+    "Bound": {"": {"name": Only("refuse", "drop-oldest", "crash"), "most": Ints(1, 2**64 - 1)},
+              **{name: {"most": Ints(1, 2**64 - 1)} for name in ("refuse", "drop_oldest", "crash")}},
     "Selection": {"": {"wants": WANTS, **APART, "but": FLAG}, "all_but": {"wants": WANTS, **APART}, "pick": {}},
     "Supervisor": {
         "": {"strategy": STRATEGY, "patience": SECONDS}, "one_for_one": {"patience": SECONDS},
@@ -207,7 +209,7 @@ class Case:
             return made
         at: dict[str, Any] = {
             "Runtime": self.run, "Address": self.child, "Context": self.cx, "Mailbox": self.mailbox, "Next": r.Next,
-            "Selection": r.Selection(1), "HistoryFile": r.HistoryFile,
+            "Selection": r.Selection(1), "Bound": r.Bound, "HistoryFile": r.HistoryFile,
             "Supervisor": r.Supervisor.one_for_one(), "Group": self.group}
         call: Callable[..., Any] = getattr(at[where], name)
         return self.begun(call) if inspect.iscoroutinefunction(call) else call

@@ -3,15 +3,16 @@
 from __future__ import annotations
 
 import asyncio
+import concurrent.futures
 import threading
 import time
 import unittest
-from typing import Any
+from typing import Any, Optional
 
 import pundewo as p
 from pundewo import runtime as r
 
-from behaviours import Doing, Echo, Running, Stubborn, in_asyncio, noted, quiet, until, wait_until
+from behaviours import Doing, Echo, Running, Stubborn, in_asyncio, log, noted, quiet, until, wait_until
 
 
 class Gate(r.Behaviour):
@@ -31,6 +32,221 @@ class Gate(r.Behaviour):
         else:
             self.notes.append(event.value)
         return None
+
+
+class Held(r.Behaviour):
+    """Holds the run up as it begins, and then notes what it is told: LOST, what was sent, and what was asked, as a list."""
+
+    def __init__(self, bound: Optional[r.Bound], only: Any = None) -> None:
+        self.most_waiting, self.only = bound, only
+        self.entered, self.leave, self.notes = threading.Event(), threading.Event(), list[Any]()
+
+    def started(self, cx: r.Context) -> Any:
+        self.entered.set()
+        self.leave.wait(60)
+        return self.only
+
+    def handle(self, cx: r.Context, event: Any) -> Any:
+        if isinstance(event, r.Request):
+            cx.reply(event, len(self.notes))
+            self.notes.append([event.value])
+        else:
+            self.notes.append(event if event is r.LOST else event.value)
+        return self.only if self.notes == [r.LOST] else None
+
+    def ended(self, why: p.Reason) -> None:
+        self.notes.append(why)
+
+
+class Screen(r.Behaviour):
+    """Shows the newest of many pictures."""
+
+    most_waiting = r.Bound.drop_oldest(8)
+
+    def __init__(self) -> None:
+        self.shown = self.lost = 0
+
+    def handle(self, cx: r.Context, event: Any) -> None:
+        if event is r.LOST:
+            self.lost += 1
+        else:
+            self.shown += 1
+
+
+class OfProcesses(unittest.TestCase):
+    """The bound of one process holds for each sender."""
+
+    def held(self, run: r.Runtime, bound: r.Bound, only: Any = None) -> tuple[Held, r.Address]:
+        held = Held(bound, only)
+        address = run.spawn(held)
+        self.assertTrue(held.entered.wait(60))
+        return held, address
+
+    def test_a_screen_shows_the_newest_pictures(self) -> None:
+        screen = Screen()
+        run = r.Runtime()
+        address = run.spawn(screen)
+        for _ in range(1_000):
+            self.assertTrue(address.send(bytes(640)))
+        run.drain()
+        self.assertEqual(run.run(forever=True).crashes, 0)
+        self.assertEqual((screen.shown, screen.lost, run.is_drained()), (8, 992, True))
+
+    def test_one_more_is_refused(self) -> None:
+        with Running(r.Runtime()) as running:
+            held, address = self.held(running.run, r.Bound.refuse(3))
+            self.assertEqual([address.send(number) for number in range(5)], [True, True, True, False, False])
+            with self.assertRaises(r.InboxFull) as caught:
+                address.try_send(5)
+            self.assertEqual(str(caught.exception), f"the message is not sent: the mailbox of {address.pid} is full")
+            asks = concurrent.futures.ThreadPoolExecutor(1).submit(running.run.call, address, "who", 60)
+            wait_until(lambda: running.run.waiting() == 4)
+            held.leave.set()
+            self.assertIsInstance(asks.exception(60), r.Unanswered)
+            wait_until(lambda: len(held.notes) >= 3)
+            self.assertEqual(held.notes[:3], [0, 1, 2])
+            for number in range(100):
+                self.assertTrue(address.try_send(number))
+                wait_until(lambda: held.notes[-1] == number)
+
+    def test_the_oldest_is_dropped(self) -> None:
+        with Running(r.Runtime()) as running:
+            held, address = self.held(running.run, r.Bound.drop_oldest(3))
+            for number in range(10):
+                self.assertTrue(address.send(number))
+            held.leave.set()
+            wait_until(lambda: len(held.notes) == 10)
+            self.assertEqual(held.notes, [r.LOST] * 7 + [7, 8, 9])
+            wait_until(lambda: running.run.waiting() == 0)
+
+    def test_the_oldest_of_what_is_kept_aside_is_dropped(self) -> None:
+        takes = r.Next.only(lambda message: message.value >= 4)
+        with Running(r.Runtime()) as running:
+            held, address = self.held(running.run, r.Bound.drop_oldest(3), takes)
+            held.leave.set()
+            for number in range(3):
+                self.assertTrue(address.send(number))
+            wait_until(lambda: running.run._engine.kept == 3)
+            address.send(3)
+            wait_until(lambda: running.run._engine.kept == 3 and held.notes)
+            self.assertEqual((held.notes, running.run.waiting()), ([r.LOST], 3))
+            address.send(4)
+            wait_until(lambda: len(held.notes) == 5)
+            self.assertEqual(held.notes, [r.LOST, 4, r.LOST, 2, 3])
+
+    def test_a_process_crashes_by_one_more(self) -> None:
+        with Running(r.Runtime()) as running:
+            held, address = self.held(running.run, r.Bound.crash(3))
+            for number in range(3):
+                self.assertTrue(address.send(number))
+            held.leave.set()
+            wait_until(lambda: len(held.notes) == 3)
+            self.assertTrue(address.is_alive())
+            held, address = self.held(running.run, r.Bound.crash(3))
+            log.disabled = True
+            for number in range(4):
+                self.assertTrue(address.send(number))
+            held.leave.set()
+            wait_until(lambda: not address.is_alive())
+            log.disabled = False
+            self.assertEqual((held.notes[-1], running.run.summary().crashes), (r.CRASH, 1))
+            self.assertFalse(address.send(4))
+
+    def test_processes_have_the_same_bounds(self) -> None:
+        told: list[Any] = []
+
+        def handle(cx: r.Context, event: Any) -> Any:
+            if isinstance(event, r.Message):
+                told.append([cx.send(full, number) for number in range(4)])
+                told.append([cx.send(lossy, number) for number in range(4)])
+                cx.call(full, "who")
+            else:
+                told.append(type(event.fault))
+
+        full_held, lossy_held = Held(r.Bound.refuse(2)), Held(r.Bound.drop_oldest(2))
+        full_held.leave.set()
+        lossy_held.leave.set()
+        with Running(r.Runtime(2)) as running:
+            run = running.run
+            full, lossy, sends = run.spawn(full_held, 0), run.spawn(lossy_held, 1), run.spawn(Doing(handle), 0)
+            sends.send("go")
+            wait_until(lambda: len(told) == 3 and len(lossy_held.notes) == 4)
+        self.assertEqual(told, [[True, True, False, False], [True] * 4, r.Unanswered])
+        self.assertEqual((full_held.notes[:2], lossy_held.notes[:4]), ([0, 1], [r.LOST, r.LOST, 2, 3]))
+
+    def test_what_is_asked_counts_too(self) -> None:
+        with Running(r.Runtime()) as running:
+            held, address = self.held(running.run, r.Bound.drop_oldest(2))
+            pool = concurrent.futures.ThreadPoolExecutor(1)
+            asks = pool.submit(running.run.call, address, "who", 60)
+            wait_until(lambda: running.run.waiting())
+            for number in range(2):
+                address.send(number)
+            held.leave.set()
+            self.assertIsInstance(asks.exception(60), r.Unanswered)
+            wait_until(lambda: len(held.notes) == 3)
+            self.assertEqual(held.notes, [r.LOST, 0, 1])
+
+    def test_what_is_postponed_waits_again(self) -> None:
+        told: list[Any] = []
+
+        def handle(cx: r.Context, event: Any) -> Any:
+            told.append(event if event is r.LOST else event.value)
+            if event is not r.LOST and event.value != "last":
+                cx.postpone(event)
+            else:
+                cx.retry()
+
+        cases: tuple[tuple[r.Bound, list[bool], list[Any]], ...] = ((r.Bound.refuse(2), [True, True, False], ["one", "two"]),
+                                   (r.Bound.drop_oldest(2), [True] * 3, ["one", "two", "last", r.LOST, "two"]))
+        for bound, sent, notes in cases:
+            behaviour = Doing(handle)
+            behaviour.most_waiting = bound
+            with Running(r.Runtime()) as running:
+                address = running.run.spawn(behaviour)
+                took = []
+                for count, value in enumerate(("one", "two", "last")):
+                    took.append(address.send(value))
+                    wait_until(lambda: len(told) > count or not took[-1])
+                wait_until(lambda: len(told) == len(notes))
+            self.assertEqual((took, told), (sent, notes))
+            told.clear()
+
+    @quiet
+    def test_bounds_hold_under_load(self) -> None:
+        bounds = [r.Bound.refuse(16), r.Bound.drop_oldest(16), r.Bound.crash(1_000_000)]
+        behaviours = [Held(bound) for bound in bounds]
+        for behaviour in behaviours:
+            behaviour.leave.set()
+        run = r.Runtime(2)
+        sent: list[list[tuple[int, int]]] = [[], [], [], []]
+        with Running(run) as running:
+            addresses = [running.run.spawn(behaviour) for behaviour in behaviours]
+
+            def sends(thread: int) -> None:
+                for number in range(3_000):
+                    for place, address in enumerate(addresses):
+                        if address.send((thread, number)):
+                            sent[thread].append((place, number))
+
+            workers = [threading.Thread(target=sends, args=(number,)) for number in range(4)]
+            for worker in workers:
+                worker.start()
+            for worker in workers:
+                worker.join(60)
+            wait_until(lambda: run.waiting() == 0)
+            for place, behaviour in enumerate(behaviours):
+                taken = [it for it in behaviour.notes if it is not r.LOST]
+                lost = len(behaviour.notes) - len(taken)
+                count = sum(at == place for notes in sent for at, _ in notes)
+                self.assertEqual(len(taken) + lost, count)
+                self.assertEqual(lost > 0 and place != 1, False)
+                for thread in range(4):
+                    numbers = [number for by, number in taken if by == thread]
+                    self.assertEqual(numbers, sorted(set(numbers)))
+                    if place != 1:
+                        self.assertEqual(numbers, [number for at, number in sent[thread] if at == place])
+        self.assertEqual(run.summary().crashes, 0)
 
 
 class Bounds(unittest.TestCase):
