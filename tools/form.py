@@ -23,7 +23,7 @@ from dataclasses import dataclass
 from pathlib import Path
 
 ROOT = Path(__file__).resolve().parent.parent
-BOUNDS = {"words": 0, "functions": 0, "prose": 0, "sentences": 0, "copies": 391, "crates": 57}
+BOUNDS = {"words": 0, "functions": 0, "prose": 0, "sentences": 0, "copies": 354, "crates": 57}
 MOST_LINES = 30
 MOST_LETTERS = 300
 MOST_WORDS = 30
