@@ -2,6 +2,7 @@
 """Whether the pages quote stored outputs as they are.
 
     tools/quotes.py
+    tools/quotes.py --write FILE      puts all lines of FILE, but for its comments, into the blocks that quote it
 
 A line '<!-- quotes FILE -->' stands before a block of code, of any language. FILE is named from the top of the
 repository. Each line of the block is one of the file's, in the order of the file; a line '..' stands for any lines. The
@@ -32,9 +33,25 @@ def first_wrong(quoted: list[str], lines: list[str]) -> str | None:
     return None
 
 
+def pages() -> list[Path]:
+    """The pages that quote."""
+    return [ROOT / "README.md", *sorted(ROOT.glob("docs/*.md")), ROOT / "bench" / "RESULTS.md"]
+
+
+def write(name: str) -> None:
+    """Puts a file's lines into the blocks that quote it."""
+    lines = "".join(f"{it}\n" for it in (ROOT / name).read_text().splitlines() if not it.startswith("#"))
+    for page in pages():
+        text = page.read_text()
+        block = re.compile(rf"(^<!-- quotes {re.escape(name)} -->\n```\w*\n).*?(^```$)", re.M | re.S)
+        page.write_text(block.sub(lambda it: f"{it[1]}{lines}{it[2]}", text))
+
+
 def main() -> int:
+    if len(sys.argv) == 3 and sys.argv[1] == "--write":
+        write(sys.argv[2])
     passed, faults = 0, []
-    for page in [ROOT / "README.md", *sorted(ROOT.glob("docs/*.md"))]:
+    for page in pages():
         text = page.read_text()
         blocks = QUOTED.findall(text)
         if len(blocks) != len(MARKED.findall(text)):
