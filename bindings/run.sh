@@ -56,6 +56,8 @@ done
 if ! $has_tokio; then
     echo "bindings: no tokio: the line server of tasks is not tried (apt-get install librust-tokio-dev)"
 fi
+# (the node of an Erlang cluster is tried where OTP is)
+"$here/erlang/run.sh" --tools
 [ "$mode" != --tools ] || exit 0
 
 "$here/abi.py"
@@ -233,6 +235,9 @@ if $has_tokio; then
     "$here/../.ci/bounded" 120 "$CARGO_TARGET_DIR/debug/pundewo_lines" 100 100
     echo "rust: the line server of tokio passed"
 fi
+
+# A node of an Erlang cluster, with real Erlang nodes, under load and with bad input: histories are legal
+"$here/erlang/run.sh"
 
 # The telephone exchange: lines crash in calls and are started again, each partner hears of it, and its history is legal
 "$here/../.ci/bounded" 120 "$chat/exchange" "$work/exchange.history" 200 2>"$work/panics" || { tail -n 20 "$work/panics"; exit 1; }

@@ -822,3 +822,47 @@ fn a_thread_may_meet_again_before_the_others_have_woken() -> Result<(), Error> {
     assert!(runtime.wait()?.epochs > 100);
     Ok(())
 }
+
+/// It is linked before it has begun, and hears of the exit.
+struct TrapsFromTheFirst(Sender<Reason>);
+
+impl Behaviour for TrapsFromTheFirst {
+    type Message = ();
+
+    fn handle(&mut self, _: &mut Context<'_, ()>, event: Event<()>) -> Next {
+        if let Event::Exit(exit) = event {
+            self.0.send(exit.reason).expect("a test");
+        }
+        Next::DONE
+    }
+
+    fn traps_exits(&self) -> bool {
+        true
+    }
+}
+
+struct LinksAndExits(Sender<Reason>);
+
+impl Behaviour for LinksAndExits {
+    type Message = ();
+
+    fn started(&mut self, cx: &mut Context<'_, ()>) -> Next {
+        let child = cx.spawn(TrapsFromTheFirst(self.0.clone())).expect("a process");
+        cx.link(&child).expect("a link");
+        Next::Stop(Reason::Other(7))
+    }
+
+    fn handle(&mut self, _: &mut Context<'_, ()>, _: Event<()>) -> Next {
+        Next::Wait
+    }
+}
+
+#[test]
+fn a_process_may_trap_exits_from_the_first() -> Result<(), Error> {
+    let (give, told) = channel();
+    let runtime = Runtime::builder().desks(1).start()?;
+    runtime.spawn(LinksAndExits(give))?;
+    assert_eq!(told.recv_timeout(LONG)?, Reason::Other(7));
+    assert_eq!(runtime.wait()?.panics, 0);
+    Ok(())
+}

@@ -75,6 +75,12 @@ pub trait Behaviour: Sized + Send + 'static {
         Bound::None
     }
 
+    /// Whether it traps exits from the first, as if it had called [`Context::trap_exits`] before anybody knew its address. So no
+    /// link with it is made before. It is asked once, as the process is spawned.
+    fn traps_exits(&self) -> bool {
+        false
+    }
+
     /// The process has exited, in whatever way, with this reason: that of [`Next::Stop`], [`PANIC`](super::PANIC), or that
     /// which the exit signal gave that ended it.
     fn ended(self, why: Reason) {

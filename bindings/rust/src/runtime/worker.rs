@@ -452,6 +452,10 @@ impl Worker {
         self.place().admit(address.mailbox.clone());
         self.hub.alive.fetch_add(1, SeqCst);
         self.hub.spawned.fetch_add(1, SeqCst);
+        if behaviour.traps_exits() {
+            let set = self.desk().trap(pid, true).map(drop);
+            let _ = self.noted(set);
+        }
         let process = Process::new(behaviour, address.clone(), parent.pid());
         let place = self.seat(Seat { pid, parent, told: GO_ON, crashed: false, actor: Some(Box::new(process)) });
         if let Parent::Supervisor(_) = parent {

@@ -1,0 +1,252 @@
+//! A cluster of its own for the tests: an `epmd` on a free port, a home with a cookie, and Erlang nodes that end with the test.
+
+#![allow(dead_code, reason = "each test takes some of it")]
+
+use pundewo::runtime::{Behaviour, Context, Event, Handle, Next};
+use pundewo_erlang::{Cookie, Gateway, Incoming, Term};
+use std::fs;
+use std::io::{BufRead, BufReader};
+use std::net::{TcpListener, TcpStream};
+use std::os::unix::fs::PermissionsExt;
+use std::path::{Path, PathBuf};
+use std::process::{Child, ChildStdin, Command, Stdio};
+use std::sync::mpsc::{Receiver, Sender, channel};
+use std::sync::{Mutex, OnceLock};
+use std::time::{Duration, Instant};
+
+pub const LIMIT: Duration = Duration::from_secs(120);
+
+pub struct Cluster {
+    pub home: PathBuf,
+    pub port: u16,
+    // (both end as their input does: with the test)
+    _epmd: Mutex<Child>,
+}
+
+/// The cluster of this program, or `None` if Erlang is not there.
+pub fn cluster() -> Option<&'static Cluster> {
+    static CLUSTER: OnceLock<Option<Cluster>> = OnceLock::new();
+    CLUSTER.get_or_init(begin).as_ref()
+}
+
+fn begin() -> Option<Cluster> {
+    let erl = Command::new("erl").args(["-noshell", "-eval", "halt()."]).status();
+    if !erl.is_ok_and(|status| status.success()) {
+        println!("Erlang is not there: nothing is tried (apt-get install erlang-base)");
+        return None;
+    }
+    let home = std::env::temp_dir().join(format!("pundewo-erlang-{}", std::process::id()));
+    fs::create_dir_all(&home).expect("a folder");
+    write_cookie(&home.join(".erlang.cookie"), &format!("cookie{}", std::process::id()));
+    let sources = Path::new(env!("CARGO_MANIFEST_DIR"));
+    let compiled = Command::new("erlc")
+        .arg("-o")
+        .arg(&home)
+        .args([
+            sources.join("tests/pundewo_peer.erl"),
+            sources.join("tests/pundewo_tests.erl"),
+            sources.join("erl/pundewo.erl"),
+        ])
+        .status();
+    assert!(compiled.expect("erlc").success());
+    let port = free_port();
+    let serves = "epmd -port \"$1\" -address 127.0.0.1 & read -r line; kill $!";
+    let mut shell = Command::new("sh");
+    let epmd = shell.args(["-c", serves, "sh", &port.to_string()]).stdin(Stdio::piped()).spawn().expect("epmd");
+    std::env::set_var("ERL_EPMD_PORT", port.to_string());
+    std::env::set_var("ERL_EPMD_ADDRESS", "127.0.0.1");
+    until("epmd", || TcpStream::connect(("127.0.0.1", port)).is_ok());
+    Some(Cluster { home, port, _epmd: Mutex::new(epmd) })
+}
+
+pub fn write_cookie(path: &Path, text: &str) {
+    fs::write(path, text).expect("a cookie");
+    fs::set_permissions(path, fs::Permissions::from_mode(0o400)).expect("a cookie");
+}
+
+fn free_port() -> u16 {
+    TcpListener::bind("127.0.0.1:0").and_then(|listener| listener.local_addr()).expect("a port").port()
+}
+
+/// Waits until something is so.
+pub fn until(what: &str, mut is_so: impl FnMut() -> bool) {
+    let begun = Instant::now();
+    while !is_so() {
+        assert!(begun.elapsed() < LIMIT, "in {LIMIT:?} there is no {what}");
+        std::thread::sleep(Duration::from_millis(5));
+    }
+}
+
+impl Cluster {
+    pub fn cookie(&self) -> Cookie {
+        Cookie::from_file(self.home.join(".erlang.cookie")).expect("a cookie")
+    }
+
+    /// Starts an Erlang node.
+    pub fn node(&self, alive: &str) -> Node {
+        let name = format!("{alive}@127.0.0.1");
+        let mut command = Command::new("erl");
+        command.args(["-noshell", "-name", &name, "-pa"]).arg(&self.home).args(["-s", "pundewo_peer", "main"]);
+        command.args(["+S", "2:2", "-kernel", "inet_dist_use_interface", "{127,0,0,1}"]);
+        command.env("HOME", &self.home).stdin(Stdio::piped()).stdout(Stdio::piped());
+        let mut child = command.spawn().expect("erl");
+        let mut output = BufReader::new(child.stdout.take().expect("its output"));
+        let mut line = String::new();
+        output.read_line(&mut line).expect("a line");
+        assert_eq!(line, "ready\n");
+        // (what its logger says is read, or it would end)
+        std::thread::spawn(move || std::io::copy(&mut output, &mut std::io::sink()));
+        let input = child.stdin.take();
+        Node { name, child, input }
+    }
+}
+
+/// An Erlang node, which ends as this is dropped.
+pub struct Node {
+    pub name: String,
+    child: Child,
+    input: Option<ChildStdin>,
+}
+
+impl Node {
+    /// Sends its process a signal of Unix.
+    pub fn signal(&self, signal: &str) {
+        let sent = Command::new("kill").args([signal, &self.child.id().to_string()]).status();
+        assert!(sent.expect("kill").success());
+    }
+
+    /// Calls a function of a module there: Erlang's `rpc:call`.
+    pub fn rpc(&self, gateway: &Gateway, module: &str, function: &str, arguments: impl Into<Vec<Term>>) -> Term {
+        let request = [
+            Term::atom("call"),
+            Term::atom(module),
+            Term::atom(function),
+            Term::List(arguments.into()),
+            Term::atom("user"),
+        ];
+        let asked = gateway.ask(("rex", self.name.as_str()), LIMIT, Term::tuple(request));
+        asked.unwrap_or_else(|fault| panic!("{module}:{function}: {fault}"))
+    }
+
+    /// Has it run a case of the peer.
+    pub fn run(&self, gateway: &Gateway, case: &str, arguments: impl Into<Vec<Term>>) -> Term {
+        self.rpc(gateway, "pundewo_peer", "run", [Term::atom(case), Term::List(arguments.into())])
+    }
+
+    /// The same, as Erlang prints it.
+    pub fn text(&self, gateway: &Gateway, case: &str, arguments: impl Into<Vec<Term>>) -> String {
+        self.run(gateway, case, arguments).to_string()
+    }
+
+    /// Spawns a process there that does as it is told.
+    pub fn echo(&self, gateway: &Gateway, name: &str) -> pundewo_erlang::ErlangPid {
+        let pid = self.rpc(gateway, "pundewo_peer", "echo_start", [Term::atom(name)]);
+        pid.as_pid().unwrap_or_else(|| panic!("a pid, and not {pid}")).clone()
+    }
+}
+
+impl Drop for Node {
+    fn drop(&mut self) {
+        self.input = None;
+        let _ = self.child.kill();
+        let _ = self.child.wait();
+    }
+}
+
+/// `{name, Node}`.
+pub fn at(name: &str, gateway: &Gateway) -> Term {
+    Term::tuple([Term::atom(name), Term::atom(gateway.node())])
+}
+
+/// A process that tells a test what it is told, and does what it is told to do: a closure.
+pub struct Puppet(pub Sender<String>);
+
+pub type Deed = Box<dyn FnOnce(&mut Context<'_, ToPuppet>) -> Next + Send>;
+
+pub enum ToPuppet {
+    Term(Term),
+    Do(Deed),
+}
+
+impl Behaviour for Puppet {
+    type Message = ToPuppet;
+
+    fn handle(&mut self, cx: &mut Context<'_, ToPuppet>, event: Event<ToPuppet>) -> Next {
+        let told = match event {
+            Event::Message(ToPuppet::Do(deed)) => return deed(cx),
+            Event::Message(ToPuppet::Term(term)) if term.is_atom("crash") => panic!("it was told to crash"),
+            Event::Message(ToPuppet::Term(term)) => format!("term {term}"),
+            Event::Down(down) => format!("down {}", down.reason),
+            Event::Exit(exit) => format!("exit {}", exit.reason),
+            Event::Answer(answer) => format!("{answer:?}"),
+            _ => "something else".into(),
+        };
+        let _ = self.0.send(told);
+        Next::Wait
+    }
+
+    fn ended(self, why: pundewo::Reason) {
+        let _ = self.0.send(format!("ended {why}"));
+    }
+}
+
+pub struct Puppets {
+    pub address: pundewo::runtime::Address<ToPuppet>,
+    pub told: Receiver<String>,
+}
+
+impl Puppets {
+    pub fn new(run: &Handle) -> Puppets {
+        let (give, told) = channel();
+        Puppets { address: run.spawn(Puppet(give)).expect("a process"), told }
+    }
+
+    /// One whose pid takes terms.
+    pub fn exposed(run: &Handle, gateway: &Gateway) -> (Puppets, Term) {
+        let puppet = Puppets::new(run);
+        let pid = gateway.expose(&puppet.address, |incoming: &mut Incoming| {
+            Ok(pundewo_erlang::Delivery::tell(ToPuppet::Term(incoming.term().clone())))
+        });
+        (puppet, pid.into())
+    }
+
+    /// Has it do something in its handler, and returns what that returns.
+    pub fn does<T: Send + 'static>(&self, work: impl FnOnce(&mut Context<'_, ToPuppet>) -> T + Send + 'static) -> T {
+        let (give, get) = channel();
+        let deed = move |cx: &mut Context<'_, ToPuppet>| {
+            let _ = give.send(work(cx));
+            Next::Wait
+        };
+        assert!(self.address.send(ToPuppet::Do(Box::new(deed))));
+        get.recv_timeout(LIMIT).expect("what it did")
+    }
+
+    /// Has it exit.
+    pub fn stops(&self, reason: pundewo::Reason) {
+        self.address.send(ToPuppet::Do(Box::new(move |_| Next::Stop(reason))));
+    }
+
+    /// What it was told next.
+    pub fn hears(&self) -> String {
+        self.told.recv_timeout(LIMIT).unwrap_or_else(|_| "nothing".into())
+    }
+
+    /// Whether it hears nothing for a while.
+    pub fn is_quiet(&self) -> bool {
+        match self.told.recv_timeout(Duration::from_millis(300)) {
+            Ok(told) => {
+                println!("it was told {told}");
+                false
+            }
+            Err(_) => true,
+        }
+    }
+}
+
+/// Ends a run, some of whose processes may trap exits, and stay until they are killed.
+pub fn ends(run: pundewo::runtime::Runtime) {
+    match run.stop_within(Duration::from_millis(50)) {
+        Ok(_) | Err(pundewo::runtime::StopFault::WouldNotEnd { .. }) => {}
+        Err(fault) => panic!("{fault}"),
+    }
+}
