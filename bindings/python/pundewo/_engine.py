@@ -352,7 +352,9 @@ class Engine(Supervising):
         return address
 
     def take_in(self, pid: Pid, tag: int, behaviour: Behaviour, parent: Optional[Pid], obeys: Optional[Pid] = None) -> Seat:
-        room = None if behaviour.most_waiting is None else Room(behaviour.most_waiting)
+        # (what a supervisor is sent goes to a process of the run)
+        bound = None if behaviour._ends_children else behaviour.most_waiting
+        room = None if bound is None else Room(bound)
         seat = Seat(self, Address(pid, self, type(behaviour), room), tag, behaviour, parent)
         self.seats[tag] = self.pids[pid] = seat
         if behaviour._ends_children and isinstance(behaviour, Supervisor):

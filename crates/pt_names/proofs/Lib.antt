@@ -2,3 +2,4 @@
 pub mod Sound
 pub mod Naming
 pub mod Grouped
+pub mod Sending

@@ -5,3 +5,4 @@ pub mod Registering
 pub mod Past
 pub mod Groups
 pub mod Grouping
+pub mod GroupRegistering

@@ -12,8 +12,12 @@
 //! [`Groups`] are such a table of groups, each a number: [`Group`]. A process may be in many groups, and several times in
 //! one. It is in a group until it has left as often as it joined, or until [`Groups::forget`] is called for its exit.
 //!
+//! A [`GroupRegistry`] is groups with a monitor of each process that is in one, for a behaviour, as a [`Registry`] is of
+//! names. It sends a message to each member of a group.
+//!
 //! Tests: `checks/tried/test_calls/names.rt.txt`, `checks/tried/test_calls/registry.rt.txt`,
-//! `checks/tried/test_calls/groups.rt.txt` and `crates/test_calls/src/layers/names.rt`.
+//! `checks/tried/test_calls/groups.rt.txt`, `checks/tried/test_calls/group_registry.rt.txt`,
+//! `crates/test_calls/src/layers/names.rt` and `crates/test_calls/src/on_a_desk.rt`.
 //!
 //! # What is proved
 //!
@@ -43,19 +47,29 @@
 //!   no other. (`LeavesAll`)
 //! - **Groups that fail.** If `join` fails, nothing has changed. A process that is in the group needs no memory to join it
 //!   again. (`JoinsGroup`)
+//! - **Monitored in groups.** `GroupRegistry::join` makes the one monitor of a process as it joins its first group.
+//!   `leave` cancels it with the last place, or fails, and the process stays. If a call fails, no group has changed.
+//!   (`JoinsWatched`, `LeavesWatched`)
+//! - **Out by a `DOWN`.** The `DOWN` of its monitor takes a process out of all its groups. No other item takes one out.
+//!   (`HearsGroups`)
+//! - **Sent to all.** `send_all` sends the message once to each member of the group, and skips those that are seen to have
+//!   exited. It stops at any other failure, and returns it with the number of members before. (`SendsAll`)
 #![tactic(auto)]
 
 mod group;
+mod group_registry;
 mod groups;
 mod laws;
 mod name;
 mod names;
+mod not_joined;
 mod places;
 mod registry;
 mod unregistered;
 mod watched;
 
 pub use group::{Group, JoinError, Left};
+pub use group_registry::{GroupError, GroupRegistry, Sent};
 pub use groups::Groups;
 pub use laws::names_keep_their_monitors;
 pub use name::{MAX_LETTERS, Name, names_tell_texts_apart};

@@ -7,6 +7,7 @@ use crate::compared::same;
 use crate::upheld::{Listener, never_stops};
 use pt_behaviour::{Next, link, send, unlink};
 use pt_crew::Crew;
+use pt_names::{Group, GroupRegistry, Sent};
 use pt_node::{Body, Config, Desk, FreeGate, Item, Node, Pick, Takes, Work, open, take_each};
 use std::alloc::Global;
 use std::process::Abort;
@@ -25,6 +26,7 @@ enum Play {
     Links,
     Items,
     Listener,
+    Groups,
 }
 
 /// Runs on a new node, and gathers it.
@@ -52,6 +54,7 @@ fn on_desk(rt: &impl Abort, alloc: Global, desk: &mut Desk, play: Play)
         Play::Links => link_to_itself(rt, desk),
         Play::Items => take(rt, desk),
         Play::Listener => listen(rt, alloc, desk),
+        Play::Groups => join_and_leave(rt, alloc, desk),
     }
 }
 
@@ -127,6 +130,26 @@ fn hears(rt: &impl Abort, crew: &mut Crew<Listener>, desk: &mut Desk)
     same(rt, heard, Some(1));
 }
 
+/// A process joins a group, gets what is sent to its members, and leaves.
+fn join_and_leave(rt: &impl Abort, alloc: Global, desk: &mut Desk)
+    ensures { IsStill desk.old desk.new }
+{
+    let keeper = desk.spawn().expect(rt, "memory");
+    let member = desk.spawn().expect(rt, "memory");
+    let mut registry = GroupRegistry::new(alloc, keeper);
+    let lines = Group(1);
+    same(rt, registry.join(desk, lines, member), Ok(()));
+    same(rt, registry.groups().len(lines), 1);
+    let sent = Sent {
+        sent: 1,
+        exited: 0,
+        stopped: None,
+    };
+    same(rt, registry.send_all(desk, keeper, lines, HELLO), sent);
+    same(rt, registry.hear(Item::User(keeper, HELLO)), None);
+    same(rt, registry.leave(desk, lines, member), Ok(true));
+}
+
 #[test]
 fn items_are_taken_one_after_the_other(rt: HostRuntime) {
     played(&rt, rt.alloc(), Play::Items);
@@ -140,4 +163,9 @@ fn a_listener_never_asks_to_stop(rt: HostRuntime) {
 #[test]
 fn a_process_is_linked_with_itself(rt: HostRuntime) {
     played(&rt, rt.alloc(), Play::Links);
+}
+
+#[test]
+fn a_process_joins_a_group_and_leaves(rt: HostRuntime) {
+    played(&rt, rt.alloc(), Play::Groups);
 }
