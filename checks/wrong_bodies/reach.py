@@ -13,7 +13,7 @@ from __future__ import annotations
 import hashlib
 import re
 from collections.abc import Iterable, Iterator
-from dataclasses import dataclass
+from dataclasses import dataclass, replace
 from functools import cache, cached_property
 from pathlib import Path
 
@@ -31,7 +31,7 @@ class Part:
     """A part of a crate: the names by which others reach it, and its text without comments.
 
     `words` are the names in the text that may be of a part, and `lemmas` those that may be of a lemma. A local part is reached
-    from its own crate alone.
+    from its own crate alone. A function is reached from bodies alone, and one of an `impl` if one of its `owners` is known there.
     """
 
     names: frozenset[str]
@@ -40,6 +40,8 @@ class Part:
     lemmas: frozenset[str]
     local: bool = False
     is_lemma: bool = False
+    is_function: bool = False
+    owners: frozenset[str] = frozenset()
 
 
 class File:
@@ -130,10 +132,26 @@ def parts_of_source(text: str, module: str) -> list[Part]:
     lines = text.split("\n")
     file = File(text, "//")
     functions = deciding.functions_of(text, module)
-    parts = [file.part([it.path.split("::")[-1]], split(header_of(lines, it), "//")[0], is_local(lines[it.first])) for it in functions]
+    parts = [of_function(file, lines, it) for it in functions]
     within = {at for it in functions for at in range(begin_of(lines, it), it.last + 1)}
     rest = split("\n".join("" if at in within else line for at, line in enumerate(lines)), "//")[0]
     return parts + [file.part(names_declared(it), it) for it in blocks_of(rest)] + file.renamed
+
+
+def of_function(file: File, lines: list[str], function: deciding.Function) -> Part:
+    """The part of a function: what its callers read of it."""
+    header = split(header_of(lines, function), "//")[0]
+    part = file.part([function.path.split("::")[-1]], header, is_local(lines[function.first]))
+    return replace(part, is_function=True, owners=owners_of(lines, function.first))
+
+
+def owners_of(lines: list[str], at: int) -> frozenset[str]:
+    """The names in the line of the `impl` or `trait` that a function is in; none if it is in none."""
+    if not lines[at].startswith(" "):
+        return frozenset()
+    above = next((it for it in range(at, -1, -1) if re.match(r"(unsafe )?impl\b|(pub(\(\w+\))? )?trait ", lines[it])), at)
+    head = "\n".join(lines[above:at]).partition("{")[0]
+    return frozenset(it for it in words_of(head) if it[0].isupper())
 
 
 def is_local(line: str) -> bool:
@@ -253,21 +271,39 @@ class Reach:
         """What each part reaches, itself included: a number with a bit for each part."""
         return closures_of([self.reached_by([self.parts[at]], crate) for crate, own in self.of_crate.items() for at in own])
 
-    def reached_by(self, parts: Iterable[Part], crate: str) -> list[int]:
-        """The parts that these parts of a crate name."""
+    def reached_by(self, parts: Iterable[Part], crate: str, types: frozenset[str] | None = None) -> list[int]:
+        """The parts that these parts of a crate name; functions if the types are given that are known there."""
         known = [self.named[crate], *(self.offered[it] for it in self.visible(crate) if it != crate)]
-        return [at for it in parts for word in it.words | it.lemmas for names in known for at in names.get(word, ()) if self.may_name(it, word, at)]
+        return [at for it in parts for word in it.words | it.lemmas for names in known for at in names.get(word, ()) if self.may_name(it, word, at, types)]
 
-    def may_name(self, part: Part, word: str, at: int) -> bool:
+    def may_name(self, part: Part, word: str, at: int, types: frozenset[str] | None) -> bool:
         """Whether this word of a part may mean the part at this place."""
-        return word in (part.lemmas if self.parts[at].is_lemma else part.words)
+        named = self.parts[at]
+        if named.is_function and (types is None or named.owners and not named.owners & types):
+            return False
+        return word in (part.lemmas if named.is_lemma else part.words)
+
+    @cache
+    def types_of(self, crate: str) -> frozenset[str]:
+        """The types that values in the bodies of a crate may have: those that it names, and those in what it calls and in fields."""
+        bodies = self.bodies_of(crate)[1].values()
+        words = frozenset(word for it in [*bodies, *(self.parts[at] for at in self.of_crate[crate])] for word in it.words)
+        parts = [self.parts[at] for it in self.visible(crate) for at in self.of_crate[it] if self.parts[at].names & words or not self.parts[at].is_function]
+        found = frozenset(it for it in words if it[0].isupper())
+        while more := frozenset(word for it in parts if self.shows(it, found) for word in it.words if word[0].isupper()) - found:
+            found |= more
+        return found
+
+    def shows(self, part: Part, types: frozenset[str]) -> bool:
+        """Whether these types lead to those that a part names."""
+        return not part.owners or bool(part.owners & types) if part.is_function else bool(part.names & types) and not part.is_lemma
 
     def checksum(self, edit: deciding.Edit) -> str:
         """A checksum of the functions that an edit changes, with the answers to their goals and all that they reach."""
         own = self.read_of(edit)
         new = " ".join(new for _, _, new in edit.pairs)
         bits = 0
-        for at in self.reached_by([*own, Part(frozenset(), new, words_of(new), frozenset())], edit.crate):
+        for at in self.reached_by([*own, Part(frozenset(), new, words_of(new), frozenset())], edit.crate, self.types_of(edit.crate)):
             bits |= self.closures[at]
         found = hashlib.sha256("\0".join(it.text for it in own).encode())
         for digest in sorted(self.digests[at] for at in set_bits(bits)):

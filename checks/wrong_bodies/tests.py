@@ -293,6 +293,7 @@ class Reached(unittest.TestCase):
             ("low/proofs/Adding.antt", "added = refl", "added = sym refl"),
             ("low/proofs/Adding.antt", "  pub added", "  two : Other\n  two = refl\n\n  pub added"),
             ("low/src/lib.rt", "/// A counter.", "fn two(a: u8) {}\n\npub(crate) fn add_two() {}\n\n/// A counter."),
+            ("low/src/lib.rt", "/// A counter.", "impl Other {\n    pub fn add(&self) -> Other {}\n}\n\n/// A counter."),
         ):
             self.assertEqual(self.checksum(), self.checksum(file, old, new), f"{file}: {new}")
 
