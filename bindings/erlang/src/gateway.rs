@@ -796,7 +796,7 @@ impl Inner {
 
     /// A node has connected. Another connection with it ends first.
     fn joined(self: &Arc<Inner>, node: &Arc<str>, stream: TcpStream) {
-        let until = Instant::now() + PATIENCE;
+        let (until, mut crossed) = (Instant::now() + PATIENCE, None);
         while *node != self.node && !self.has_left.load(SeqCst) && Instant::now() < until {
             let mut connections = locked(&self.connections);
             let is_new = !connections.contains_key(node);
@@ -806,11 +806,16 @@ impl Inner {
             let entry = connections.entry(node.clone());
             let connection = entry.or_insert_with(|| Connection::new(self, node.clone())).clone();
             drop(connections);
+            // (that of this node stays, if it is made)
             if self.node > *node && connection.is_trying() {
-                // (that of this node stays, if it is made)
+                crossed = Some(connection);
                 thread::sleep(LOOK);
                 continue;
             }
+            if crossed.is_some_and(|crossed| Arc::ptr_eq(&crossed, &connection)) && connection.wait(Duration::ZERO) {
+                break;
+            }
+            crossed = None;
             let Ok(handle) = stream.try_clone() else { break };
             if connection.attach(handle) {
                 return;

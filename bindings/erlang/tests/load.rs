@@ -204,7 +204,7 @@ fn nothing_arrives_twice_or_out_of_order_while_connections_are_cut() {
         if total() != last.0 {
             last = (total(), Instant::now());
         }
-        last.1.elapsed() > Duration::from_millis(700)
+        last.1.elapsed() > Duration::from_secs(2)
     });
     let here = sinks.iter().map(|said| *said.lock().expect("counts"));
     let there = nodes.iter().map(|node| sink_there(node, &runs[0].1, "sink"));
@@ -231,7 +231,10 @@ fn nothing_arrives_twice_or_out_of_order_while_connections_are_cut() {
         let number = |number: u64| [Term::atom("number"), Term::from(99), Term::from(number), Term::from("")];
         let terms = Term::list((1..=10).map(|it| Term::tuple(number(it))));
         node.run(gateway, "send_name", [Term::atom("sink"), Term::atom(gateway.node()), terms]);
-        until("last messages", || counts() == (before.0 + 10, before.1 + 10));
+        until("last messages", || {
+            let now = counts();
+            now.0 >= before.0 + 10 && now.1 >= before.1 + 10
+        });
     }
     runs.into_iter().for_each(|(run, _)| _ = run.stop_within(LIMIT).expect("an end"));
 }
