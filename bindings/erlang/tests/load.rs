@@ -28,7 +28,7 @@ fn times() -> u64 {
 fn started(cluster: &Cluster, name: &str) -> (Runtime, Gateway) {
     let folder = env::var_os("PUNDEWO_ERLANG_HISTORIES").map_or(cluster.home.clone(), PathBuf::from);
     let history = HistoryFile::create(folder.join(format!("{name}.history"))).expect("a file");
-    let builder = Runtime::builder().desks(2).slots(4_096).lane(1_024).archive(history);
+    let builder = Runtime::builder().desks(2).slots(4_096).lane(1_024).going_on_every(20_000).archive(history);
     let run = builder.start().expect("a run");
     let builder = Gateway::builder(&run).proxies(2_048);
     let gateway = builder.join(&format!("{name}@127.0.0.1"), &cluster.cookie()).expect("a node");
