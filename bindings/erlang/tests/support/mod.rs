@@ -19,7 +19,7 @@ pub const LIMIT: Duration = Duration::from_secs(120);
 pub struct Cluster {
     pub home: PathBuf,
     pub port: u16,
-    // (both end as their input does: with the test)
+    // (it ends as its input does, with the test, and removes the home)
     _epmd: Mutex<Child>,
 }
 
@@ -50,9 +50,10 @@ fn begin() -> Option<Cluster> {
         .status();
     assert!(compiled.expect("erlc").success());
     let port = free_port();
-    let serves = "epmd -port \"$1\" -address 127.0.0.1 & read -r line; kill $!";
+    let serves = "epmd -port \"$1\" -address 127.0.0.1 & read -r line; kill $!; rm -rf \"$2\"";
     let mut shell = Command::new("sh");
-    let epmd = shell.args(["-c", serves, "sh", &port.to_string()]).stdin(Stdio::piped()).spawn().expect("epmd");
+    shell.args(["-c", serves, "sh", &port.to_string()]).arg(&home);
+    let epmd = shell.stdin(Stdio::piped()).spawn().expect("epmd");
     std::env::set_var("ERL_EPMD_PORT", port.to_string());
     std::env::set_var("ERL_EPMD_ADDRESS", "127.0.0.1");
     until("epmd", || TcpStream::connect(("127.0.0.1", port)).is_ok());
