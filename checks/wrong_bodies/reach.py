@@ -6,7 +6,9 @@ refused stays refused as long as all of that stays as it is. So a new call or le
 another function leave its verdict as it was.
 
 The texts are split into parts: a function without its body, a type, an `impl` block without its functions, or a definition
-or lemma of antt. Names are matched as words, whatever they mean at their place, so too much is reached rather than too little.
+or lemma of antt. A name of a file of antt is defined there or imported. In a source file a name may be that of a type or a
+definition, and in a body that of a function, whose `impl` is of a type that is known there. Its tactics name lemmas. If a name
+may mean several parts, all of them are reached.
 """
 from __future__ import annotations
 
