@@ -17,7 +17,7 @@ use Rattle.pt_workers.specs.declared.stillness.Rested.{Rested}
 use Rattle.pt_node.specs.Node.{CallsAt, CallsTo, Inside, TurnsAll, TurnsAt}
 use Rattle.pt_workers.specs.Stillness.{AreStill, RunsRounds, StoppedAt}
 use Rattle.pt_lines.specs.declared.call.Act.{Act}
-use Rattle.pt_answers.specs.declared.answer.Answer.{Answer}
+use Rattle.pt_session.specs.declared.answer.Answer.{Answer}
 
 -- the answer is of this kind, and what it holds is so
 abbrev pub IfMade : Answer → (Result Pid NodeFault → Type 0) → Type 0

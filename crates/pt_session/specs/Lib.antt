@@ -1,3 +1,4 @@
+pub mod Text
 pub mod Acting
 pub mod Looking
 pub mod LookingBack

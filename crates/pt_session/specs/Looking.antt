@@ -22,7 +22,7 @@ use Rattle.pt_signal.specs.declared.letter.LeftOver.{LeftOver}
 use Rattle.pt_node.specs.Node.{ReadsAt}
 use Rattle.pt_workers.specs.Stillness.{count_events}
 use Rattle.pt_lines.specs.declared.call.Look.{Look}
-use Rattle.pt_answers.specs.declared.answer.Answer.{Answer}
+use Rattle.pt_session.specs.declared.answer.Answer.{Answer}
 
 -- the answer is of this kind, and what it holds is so
 abbrev pub IfNumber : Option Answer → (Option ℕ → Type 0) → Type 0

@@ -16,7 +16,7 @@ use Rattle.pt_gathered.specs.Gathered.{GatheredState, begins, journals}
 use Rattle.pt_gathered.specs.LeftOvers.{all_left}
 use Rattle.pt_gathered.specs.Quiet.{QuietState}
 use Rattle.pt_lines.specs.declared.call.Look.{Look}
-use Rattle.pt_answers.specs.declared.answer.Answer.{Answer}
+use Rattle.pt_session.specs.declared.answer.Answer.{Answer}
 use Rattle.pt_session.specs.Looking.{IfNumber, IfEvent, IfEvents, IfLetters, IfPids, IfAccount, IfReason, IfTrue, IfIds}
 use Rattle.pt_session.specs.Looking.{IfItems, IsNotNow, event_in}
 use Rattle.pt_session.specs.Stepping.{without_stamps}

@@ -13,7 +13,7 @@ use Rattle.pt_lines.specs.declared.names.Value.{Value}
 use Rattle.pt_lines.specs.declared.mistake.Mistake.{Mistake}
 use Rattle.pt_lines.specs.declared.call.Call.{Call}
 use Rattle.pt_lines.specs.declared.call.Look.{Look}
-use Rattle.pt_answers.specs.declared.answer.Answer.{Answer}
+use Rattle.pt_session.specs.declared.answer.Answer.{Answer}
 use Rattle.pt_session.specs.declared.phase.Phase.{Phase}
 use Rattle.pt_session.specs.declared.complaint.Complaint.{Complaint}
 use Rattle.pt_session.specs.declared.complaint.State.{State}
@@ -23,7 +23,7 @@ use Rattle.pt_session.specs.Acting.{DoesAct}
 use Rattle.pt_session.specs.Looking.{LooksAtNode, IsNotNow}
 use Rattle.pt_session.specs.LookingBack.{LooksAtGathered, LooksAtQuiet, IfTold}
 use Rattle.pt_session.specs.Stepping.{IfRunning, OpensPhase, GathersPhase, SettlesPhase, ResumesPhase}
-use Rattle.pt_answers.specs.Text.{answer_text}
+use Rattle.pt_session.specs.Text.{answer_text}
 
 -- what a session has
 pub record SessionState : Type 0 where

@@ -15,7 +15,7 @@ use Rattle.pt_workers.specs.Desks.{desk_kept}
 use Rattle.pt_node.specs.Gathering.{Gathers, HasJournalsOf}
 use Rattle.pt_node.specs.Node.{OpensNode}
 use Rattle.pt_node.specs.Resuming.{Resumes}
-use Rattle.pt_answers.specs.declared.answer.Answer.{Answer}
+use Rattle.pt_session.specs.declared.answer.Answer.{Answer}
 use Rattle.pt_session.specs.declared.phase.Phase.{Phase}
 
 -- events without their stamps and desks

@@ -2,7 +2,7 @@
 
 ghost use Rattle.pt_session.specs.Acting.{DoesAct};
 
-use pt_answers::Answer;
+use crate::answer::Answer;
 use pt_lines::Act;
 use pt_node::Node;
 

@@ -16,24 +16,29 @@
 //! # What is proved
 //!
 //! - **Answers.** Each call that a line asks for is the node's call, and the text kept is that of its answer. (`hear`)
+//! - **Texts.** The text of each answer is the one that the definitions give. A value has the text that it has everywhere
+//!   else: in histories, in scripts, and in the bindings. (`text_of`)
 //! - **Calls out of place.** A call that the node's state does not allow changes nothing.
 //! - **Expectations.** An expectation passes exactly if the next line of the answer is its words.
 //! - **Runs.** A run that reached its end wrote the answers of its lines, in order. (`run`)
 #![tactic(auto)]
 
 mod acting;
+mod answer;
 mod complaint;
 mod expecting;
 mod looking;
 mod looking_back;
+mod parts;
 mod phase;
 mod running;
 mod session;
 mod stepping;
 mod telling;
+mod text;
 
+pub use answer::Answer;
 pub use complaint::{Complaint, State};
 pub use phase::Phase;
-pub use pt_answers::Answer;
 pub use running::{Fault, PROMPT, run};
 pub use session::{Heard, Session, answer_of, begin, hear, is_comparing, next_line};

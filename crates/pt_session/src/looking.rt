@@ -6,10 +6,10 @@ ghost use Rattle.pt_shard.specs.Known.{knows};
 ghost use Rattle.pt_shard.specs.Outbox.{count_pending};
 ghost use Rattle.pt_node.specs.Node.{ReadsAt};
 ghost use Rattle.pt_workers.specs.Stillness.{count_events};
-ghost use Rattle.pt_answers.specs.declared.answer.Answer.TheVariants as answer;
+ghost use Rattle.pt_session.specs.declared.answer.Answer.TheVariants as answer;
 ghost use Rattle.pt_session.specs.Looking as spec;
 
-use pt_answers::Answer;
+use crate::answer::Answer;
 use pt_events::Stamped;
 use pt_lines::Look;
 use pt_node::Node;

@@ -6,9 +6,9 @@ ghost use Rattle.pt_session.specs.Looking.{IfItems};
 ghost use Rattle.pt_session.specs.LookingBack as spec;
 ghost use Rattle.pt_session.specs.Stepping.{without_stamps};
 
+use crate::answer::Answer;
 use crate::looking::{find_event, items};
 use pt_accounts::Account;
-use pt_answers::Answer;
 use pt_events::{Event, Stamped};
 use pt_gathered::{Gathered, Quiet};
 use pt_judge::{replay, replay_from};

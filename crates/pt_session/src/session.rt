@@ -11,13 +11,14 @@ ghost use Rattle.pt_session.specs.declared.complaint.Complaint.{Complaint};
 ghost use Rattle.pt_session.specs.declared.phase.Phase.{Phase};
 
 use crate::acting::act;
+use crate::answer::Answer;
 use crate::complaint::{Complaint, State};
 use crate::expecting::line_at;
 use crate::looking::look_at_node;
 use crate::looking_back::{look_at_gathered, look_at_quiet};
 use crate::phase::Phase;
 use crate::stepping::{gather, open, resume, settle};
-use pt_answers::{Answer, help_text, text_of};
+use crate::text::{help_text, text_of};
 use pt_events::Event;
 use pt_lines::{Act, Call, Command, Look, Names, Value, Word, command_of, joined, words_of};
 use pt_shard::Config;

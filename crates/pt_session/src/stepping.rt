@@ -4,9 +4,9 @@ ghost use Rattle.std.specs.Prelude.{◌≡◌, IfOk, IfSome, length};
 ghost use Rattle.pt_gathered.specs.LeftOvers.{all_left};
 ghost use Rattle.pt_session.specs.Stepping as spec;
 
+use crate::answer::Answer;
 use crate::looking_back::events_of;
 use crate::phase::Phase;
-use pt_answers::Answer;
 use pt_events::Event;
 use pt_gathered::{Gathered, Quiet};
 use pt_node::Node;

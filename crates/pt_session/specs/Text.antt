@@ -23,7 +23,7 @@ use Rattle.pt_signal.specs.declared.letter.LeftOver.{LeftOver}
 use Rattle.pt_node.specs.declared.node_fault.NodeFault.{NodeFault}
 use Rattle.pt_node.specs.declared.node_fault.NodeFault.TheVariants as node_fault
 use Rattle.pt_workers.specs.declared.stillness.Stopped.{Stopped}
-use Rattle.pt_answers.specs.declared.answer.Answer.{Answer}
+use Rattle.pt_session.specs.declared.answer.Answer.{Answer}
 
 -- a text as a line
 abbrev pub text_line : List ℕ → List ℕ

@@ -3,7 +3,7 @@
 ghost use Rattle.std.specs.Prelude.{◌≡◌, ◌++◌, codes, IfOk, OnOk, string_bytes};
 ghost use Rattle.pt_signal.specs.Text as signal_text;
 ghost use Rattle.pt_events.specs.Text.{stamped_text};
-ghost use Rattle.pt_answers.specs.Text as spec;
+ghost use Rattle.pt_session.specs.Text as spec;
 ghost use Rattle.pt_signal.specs.Text.{true_or_false_text};
 
 use crate::answer::Answer;

@@ -3,7 +3,7 @@
 #![tactic(auto, unfolding(crate::specs::Text::turns_text, crate::specs::Text::then_text, crate::specs::Text::count_text, crate::specs::Text::stopped_text, crate::specs::Text::counts_text, crate::specs::Text::cause_line))]
 
 ghost use Rattle.std.specs.Prelude.{◌≡◌};
-ghost use Rattle.pt_answers.specs.Text.{stop_word};
+ghost use Rattle.pt_session.specs.Text.{stop_word};
 
 use pt_judge::Cause;
 use pt_node::Stopped;
@@ -28,7 +28,7 @@ pub(crate) struct Turns {
 
 impl fmt::Display for Turns {
     ghost use Rattle.std.specs.Prelude.{Some};
-    ghost use Rattle.pt_answers.specs.Text.{turns_text};
+    ghost use Rattle.pt_session.specs.Text.{turns_text};
 
     ghost output = { λ t. Some (turns_text t.posted t.handled) };
 
@@ -44,7 +44,7 @@ pub(crate) struct Then(pub(crate) Stop);
 
 impl fmt::Display for Then {
     ghost use Rattle.std.specs.Prelude.{Some};
-    ghost use Rattle.pt_answers.specs.Text.{then_text};
+    ghost use Rattle.pt_session.specs.Text.{then_text};
 
     ghost output = { λ t. Some (then_text t.0) };
 
@@ -60,7 +60,7 @@ pub(crate) struct Count(pub(crate) u64);
 
 impl fmt::Display for Count {
     ghost use Rattle.std.specs.Prelude.{Some};
-    ghost use Rattle.pt_answers.specs.Text.{count_text};
+    ghost use Rattle.pt_session.specs.Text.{count_text};
 
     ghost output = { λ c. Some (count_text c.0) };
 
@@ -76,7 +76,7 @@ pub(crate) struct ThenAt(pub(crate) Stopped);
 
 impl fmt::Display for ThenAt {
     ghost use Rattle.std.specs.Prelude.{Some};
-    ghost use Rattle.pt_answers.specs.Text.{stopped_text};
+    ghost use Rattle.pt_session.specs.Text.{stopped_text};
 
     ghost output = { λ t. Some (stopped_text t.0) };
 
@@ -97,7 +97,7 @@ pub(crate) struct Counts {
 
 impl fmt::Display for Counts {
     ghost use Rattle.std.specs.Prelude.{Some};
-    ghost use Rattle.pt_answers.specs.Text.{counts_text};
+    ghost use Rattle.pt_session.specs.Text.{counts_text};
 
     ghost output = { λ c. Some (counts_text c.arrived c.taken c.waiting) };
 
@@ -120,7 +120,7 @@ pub(crate) struct Contradiction {
 
 impl fmt::Display for Contradiction {
     ghost use Rattle.std.specs.Prelude.{Some};
-    ghost use Rattle.pt_answers.specs.Text.{cause_line};
+    ghost use Rattle.pt_session.specs.Text.{cause_line};
 
     ghost output = { λ c. Some (cause_line c.place c.cause) };
 
