@@ -120,7 +120,7 @@ by_the_page() { # SED-SCRIPT
 mkdir -p "$work/page"
 ln -s "$here" "$work/page/bindings"
 by_the_page '' >"$work/printed"
-for example in about asking bad_codes crew crew_load crew_supervisors layout losses no_memory refused refused_supervisors \
+for example in about asking bad_codes crew crew_load crew_supervisors elsewhere layout losses no_memory refused refused_supervisors \
     refused_tools resumed ring supervisor tools; do
     by_the_page "/^\.\//d; s/ping_pong/$example/g" >"$work/printed"
     [ -x "$work/page/$example" ] || { echo "bindings: the lines of docs/EMBEDDING.md do not build $example"; exit 1; }
@@ -136,6 +136,7 @@ build bad_codes
 build crew
 build crew_load
 build crew_supervisors
+build elsewhere
 build layout
 build rows
 build supervisor
@@ -151,6 +152,7 @@ build refused_tools
 "$work/layout"
 "$work/bad_codes"
 "$work/crew_load"
+"$work/elsewhere"
 "$work/asking" | diff "$here/c/asking.out" -
 "$work/crew" | diff "$here/c/crew.out" -
 "$work/crew_supervisors" | diff "$here/c/crew_supervisors.out" -

@@ -34,7 +34,7 @@ QUESTIONS = (
     ("A node resumes with empty journals", ("pt_node", "pt_epochs", "pt_pauses")),
     ("A handler gets each item, and no wake-up is lost", ("pt_crew", "pt_behaviour", "pt_resting")),
     ("A call is answered, or ends by a `DOWN` or a deadline", ("pt_pending", "pt_c_tools")),
-    ("A supervisor starts its children again", ("pt_supervisor", "pt_pauses", "pt_scheduler_laws")),
+    ("A supervisor starts its children again", ("pt_children", "pt_supervisor", "pt_pauses", "pt_scheduler_laws")),
     ("A timer is never early; a name leads to its process", ("pt_timers", "pt_names")),
     ("From C, Rust or Python: a desk and its calls", ("pt_c", "pt_c_desks", "pt_c_values")),
     ("From C, Rust or Python: processes that run code", ("pt_scheduler", "pt_c_crews", "pt_c_tools")),

@@ -98,7 +98,7 @@ static void supervisors(void) {
     SAMPLE(pt_supervisor_spec, s, pt_about_supervisor_spec);
     NEXT(s.strategy); TRUE(s.timed); TRUE(s.has_parent); pid(s.parent); NEXT(s.most); NEXT(s.span);
     SAMPLE(pt_child_spec, c, pt_about_child_spec);
-    NEXT(c.tag); NEXT(c.restart); NEXT(c.shutdown); NEXT(c.time);
+    NEXT(c.tag); NEXT(c.restart); NEXT(c.shutdown); NEXT(c.time); TRUE(c.elsewhere);
     SAMPLE(pt_child, d, pt_about_child);
     TRUE(d.has_pid); TRUE(d.wanted); pid(d.pid); NEXT(d.restart); NEXT(d.shutdown); NEXT(d.time);
     SAMPLE(pt_child_counts, k, pt_about_child_counts);

@@ -381,6 +381,7 @@ typedef struct pt_child_spec {
     uint32_t restart;  /* a pt_restart_code */
     uint32_t shutdown; /* a pt_shutdown_code */
     uint64_t time;     /* for PT_SHUTDOWN_AFTER (pt_crew_set_time) */
+    bool elsewhere;    /* whether the program starts it, on another desk (pt_crew_child_to_start) */
 } pt_child_spec;
 
 /* A child of a supervisor, at its place. */
@@ -757,6 +758,24 @@ uint32_t pt_crew_terminate_child(pt_crew *crew, pt_pid p, uint64_t tag);
  * PT_CHILD_RESTARTING: the supervisor is to start it already. */
 uint32_t pt_crew_restart_child(pt_crew *crew, pt_pid p, uint64_t tag);
 
+/* Asks a supervisor for the child that it wants started on another desk; `tag` gets the tag of it. A supervisor comes to a
+ * child with `elsewhere` in its turn. It then starts and ends no other child, and does not exit, until
+ * pt_crew_child_started or pt_crew_child_not_started answers. So ask each supervisor that has such children after each
+ * step. PT_NOTHING: it wants none, or told of it before, or p is not a supervisor of the crew. */
+uint32_t pt_crew_child_to_start(pt_crew *crew, pt_pid p, uint64_t *tag);
+
+/* Tells a supervisor that the program has started the child with this tag on another desk, as the process `child`. The
+ * next step links the two. If the process has exited by then, or is of the crew's desk, or is a child of it already, the
+ * child was not started. PT_NOTHING: p is not a supervisor of the crew, or does not wait for this child: then the program
+ * ends the process. */
+uint32_t pt_crew_child_started(pt_crew *crew, pt_pid p, uint64_t tag, pt_pid child);
+
+/* Tells a supervisor that the program has not started the child with this tag on another desk. The supervisor gives up if
+ * that was the first start of the child. A start after an exit counts as a restart, and the supervisor asks again. A child
+ * that pt_crew_start_child or pt_crew_restart_child asked for is not wanted any more. PT_NOTHING: as
+ * pt_crew_child_started. */
+uint32_t pt_crew_child_not_started(pt_crew *crew, pt_pid p, uint64_t tag);
+
 /* Has a supervisor forget the child with this tag, which it ended or which is done: Erlang's delete_child. `place` gets
  * the place that it had. The children after it move up by one. Codes as of pt_crew_restart_child. */
 uint32_t pt_crew_delete_child(pt_crew *crew, pt_pid p, uint64_t tag, size_t *place);
@@ -1033,7 +1052,7 @@ PT_SIZE_IS(pt_next, 64);
 PT_SIZE_IS(pt_job, 192);
 PT_SIZE_IS(pt_answer, 80);
 PT_SIZE_IS(pt_supervisor_spec, 40);
-PT_SIZE_IS(pt_child_spec, 24);
+PT_SIZE_IS(pt_child_spec, 32);
 PT_SIZE_IS(pt_child, 32);
 PT_SIZE_IS(pt_child_counts, 24);
 PT_SIZE_IS(pt_gave_up, 48);

@@ -676,6 +676,27 @@ class Crew(_Held):
         CHILD_RESTARTING if it is to be started already."""
         self._must(lib.pt_crew_restart_child, c_pid("p", p), number("tag", tag, 0, U64))
 
+    def child_to_start(self, p: Pid) -> Optional[int]:
+        """Asks a supervisor for the child that it wants started on another desk, and returns its tag; or None if it wants
+        none, or told of it before, or p is no supervisor of the crew. A supervisor comes to a child with `elsewhere` in its
+        turn. It then starts and ends no other child, and does not exit, until `child_started` or `child_not_started`
+        answers. So ask each supervisor that has such children after each step."""
+        out = self._find(lib.pt_crew_child_to_start, c.c_uint64(), c_pid("p", p))
+        return None if out is None else int(out.value)
+
+    def child_started(self, p: Pid, tag: int, pid: Pid) -> None:
+        """Tells a supervisor that the program has started the child with this tag on another desk, as this process. The
+        next step links the two. If the process has exited by then, or is of the crew's desk, or is a child of it already,
+        the child was not started. Fault: NOTHING if p is no supervisor of the crew, or does not wait for this child: then
+        the program ends the process."""
+        self._must(lib.pt_crew_child_started, c_pid("p", p), number("tag", tag, 0, U64), c_pid("pid", pid))
+
+    def child_not_started(self, p: Pid, tag: int) -> None:
+        """Tells a supervisor that the program has not started the child with this tag on another desk. It gives up if that was
+        the first start of the child. A start after an exit counts as a restart, and it asks again. A child that `start_child`
+        or `restart_child` asked for is not wanted any more. Fault: NOTHING as of `child_started`."""
+        self._must(lib.pt_crew_child_not_started, c_pid("p", p), number("tag", tag, 0, U64))
+
     def delete_child(self, p: Pid, tag: int) -> int:
         """Has a supervisor forget the child with this tag, which it ended or which is done, and returns the place that it
         had: Erlang's delete_child. Those behind it move up. Fault: NOTHING if p is no supervisor of the crew, or has no such

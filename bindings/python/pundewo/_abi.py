@@ -162,7 +162,8 @@ class CSupervisorSpec(c.Structure):
 
 
 class CChildSpec(c.Structure):
-    _fields_ = [("tag", c.c_uint64), ("restart", c.c_uint32), ("shutdown", c.c_uint32), ("time", c.c_uint64)]
+    _fields_ = [("tag", c.c_uint64), ("restart", c.c_uint32), ("shutdown", c.c_uint32), ("time", c.c_uint64),
+                ("elsewhere", c.c_bool)]
 
 
 class CChild(c.Structure):
@@ -334,6 +335,9 @@ CALLS: dict[str, list[Any]] = {
     "pt_crew_start_child": [_P(CHandle), CPid, CChildSpec, _P(c.c_size_t)],
     "pt_crew_terminate_child": [_P(CHandle), CPid, c.c_uint64],
     "pt_crew_restart_child": [_P(CHandle), CPid, c.c_uint64],
+    "pt_crew_child_to_start": [_P(CHandle), CPid, _P(c.c_uint64)],
+    "pt_crew_child_started": [_P(CHandle), CPid, c.c_uint64, CPid],
+    "pt_crew_child_not_started": [_P(CHandle), CPid, c.c_uint64],
     "pt_crew_delete_child": [_P(CHandle), CPid, c.c_uint64, _P(c.c_size_t)],
     "pt_crew_count_children": [_P(CHandle), CPid, _P(CChildCounts)],
     "pt_crew_gave_up": [_P(CHandle), CPid, _P(CGaveUp)],

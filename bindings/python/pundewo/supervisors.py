@@ -36,11 +36,13 @@ Shutdown = Union[str, int]
 
 class ChildSpec(NamedTuple):
     """What a supervisor knows of a child. `restart` is one of RESTARTS. `shutdown` is "infinity", "brutal_kill", or the
-    time (`Crew.set_time`) after which it is killed."""
+    time (`Crew.set_time`) after which it is killed. With `elsewhere` the program starts it, on another desk
+    (`Crew.child_to_start`)."""
 
     tag: int
     restart: str = "permanent"
     shutdown: Shutdown = "infinity"
+    elsewhere: bool = False
 
 
 class SupervisorSpec(NamedTuple):
@@ -85,7 +87,7 @@ class GaveUp(NamedTuple):
 
 
 def c_child(field: str, child: ChildSpec) -> CChildSpec:
-    tag, restart, shutdown = of_type(field, child, ChildSpec)
+    tag, restart, shutdown, elsewhere = of_type(field, child, ChildSpec)
     crossing = CChildSpec(number(f"{field}.tag", tag, 0, U64), RESTARTS.index(one_of(f"{field}.restart", restart, RESTARTS)))
     if shutdown == "brutal_kill":
         crossing.shutdown = SHUTDOWN_CODES.index("brutal_kill")
@@ -94,6 +96,7 @@ def c_child(field: str, child: ChildSpec) -> CChildSpec:
             raise ValueError(f"{field}.shutdown is {shown(shutdown)}, and must be a time, 'infinity' or 'brutal_kill'")
         crossing.shutdown = SHUTDOWN_CODES.index("after")
         crossing.time = number(f"{field}.shutdown", shutdown, 0, U64)
+    crossing.elsewhere = flag(f"{field}.elsewhere", elsewhere)
     return crossing
 
 

@@ -88,7 +88,7 @@ class Kids(Domain):
 
     def good(self, draw: random.Random) -> list[s.ChildSpec]:
         ends: list[s.Shutdown] = ["infinity", "brutal_kill", LONG.good(draw)]
-        return [s.ChildSpec(LONG.good(draw), draw.choice(s.RESTARTS), end) for end in ends]
+        return [s.ChildSpec(LONG.good(draw), draw.choice(s.RESTARTS), end, draw.random() < 0.5) for end in ends]
 
     def bounds(self) -> list[Any]:
         return [[], [s.ChildSpec(0), s.ChildSpec(2**64 - 1)]]
@@ -213,7 +213,7 @@ def back(word: Any) -> Any:
             s.STRATEGIES[spec.strategy], spec.most, spec.span, spec.timed,
             library.pid_of(spec.parent) if spec.has_parent else None),
         abi.CChildSpec: lambda child: s.ChildSpec(
-            child.tag, s.RESTARTS[child.restart], ("infinity", child.time, "brutal_kill")[child.shutdown]),
+            child.tag, s.RESTARTS[child.restart], ("infinity", child.time, "brutal_kill")[child.shutdown], child.elsewhere),
         abi.CConfig: lambda config: p.Config(*(getattr(config, field) for field, _ in config._fields_))}
     return kinds[type(word)](word) if type(word) in kinds else word
 

@@ -191,14 +191,53 @@ class Supervisors(unittest.TestCase):
         self.assertEqual((crew.delete_child(boss, 10), crew.count_children(boss)), (0, ChildCounts(1, 1, 0)))
         self.assertEqual((self.run_all(), self.pids(boss)), ([], [third]))
 
+    def run_both(self, crews: list[Crew]) -> list[Job]:
+        """Ten steps of both desks. Each process that begins is answered that it waits."""
+        told: list[Job] = []
+        for _ in range(10):
+            for crew, desk in zip(crews, self.desks):
+                jobs, turned = crew.step(desk)
+                self.assertIsNone(turned.stopped)
+                for job in jobs:
+                    if job.name == "start":
+                        self.assertTrue(crew.answer(job.pid, WAIT))
+                told += jobs
+        return told
+
+    def test_a_child_is_started_on_another_desk(self) -> None:
+        crews = [self.crew, Crew(self.desks[1])]
+        near, far = crews
+        boss = near.spawn_supervisor(self.desk, 5, SPEC, [ChildSpec(10, elsewhere=True), ChildSpec(11)])
+        self.assertEqual((near.child_to_start(boss), self.run_both(crews)), (None, []))
+        self.assertEqual((near.child_to_start(boss), near.child_to_start(boss)), (10, None))
+        child = far.spawn(self.desks[1], 10, PROCEED)
+        self.fails(p.Code.NOTHING, near.child_started, boss, 11, child)
+        near.child_started(boss, 10, child)
+        self.fails(p.Code.NOTHING, near.child_not_started, boss, 10)
+        told = self.run_both(crews)
+        first, second = self.pids(boss)
+        self.assertEqual((first, len(told), second.shard), (child, 2, 0))
+        # it crashes, its start fails once, and then another takes its place
+        self.desks[1].exit(child, CRASH)
+        self.assertEqual(len(self.run_both(crews)), 1)
+        self.assertEqual(near.child_to_start(boss), 10)
+        near.child_not_started(boss, 10)
+        self.assertEqual((self.run_both(crews), near.child_to_start(boss)), ([], 10))
+        again = far.spawn(self.desks[1], 10, PROCEED)
+        near.child_started(boss, 10, again)
+        self.run_both(crews)
+        self.assertEqual(self.pids(boss), [again, second])
+
     def test_calls_about_children_are_refused(self) -> None:
         one = self.crew.spawn(self.desk, 1, WAIT)
         boss = self.crew.spawn_supervisor(self.desk, 5, SPEC, [ChildSpec(10)])
         self.run_all()
         before = self.crew.children(boss), self.crew.next(boss), self.crew.queued(), self.desk.event_count()
         for pid, tag in ((one, 10), (p.Pid(0, 9, 9), 10), (boss, 11)):
-            for call in (self.crew.terminate_child, self.crew.restart_child, self.crew.delete_child):
+            for call in (self.crew.terminate_child, self.crew.restart_child, self.crew.delete_child, self.crew.child_not_started):
                 self.fails(p.Code.NOTHING, call, pid, tag)
+            self.fails(p.Code.NOTHING, self.crew.child_started, pid, tag, one)
+            self.assertIsNone(self.crew.child_to_start(pid))
         for pid in (one, p.Pid(0, 9, 9)):
             self.fails(p.Code.NOTHING, self.crew.start_child, pid, ChildSpec(10))
             self.assertEqual((self.crew.count_children(pid), self.crew.gave_up(pid)), (None, None))
@@ -274,6 +313,7 @@ class Supervisors(unittest.TestCase):
         self.assertEqual((spec.strategy, spec.timed, spec.has_parent, pid(spec.parent), spec.most, spec.span),
                          (1, True, True, (4, 5, 6), 7, 8))
         self.assertEqual((of_child.tag, of_child.restart, of_child.shutdown, of_child.time), (1, 2, 3, 4))
+        self.assertTrue(of_child.elsewhere)
         self.assertEqual((child.has_pid, child.wanted, pid(child.pid), child.restart, child.shutdown, child.time),
                          (True, True, (3, 4, 5), 6, 7, 8))
 

@@ -378,6 +378,41 @@ impl Crew {
         asked(unsafe { raw::pt_crew_restart_child(self.handle.own(), p, tag) })
     }
 
+    /// Asks a supervisor for the child that it wants started on another desk, and returns its tag. It returns `None` if it wants
+    /// none, or told of it before, or the process is no supervisor of the crew.
+    ///
+    /// A supervisor comes to a child with [`elsewhere`](ChildSpec::elsewhere) in its turn. It then starts and ends no other child,
+    /// and does not exit, until [`child_started`](Crew::child_started) or [`child_not_started`](Crew::child_not_started)
+    /// answers. So ask each supervisor that has such children after each step.
+    pub fn child_to_start(&mut self, p: Pid) -> Option<u64> {
+        let mut tag = 0;
+        let code = unsafe { raw::pt_crew_child_to_start(self.handle.own(), p, &mut tag) };
+        asked(code).ok().map(|()| tag)
+    }
+
+    /// Tells a supervisor that the program has started the child with this tag on another desk, as this process. The next step
+    /// links the two. If the process has exited by then, or is of the crew's desk, or is a child of it already, the child was
+    /// not started.
+    ///
+    /// # Errors
+    ///
+    /// [`ChildFault::NotFound`] if the process is no supervisor of the crew, or does not wait for this child: then the program
+    /// ends the process.
+    pub fn child_started(&mut self, p: Pid, tag: u64, child: Pid) -> Result<(), ChildFault> {
+        asked(unsafe { raw::pt_crew_child_started(self.handle.own(), p, tag, child) })
+    }
+
+    /// Tells a supervisor that the program has not started the child with this tag on another desk. It gives up if that was the
+    /// first start of the child. A start after an exit counts as a restart, and it asks again. A child that
+    /// [`start_child`](Crew::start_child) or [`restart_child`](Crew::restart_child) asked for is not wanted any more.
+    ///
+    /// # Errors
+    ///
+    /// [`ChildFault::NotFound`], as of [`child_started`](Crew::child_started).
+    pub fn child_not_started(&mut self, p: Pid, tag: u64) -> Result<(), ChildFault> {
+        asked(unsafe { raw::pt_crew_child_not_started(self.handle.own(), p, tag) })
+    }
+
     /// Has a supervisor forget the child with this tag, which it ended or which is done: Erlang's `delete_child`. It returns the
     /// place that the child had. Those behind it move up.
     ///

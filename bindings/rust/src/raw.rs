@@ -275,6 +275,7 @@ pub struct RawChildSpec {
     pub restart: u32,
     pub shutdown: u32,
     pub time: u64,
+    pub elsewhere: bool,
 }
 
 #[repr(C)]
@@ -646,7 +647,7 @@ const _: () = assert!(size_of::<RawNext>() == 64);
 const _: () = assert!(size_of::<RawJob>() == 192);
 const _: () = assert!(size_of::<RawAnswer>() == 80);
 const _: () = assert!(size_of::<RawSupervisorSpec>() == 40);
-const _: () = assert!(size_of::<RawChildSpec>() == 24);
+const _: () = assert!(size_of::<RawChildSpec>() == 32);
 const _: () = assert!(size_of::<RawChild>() == 32);
 const _: () = assert!(size_of::<RawChildCounts>() == 24);
 const _: () = assert!(size_of::<RawGaveUp>() == 48);
@@ -775,6 +776,9 @@ unsafe extern "C" {
     pub fn pt_crew_start_child(crew: &mut Handle, p: Pid, child: RawChildSpec, place: &mut usize) -> u32;
     pub fn pt_crew_terminate_child(crew: &mut Handle, p: Pid, tag: u64) -> u32;
     pub fn pt_crew_restart_child(crew: &mut Handle, p: Pid, tag: u64) -> u32;
+    pub fn pt_crew_child_to_start(crew: &mut Handle, p: Pid, tag: &mut u64) -> u32;
+    pub fn pt_crew_child_started(crew: &mut Handle, p: Pid, tag: u64, child: Pid) -> u32;
+    pub fn pt_crew_child_not_started(crew: &mut Handle, p: Pid, tag: u64) -> u32;
     pub fn pt_crew_delete_child(crew: &mut Handle, p: Pid, tag: u64, place: &mut usize) -> u32;
     pub fn pt_crew_count_children(crew: &mut Handle, p: Pid, out: &mut RawChildCounts) -> u32;
     pub fn pt_crew_gave_up(crew: &mut Handle, p: Pid, out: &mut RawGaveUp) -> u32;

@@ -67,13 +67,15 @@ pub struct ChildSpec {
     pub restart: Restart,
     /// How it is ended.
     pub shutdown: Shutdown,
+    /// Whether the program starts it, on another desk ([`Crew::child_to_start`](crate::Crew::child_to_start)).
+    pub elsewhere: bool,
 }
 
 impl ChildSpec {
     /// A child with this tag that is always started again, and is ended by an exit signal `shutdown`.
     #[must_use]
     pub fn new(tag: u64) -> ChildSpec {
-        ChildSpec { tag, restart: Restart::Permanent, shutdown: Shutdown::Infinity }
+        ChildSpec { tag, restart: Restart::Permanent, shutdown: Shutdown::Infinity, elsewhere: false }
     }
 }
 
@@ -206,7 +208,7 @@ impl From<ChildSpec> for RawChildSpec {
             Restart::Transient => raw::PT_TRANSIENT,
             Restart::Temporary => raw::PT_TEMPORARY,
         };
-        RawChildSpec { tag: child.tag, restart, shutdown, time }
+        RawChildSpec { tag: child.tag, restart, shutdown, time, elsewhere: child.elsewhere }
     }
 }
 

@@ -166,6 +166,47 @@ fn children_come_and_go_at_run_time() -> Result<(), Fault> {
     Ok(())
 }
 
+/// The steps of two desks, whose crews are in this order, until nothing is told. Each process that begins is answered.
+fn run_both(crews: &mut [Crew], desks: &mut [Desk]) -> Vec<Job> {
+    let mut told = Vec::new();
+    for _ in 0..10 {
+        for (crew, desk) in crews.iter_mut().zip(&mut *desks) {
+            let jobs = step(crew, desk);
+            let begun = jobs.iter().filter(|job| matches!(job.what, What::Start(_)));
+            begun.for_each(|job| crew.answer(&[(job.pid, ANY)]).expect("it runs"));
+            told.extend(jobs);
+        }
+    }
+    told
+}
+
+#[test]
+fn a_child_is_started_on_another_desk() -> Result<(), Fault> {
+    let mut desks = open(2, Config::default())?;
+    let mut crews = vec![Crew::new(&desks[0])?, Crew::new(&desks[1])?];
+    let children = [ChildSpec { elsewhere: true, ..ChildSpec::new(10) }, ChildSpec::new(11)];
+    let boss = crews[0].spawn_supervisor(&mut desks[0], 5, spec(), &children)?;
+    assert_eq!((crews[0].child_to_start(boss), run_both(&mut crews, &mut desks)), (None, vec![]));
+    assert_eq!((crews[0].child_to_start(boss), crews[0].child_to_start(boss)), (Some(10), None));
+    let child = crews[1].spawn(&mut desks[1], 10, Next::Proceed)?;
+    assert_eq!(crews[0].child_started(boss, 11, child), Err(ChildFault::NotFound));
+    assert_eq!(crews[0].child_started(boss, 10, child), Ok(()));
+    assert_eq!(crews[0].child_not_started(boss, 10), Err(ChildFault::NotFound));
+    let told = run_both(&mut crews, &mut desks);
+    let before = pids(&crews[0], boss);
+    assert_eq!((before[0], told.len(), before[1].shard), (child, 2, 0));
+    // it crashes, its start fails once, and then another takes its place
+    desks[1].exit(child, CRASH)?;
+    assert_eq!(run_both(&mut crews, &mut desks).len(), 1);
+    assert_eq!((crews[0].child_to_start(boss), crews[0].child_not_started(boss, 10)), (Some(10), Ok(())));
+    assert_eq!((run_both(&mut crews, &mut desks), crews[0].child_to_start(boss)), (vec![], Some(10)));
+    let again = crews[1].spawn(&mut desks[1], 10, Next::Proceed)?;
+    assert_eq!(crews[0].child_started(boss, 10, again), Ok(()));
+    run_both(&mut crews, &mut desks);
+    assert_eq!(pids(&crews[0], boss), [again, before[1]]);
+    Ok(())
+}
+
 /// What is refused, and that nothing has changed then.
 #[test]
 fn calls_about_children_are_refused() -> Result<(), Fault> {
@@ -181,6 +222,8 @@ fn calls_about_children_are_refused() -> Result<(), Fault> {
         assert_eq!(crew.terminate_child(p, tag), Err(ChildFault::NotFound));
         assert_eq!(crew.restart_child(p, tag), Err(ChildFault::NotFound));
         assert_eq!(crew.delete_child(p, tag), Err(ChildFault::NotFound));
+        assert_eq!((crew.child_to_start(p), crew.child_started(p, tag, one)), (None, Err(ChildFault::NotFound)));
+        assert_eq!(crew.child_not_started(p, tag), Err(ChildFault::NotFound));
     }
     for p in [one, nobody] {
         assert_eq!(crew.start_child(p, ChildSpec::new(10)), Err(ChildFault::NotFound));
@@ -352,6 +395,7 @@ fn structs_and_codes_are_the_librarys() {
     assert_eq!((spec.strategy, spec.timed, spec.has_parent), (1, true, true));
     assert_eq!((spec.parent, spec.most, spec.span), (pid(4), 7, 8));
     assert_eq!((of_child.tag, of_child.restart, of_child.shutdown, of_child.time), (1, 2, 3, 4));
+    assert!(of_child.elsewhere);
     assert_eq!((child.has_pid, child.wanted, child.pid), (true, true, pid(3)));
     assert_eq!((child.restart, child.shutdown, child.time), (6, 7, 8));
     assert_eq!((counts.specs, counts.active, counts.restarting), (1, 2, 3));

@@ -4,7 +4,6 @@ ghost use Rattle.std.specs.Prelude.{◌≡◌};
 ghost use Rattle.pt_c_tools.specs.AboutSupervisors.{all_supervisor_codes, sample_child, sample_child_spec, sample_supervisor_spec};
 ghost use Rattle.pt_c_tools.specs.AboutSupervisors.{sample_child_counts, sample_gave_up};
 
-use pt_c_crews::about_crews;
 use pt_c_tools::about_supervisors::{self, PtSupervisorCodes};
 use pt_c_values::types::{PtChild, PtChildCounts, PtChildSpec, PtGaveUp, PtSupervisorSpec};
 
@@ -13,7 +12,7 @@ use pt_c_values::types::{PtChild, PtChildCounts, PtChildSpec, PtGaveUp, PtSuperv
 pub extern "C" fn pt_about_supervisors(out: &mut PtSupervisorCodes)
     ensures { out.new ≡ all_supervisor_codes }
 {
-    about_crews::supervisors(out);
+    about_supervisors::codes(out);
 }
 
 /// Writes a sample of a supervisor: its fields have the numbers 1, 2, 3 and so on in order, a bool being true.

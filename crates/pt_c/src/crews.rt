@@ -12,7 +12,8 @@ ghost use Rattle.pt_c_tools.specs.Nexts.{next_out};
 ghost use Rattle.pt_scheduler.specs.Scheduling.{member_views, crew_of};
 ghost use Rattle.pt_c_crews.specs.Crewing.{CrewBeginsAgain, CrewSupervises, CrewTells, NotesIfOwn, SpawnsBossInCrew};
 ghost use Rattle.pt_c_crews.specs.Crewing.{SpawnsChildInCrew, SpawnsInCrew, TellsChild, TellsChildCount, TellsTime};
-ghost use Rattle.pt_c_crews.specs.Children.{CrewDeletesChild, CrewRestartsChild, CrewStartsChild, CrewTerminatesChild};
+ghost use Rattle.pt_c_crews.specs.Children.{CrewAsksProgram, CrewDeletesChild, CrewRestartsChild, CrewStartsChild};
+ghost use Rattle.pt_c_crews.specs.Children.{CrewIsToldNotStarted, CrewIsToldStarted, CrewTerminatesChild};
 ghost use Rattle.pt_c_crews.specs.Children.{TellsCause, TellsCounts};
 ghost use Rattle.pt_c_crews.specs.Through.{AnswersInOrder, GoesOnIn, OpensCrew, SetsCrewTime, StepsIfOwn};
 ghost use Rattle.pt_c_values.specs.Filling.{GivesUp};
@@ -332,6 +333,52 @@ pub extern "C" fn pt_crew_terminate_child(
         (λ old new. CrewTerminatesChild (pid_crossed p) tag result old new) }
 {
     children::terminate_child(alloc, c, p, tag)
+}
+
+/// Tells a supervisor that the child with this tag was started on another desk, as `Scheduler::child_started` does; 8 if p is
+/// no supervisor of the crew, or does not wait for this child.
+#[unsafe(no_mangle)]
+pub extern "C" fn pt_crew_child_started(
+    alloc: Global,
+    c: &mut CrewHandle,
+    p: PtPid,
+    tag: u64,
+    child: PtPid,
+) -> u32
+    ensures { CallsThrough c.old.state c.new.state result (Unit {0})
+        (λ old new. CrewIsToldStarted (pid_crossed p) tag (pid_crossed child) result old new) }
+{
+    children::child_started(alloc, c, p, tag, child)
+}
+
+/// Tells a supervisor that the child with this tag was not started on another desk, as `Scheduler::child_not_started` does; 8 if
+/// p is no supervisor of the crew, or does not wait for this child.
+#[unsafe(no_mangle)]
+pub extern "C" fn pt_crew_child_not_started(
+    alloc: Global,
+    c: &mut CrewHandle,
+    p: PtPid,
+    tag: u64,
+) -> u32
+    ensures { CallsThrough c.old.state c.new.state result (Unit {0})
+        (λ old new. CrewIsToldNotStarted (pid_crossed p) tag result old new) }
+{
+    children::child_not_started(alloc, c, p, tag)
+}
+
+/// The tag of the child that a supervisor wants started on another desk, as `Scheduler::child_to_start` tells it; 8 if there is
+/// none, or it was told before, or the process is no supervisor of the crew.
+#[unsafe(no_mangle)]
+pub extern "C" fn pt_crew_child_to_start(
+    alloc: Global,
+    c: &mut CrewHandle,
+    p: PtPid,
+    out: &mut u64,
+) -> u32
+    ensures { CallsThrough c.old.state c.new.state result (out.new ≡ out.old)
+        (λ old new. CrewAsksProgram (pid_crossed p) result out.old out.new old new) }
+{
+    children::child_to_start(alloc, c, p, out)
 }
 
 /// Asks a supervisor to start the child with this tag, as `Scheduler::restart_child` does; 8 if the process is no supervisor of

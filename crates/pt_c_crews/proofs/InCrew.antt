@@ -21,7 +21,8 @@ use Rattle.pt_desk.specs.DeskState.{DeskState}
 use Rattle.pt_c_values.specs.Crossing.{no_pid}
 use Rattle.pt_c_tools.specs.Nexts.{no_next}
 use Rattle.pt_c_values.specs.declared.types.PtChildSpec.{PtChildSpec}
-use Rattle.pt_c_crews.specs.Crossing.{child_in, child_or, children_in, job_out}
+use Rattle.pt_c_tools.specs.CrossingChildren.{child_in, child_or, children_in}
+use Rattle.pt_c_crews.specs.Crossing.{job_out}
 use Rattle.pt_c_values.specs.Codes.{IfCrosses, IfOwn}
 use Rattle.pt_c_crews.specs.Crewing.{AnswersAll, AnswersOne, CrewSteps, HandsOutRow, KeepsCrew, PullsRow, SpawnsChildNext, TakesAnswers}
 

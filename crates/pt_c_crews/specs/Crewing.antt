@@ -15,10 +15,10 @@ use Rattle.pt_crew.specs.Visiting.{AreSame}
 use Rattle.pt_crew.specs.Crews.{AreBorn, Enters, IsNextTime, IsSame, KeepsRest, members, queue, roles, time_of, IsIdle}
 use Rattle.pt_crew.specs.Running.{is_idle}
 use Rattle.pt_crew.specs.Stepping.{BeginsStep, EndsStep, EntersChild, IsAnswered, QueueIsLonger, is_running}
-use Rattle.pt_supervisor.specs.declared.children.Child.{Child}
+use Rattle.pt_children.specs.declared.children.Child.{Child}
 use Rattle.pt_scheduler.specs.declared.member.Job.{Job}
-use Rattle.pt_scheduler.specs.declared.plan.ChildSpec.{ChildSpec}
-use Rattle.pt_scheduler.specs.declared.plan.SupervisorSpec.{SupervisorSpec}
+use Rattle.pt_children.specs.declared.spec.ChildSpec.{ChildSpec}
+use Rattle.pt_children.specs.declared.spec.SupervisorSpec.{SupervisorSpec}
 use Rattle.pt_scheduler.specs.declared.scheduler.Scheduler.{Scheduler}
 use Rattle.pt_scheduler.specs.Owning.{desk_after, desk_of}
 use Rattle.pt_scheduler.specs.Scheduling.{AreAllQueued, SchedulerAttends, BecomesBoss, Fills, IsNoBoss, NoneNoted, NotesLoss, SpawnsBoss}
@@ -35,7 +35,8 @@ use Rattle.pt_c_values.specs.declared.types.PtChild.{PtChild}
 use Rattle.pt_c_values.specs.declared.types.PtChildSpec.{PtChildSpec}
 use Rattle.pt_c_values.specs.declared.types.PtJob.{PtJob}
 use Rattle.pt_c_values.specs.declared.types.PtSupervisorSpec.{PtSupervisorSpec}
-use Rattle.pt_c_crews.specs.Crossing.{child_out, children_in, job_out, spec_in}
+use Rattle.pt_c_tools.specs.CrossingChildren.{child_out, children_in, spec_in}
+use Rattle.pt_c_crews.specs.Crossing.{job_out}
 use Rattle.pt_c_crews.specs.Owning.{is_own}
 
 -- spawning -------------------------------------------------------------------------------

@@ -1,19 +1,13 @@
-//! The codes that the library reports of itself, and with them those of jobs and of supervisors.
+//! The codes that the library reports of itself, and with them those of jobs.
 
 ghost use Rattle.std.specs.Prelude.{◌≡◌};
 ghost use Rattle.pt_c_tools.specs.About.{all_codes, with_jobs, nobody};
-ghost use Rattle.pt_c_tools.specs.AboutSupervisors.{all_supervisor_codes};
 
-use crate::crossing::{job_out, restart_code, shutdown_code, strategy_code};
+use crate::crossing::job_out;
 use pt_behaviour::Next;
 use pt_c_tools::about::{BLANK, NOBODY, PtCodes, codes_below};
-use pt_c_tools::about_supervisors::PtSupervisorCodes;
-use pt_c_values::codes::{CHILD_PRESENT, CHILD_RESTARTING, CHILD_RUNNING};
-use pt_c_values::types::{PtChild, PtChildCounts, PtChildSpec, PtGaveUp, PtSupervisorSpec};
 use pt_scheduler::{Job, What};
-use pt_supervisor::{Restart, Shutdown, Strategy};
 use pt_workers::{Item, Reason};
-use std::mem::size_of;
 
 /// Writes each code, from the same functions as the calls.
 pub fn codes(out: &mut PtCodes)
@@ -45,29 +39,4 @@ fn job_for(what: What) -> Job
         tag: 0,
         what,
     }
-}
-
-/// Writes each code, from the same functions as the calls, and the sizes.
-pub fn supervisors(out: &mut PtSupervisorCodes)
-    ensures { out.new ≡ all_supervisor_codes }
-{
-    *out = PtSupervisorCodes {
-        one_for_one: strategy_code(Strategy::OneForOne),
-        one_for_all: strategy_code(Strategy::OneForAll),
-        rest_for_one: strategy_code(Strategy::RestForOne),
-        permanent: restart_code(Restart::Permanent),
-        transient: restart_code(Restart::Transient),
-        temporary: restart_code(Restart::Temporary),
-        infinity: shutdown_code(Shutdown::Infinity),
-        after: shutdown_code(Shutdown::After(0)),
-        brutal_kill: shutdown_code(Shutdown::BrutalKill),
-        supervisor_spec: size_of::<PtSupervisorSpec>(),
-        child_spec: size_of::<PtChildSpec>(),
-        child: size_of::<PtChild>(),
-        child_running: CHILD_RUNNING,
-        child_restarting: CHILD_RESTARTING,
-        child_present: CHILD_PRESENT,
-        child_counts: size_of::<PtChildCounts>(),
-        gave_up: size_of::<PtGaveUp>(),
-    };
 }

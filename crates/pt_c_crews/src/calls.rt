@@ -15,7 +15,7 @@ ghost use Rattle.pt_c_crews.specs.Through.{AnswersInOrder, OpensCrew, SetsCrewTi
 
 use crate::batches::answer_all;
 use crate::crew_handle::{CrewHandle, claim, filled, hold, is_full, spare};
-use crate::crossing::{are_children, children_in, spec_in};
+use pt_c_tools::crossing_children::{are_children, children_in, spec_in};
 use pt_c_tools::crossing_nexts::next_out;
 use pt_c_values::codes::{BAD_CODE, DONE, EMPTY, FILLED, MEMORY, NOT_RUNNING, NOTHING};
 use pt_c_values::crossing::pid_in;

@@ -7,80 +7,19 @@ ghost use Rattle.std.specs.Prelude.{◌≡◌};
 ghost use Rattle.pt_c_values.specs.Places.{CallsThrough, ReadsThrough};
 ghost use Rattle.pt_c_values.specs.Crossing.{pid_crossed};
 ghost use Rattle.pt_c_crews.specs.Crewing.{TellsChild, TellsChildCount};
-ghost use Rattle.pt_c_crews.specs.Children.{CrewDeletesChild, CrewRestartsChild, CrewStartsChild, CrewTerminatesChild};
-ghost use Rattle.pt_c_crews.specs.Children.{TellsCause, TellsCounts, child_code, cause_out, counts_out, child_fault_code, place_after};
+ghost use Rattle.pt_c_crews.specs.Children.{CrewAsksProgram, CrewDeletesChild, CrewRestartsChild, CrewStartsChild};
+ghost use Rattle.pt_c_crews.specs.Children.{CrewIsToldNotStarted, CrewIsToldStarted, CrewTerminatesChild};
+ghost use Rattle.pt_c_crews.specs.Children.{TellsCause, TellsCounts};
 
 use crate::crew_handle::{CrewHandle, claim, hold};
-use crate::crossing::{child_in, child_out};
-use pt_c_values::codes::{
-    BAD_CODE, CHILD_PRESENT, CHILD_RESTARTING, CHILD_RUNNING, DONE, EMPTY, MEMORY, NOTHING,
+use pt_c_tools::crossing_children::{
+    cause_out, child_code, child_in, child_out, counts_out, value_code,
 };
-use pt_c_values::crossing::{pid_in, reason_out};
+use pt_c_values::codes::{BAD_CODE, DONE, EMPTY, NOTHING};
+use pt_c_values::crossing::pid_in;
 use pt_c_values::types::{PtChild, PtChildCounts, PtChildSpec, PtGaveUp, PtPid};
-use pt_supervisor::{ChildCounts, ChildFault, GaveUp};
+use pt_workers::Fault;
 use std::alloc::Global;
-
-fn child_fault_code(fault: ChildFault) -> u32
-    ensures { result ≡ child_fault_code fault }
-{
-    match fault {
-        ChildFault::NotFound => NOTHING,
-        ChildFault::Running => CHILD_RUNNING,
-        ChildFault::Restarting => CHILD_RESTARTING,
-        ChildFault::AlreadyPresent => CHILD_PRESENT,
-        ChildFault::AlreadyStarted(_) => CHILD_RUNNING,
-        ChildFault::Memory => MEMORY,
-    }
-}
-
-/// The code of what a supervisor made of a question, if the process is one.
-fn child_code(answer: Option<Result<(), ChildFault>>) -> u32
-    ensures { result ≡ child_code answer }
-{
-    match answer {
-        Some(Ok(())) => DONE,
-        Some(Err(fault)) => child_fault_code(fault),
-        None => NOTHING,
-    }
-}
-
-/// The same of one that is answered by a place, which it writes.
-fn place_code(answer: Option<Result<usize, ChildFault>>, out: &mut usize) -> u32
-    ensures code { result ≡ child_code answer }
-    ensures wrote { out.new ≡ place_after answer out.old }
-{
-    match answer {
-        Some(Ok(place)) => {
-            *out = place;
-            DONE
-        }
-        Some(Err(fault)) => child_fault_code(fault),
-        None => NOTHING,
-    }
-}
-
-fn counts_out(counts: ChildCounts) -> PtChildCounts
-    ensures { result ≡ counts_out counts }
-{
-    PtChildCounts {
-        specs: counts.specs,
-        active: counts.active,
-        restarting: counts.restarting,
-    }
-}
-
-fn cause_out(cause: GaveUp) -> PtGaveUp
-    ensures { result ≡ cause_out cause }
-{
-    PtGaveUp {
-        tag: cause.id,
-        place: cause.place,
-        reason: reason_out(cause.reason),
-        restarts: cause.restarts,
-        span: cause.span,
-        timed: cause.timed,
-    }
-}
 
 /// The number of the children of a supervisor; 8 if the process is no supervisor of the crew.
 pub fn child_count(alloc: Global, c: &mut CrewHandle, p: PtPid, out: &mut usize) -> u32
@@ -147,7 +86,7 @@ pub fn start_child(
     };
     let code = match &mut held.crew {
         Some(crew) => match child_in(child) {
-            Some(known) => place_code(crew.start_child(pid_in(p), known), out),
+            Some(known) => value_code(crew.start_child(pid_in(p), known), out),
             None => BAD_CODE,
         },
         None => EMPTY,
@@ -166,6 +105,58 @@ pub fn terminate_child(alloc: Global, c: &mut CrewHandle, p: PtPid, tag: u64) ->
     };
     let code = match &mut held.crew {
         Some(crew) => child_code(crew.terminate_child(pid_in(p), tag)),
+        None => EMPTY,
+    };
+    *c = hold(held);
+    code
+}
+
+/// Tells a supervisor that the child with this tag was started on another desk, as this process; 8 if p is no supervisor of
+/// the crew, or does not wait for this child.
+pub fn child_started(alloc: Global, c: &mut CrewHandle, p: PtPid, tag: u64, child: PtPid) -> u32
+    ensures { CallsThrough c.old.state c.new.state result (Unit {0})
+        (λ old new. CrewIsToldStarted (pid_crossed p) tag (pid_crossed child) result old new) }
+{
+    let started = pid_in(child);
+    let Some(mut held) = claim(alloc, c) else {
+        return EMPTY;
+    };
+    let code = match &mut held.crew {
+        Some(crew) => child_code(crew.child_started(pid_in(p), tag, started)),
+        None => EMPTY,
+    };
+    *c = hold(held);
+    code
+}
+
+/// Tells a supervisor that the child with this tag was not started on another desk; 8 if p is no supervisor of the crew, or does
+/// not wait for this child.
+pub fn child_not_started(alloc: Global, c: &mut CrewHandle, p: PtPid, tag: u64) -> u32
+    ensures { CallsThrough c.old.state c.new.state result (Unit {0})
+        (λ old new. CrewIsToldNotStarted (pid_crossed p) tag result old new) }
+{
+    let Some(mut held) = claim(alloc, c) else {
+        return EMPTY;
+    };
+    let code = match &mut held.crew {
+        Some(crew) => child_code(crew.child_not_started(pid_in(p), tag, Fault::NoProc)),
+        None => EMPTY,
+    };
+    *c = hold(held);
+    code
+}
+
+/// The tag of the child that a supervisor wants started on another desk, which it writes to `out` if it returns 0; 8 if there is
+/// none, or it was told before, or the process is no supervisor of the crew.
+pub fn child_to_start(alloc: Global, c: &mut CrewHandle, p: PtPid, out: &mut u64) -> u32
+    ensures { CallsThrough c.old.state c.new.state result (out.new ≡ out.old)
+        (λ old new. CrewAsksProgram (pid_crossed p) result out.old out.new old new) }
+{
+    let Some(mut held) = claim(alloc, c) else {
+        return EMPTY;
+    };
+    let code = match &mut held.crew {
+        Some(crew) => value_code(crew.child_to_start(pid_in(p)), out),
         None => EMPTY,
     };
     *c = hold(held);
@@ -199,7 +190,7 @@ pub fn delete_child(alloc: Global, c: &mut CrewHandle, p: PtPid, tag: u64, out: 
         return EMPTY;
     };
     let code = match &mut held.crew {
-        Some(crew) => place_code(crew.delete_child(pid_in(p), tag), out),
+        Some(crew) => value_code(crew.delete_child(pid_in(p), tag), out),
         None => EMPTY,
     };
     *c = hold(held);

@@ -14,9 +14,9 @@ ghost use Rattle.pt_c_crews.specs.Through.{GoesOnIn, StepsIfOwn};
 
 use crate::batches::fill;
 use crate::crew_handle::{CrewHandle, claim, hold};
-use crate::crossing::{are_children, children_in, spec_in};
 use pt_c_desks::desk_handle::{DeskHandle, claim as claim_desk, hold as hold_desk};
 use pt_c_desks::history_handle::{HistoryHandle, claim as claim_history, hold as hold_history};
+use pt_c_tools::crossing_children::{are_children, children_in, spec_in};
 use pt_c_tools::crossing_nexts::next_in;
 use pt_c_values::codes::{BAD_CODE, DONE, EMPTY, MEMORY, NOTHING, WRONG_DESK, code_of, stop_code};
 use pt_c_values::crossing::{pid_in, pid_out};

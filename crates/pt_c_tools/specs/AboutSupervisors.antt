@@ -21,7 +21,7 @@ all_supervisor_codes = record {
   after = 1;
   brutal_kill = 2;
   supervisor_spec = 40;
-  child_spec = 24;
+  child_spec = 32;
   child = 32;
   child_running = 23;
   child_restarting = 24;
@@ -41,7 +41,7 @@ sample_supervisor_spec = record {
 }
 
 abbrev pub sample_child_spec : PtChildSpec
-sample_child_spec = record { tag = 1; restart = 2; shutdown = 3; time = 4 }
+sample_child_spec = record { tag = 1; restart = 2; shutdown = 3; time = 4; elsewhere = true }
 
 abbrev pub sample_child : PtChild
 sample_child = record { has_pid = true; wanted = true; pid = sample_pid 3; restart = 6; shutdown = 7; time = 8 }

@@ -10,3 +10,4 @@ pub mod Grouping
 pub mod Naming
 pub mod About
 pub mod AboutSupervisors
+pub mod CrossingChildren

@@ -3,11 +3,16 @@
 ghost use Rattle.std.specs.Prelude.{◌≡◌};
 ghost use Rattle.pt_c_tools.specs.AboutSupervisors.{sample_child, sample_child_spec, sample_supervisor_spec};
 ghost use Rattle.pt_c_tools.specs.AboutSupervisors.{sample_child_counts, sample_gave_up};
+ghost use Rattle.pt_c_tools.specs.AboutSupervisors.{all_supervisor_codes};
 
+use crate::crossing_children::{restart_code, shutdown_code, strategy_code};
+use pt_c_values::codes::{CHILD_PRESENT, CHILD_RESTARTING, CHILD_RUNNING};
 use pt_c_values::samples::sample_pid;
 use pt_c_values::types::{
     PtChild, PtChildCounts, PtChildSpec, PtGaveUp, PtReason, PtSupervisorSpec,
 };
+use pt_children::{Restart, Shutdown, Strategy};
+use std::mem::size_of;
 
 /// Each code of supervisors, and the size of each of their structs that cross, in bytes.
 #[repr(C)]
@@ -46,7 +51,8 @@ pub fn supervisor_spec(out: &mut PtSupervisorSpec)
     };
 }
 
-/// Writes a sample of what a supervisor knows of a child: its fields have the numbers 1, 2, 3 and so on in order.
+/// Writes a sample of what a supervisor knows of a child: its fields have the numbers 1, 2, 3 and so on in order, a bool
+/// being true.
 pub fn child_spec(out: &mut PtChildSpec)
     ensures { out.new ≡ sample_child_spec }
 {
@@ -55,6 +61,7 @@ pub fn child_spec(out: &mut PtChildSpec)
         restart: 2,
         shutdown: 3,
         time: 4,
+        elsewhere: true,
     };
 }
 
@@ -94,5 +101,30 @@ pub fn gave_up(out: &mut PtGaveUp)
         restarts: 5,
         span: 6,
         timed: true,
+    };
+}
+
+/// Writes each code, from the same functions as the calls, and the sizes.
+pub fn codes(out: &mut PtSupervisorCodes)
+    ensures { out.new ≡ all_supervisor_codes }
+{
+    *out = PtSupervisorCodes {
+        one_for_one: strategy_code(Strategy::OneForOne),
+        one_for_all: strategy_code(Strategy::OneForAll),
+        rest_for_one: strategy_code(Strategy::RestForOne),
+        permanent: restart_code(Restart::Permanent),
+        transient: restart_code(Restart::Transient),
+        temporary: restart_code(Restart::Temporary),
+        infinity: shutdown_code(Shutdown::Infinity),
+        after: shutdown_code(Shutdown::After(0)),
+        brutal_kill: shutdown_code(Shutdown::BrutalKill),
+        supervisor_spec: size_of::<PtSupervisorSpec>(),
+        child_spec: size_of::<PtChildSpec>(),
+        child: size_of::<PtChild>(),
+        child_running: CHILD_RUNNING,
+        child_restarting: CHILD_RESTARTING,
+        child_present: CHILD_PRESENT,
+        child_counts: size_of::<PtChildCounts>(),
+        gave_up: size_of::<PtGaveUp>(),
     };
 }

@@ -48,6 +48,7 @@ pub mod about;
 pub mod about_asking;
 pub mod about_supervisors;
 pub mod asking;
+pub mod crossing_children;
 pub mod crossing_nexts;
 pub mod door;
 pub mod door_handle;

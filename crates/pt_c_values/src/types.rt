@@ -254,6 +254,8 @@ pub struct PtChildSpec {
     /// How it is ended: 0 by `shutdown`, however long that takes; 1 by `shutdown`, and after `time` by `kill`; 2 by `kill`.
     pub shutdown: u32,
     pub time: u64,
+    /// Whether the program starts it, on another desk.
+    pub elsewhere: bool,
 }
 
 /// A child of a supervisor, in its place. Its codes are those of [`PtChildSpec`].

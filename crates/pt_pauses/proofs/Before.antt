@@ -10,8 +10,8 @@ use Rattle.pt_shard.specs.ShardState.{ShardState}
 use Rattle.pt_gathered.specs.Gathered.{GatheredState, IsGathered, begins}
 use Rattle.pt_gathered.specs.Pasts.{GoesOnFrom}
 use Rattle.pt_gathered.proofs.Starts.{start_same}
-use Rattle.pt_supervisor.specs.Keeping.{is_end_of, has_told, WereTold}
-use Rattle.pt_supervisor.proofs.Telling.{new_told, waits_told}
+use Rattle.pt_children.specs.Families.{is_end_of, has_told, WereTold}
+use Rattle.pt_children.proofs.Telling.{new_told, waits_told}
 
 -- nothing waits for one that has ended before
 outcome_waits : (q : Pid) (f : Phase) → list_any (is_end_of q) (state_of (outcome f)).waiting ≡ true → list_any (is_end_of q) (state_of f).waiting ≡ true

@@ -35,8 +35,9 @@ use Rattle.pt_behaviour.specs.Upholding.{AllFirst}
 use Rattle.pt_crew.specs.Upholding.{AllStand, AllStill, StandsStill, Upholds}
 use Rattle.pt_crew.specs.Running.{UpholdsOn}
 use Rattle.pt_behaviour.proofs.Upholding.{born_then}
-use Rattle.pt_supervisor.specs.Hearing.{Standing}
-use Rattle.pt_supervisor.specs.Keeping.{HoldsAs, Keeps, PartOf, SuperviseAs, WereTold}
+use Rattle.pt_children.specs.Hearing.{Standing}
+use Rattle.pt_supervisor.specs.Keeping.{HoldsAs, Keeps, PartOf, SuperviseAs}
+use Rattle.pt_children.specs.Families.{WereTold}
 use Rattle.pt_pauses.proofs.Before.{desk_told}
 use Rattle.pt_pauses.proofs.Homes.{born_here}
 use Rattle.pt_supervisor.proofs.Tending.{begins as all_begin, upheld}

@@ -19,10 +19,11 @@ use Rattle.pt_behaviour.specs.declared.behaviour.Next.{Next}
 use Rattle.pt_behaviour.specs.declared.behaviour.Next.TheVariants.{Proceed}
 use Rattle.pt_behaviour.specs.Upholding.{child_by, children_by}
 use Rattle.pt_behaviour.proofs.Cases.{by_cases}
-use Rattle.pt_supervisor.specs.Children.{NoneLives}
-use Rattle.pt_supervisor.specs.Hearing.{Standing}
-use Rattle.pt_supervisor.specs.Keeping.{IsReady, is_cut, all_events, IsTied, IsHeld, Family, tells_end, has_told, WereTold, all_children, IsPlaced, Remembers, AreAsked, IsWatched, bids_to, Holds, HoldsAs}
-use Rattle.pt_supervisor.proofs.Tying.{or_left, or_right}
+use Rattle.pt_children.specs.Children.{NoneLives}
+use Rattle.pt_children.specs.Hearing.{Standing}
+use Rattle.pt_supervisor.specs.Keeping.{IsReady, all_children, Remembers, Holds, HoldsAs}
+use Rattle.pt_children.specs.Families.{is_cut, all_events, IsTied, IsHeld, Family, tells_end, has_told, WereTold, IsPlaced, AreAsked, IsWatched, bids_to}
+use Rattle.pt_children.proofs.Tying.{or_left, or_right}
 use Rattle.pt_pauses.proofs.Stopping.{any_both, any_events, any_filter}
 
 -- phases that were left behind ------------------------------------------------------------------
@@ -91,7 +92,7 @@ module _ (past : Past) (merged : List Stamped) (me : Pid) (d e : ShardState) (ba
 
   family_then : (s : Standing) → phase_of e me ≡ phase_of d me → Family past s.children s.stopping me d → Family then s.children s.stopping me e
   family_then s same f = record {
-    born = λ place q is. born_then q (f.born place q is);
+    born = λ place q is near. born_then q (f.born place q is near);
     apart = f.apart;
     held = λ none place q is. go q (f.held none place q is);
   }

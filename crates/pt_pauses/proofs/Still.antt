@@ -39,22 +39,26 @@ use Rattle.pt_crew.specs.declared.crew.Crew.{Crew}
 use Rattle.pt_crew.specs.Waking.{has_work}
 use Rattle.pt_crew.specs.Crews.{roles, IsIdle}
 use Rattle.pt_behaviour.proofs.Cases.{by_cases}
-use Rattle.pt_supervisor.specs.declared.asked.Stage.{Stage}
-use Rattle.pt_supervisor.specs.declared.asked.Stage.TheVariants.{Waiting, Until, Killed}
-use Rattle.pt_supervisor.specs.declared.children.Child.{Child}
-use Rattle.pt_supervisor.specs.declared.children.Shutdown.{Shutdown}
-use Rattle.pt_supervisor.specs.declared.children.Shutdown.TheVariants.{Infinity}
-use Rattle.pt_supervisor.specs.Children.{last_alive, leaving, leaving_in, or_before}
-use Rattle.pt_supervisor.specs.Ending.{monitor_of, told_in, next_at_stage}
-use Rattle.pt_supervisor.specs.Hearing.{Standing}
+use Rattle.pt_children.specs.declared.asked.Stage.{Stage}
+use Rattle.pt_children.specs.declared.asked.Stage.TheVariants.{Waiting, Until, Killed}
+use Rattle.pt_children.specs.declared.children.Child.{Child}
+use Rattle.pt_children.specs.declared.children.Shutdown.{Shutdown}
+use Rattle.pt_children.specs.declared.children.Shutdown.TheVariants.{Infinity}
+use Rattle.pt_children.specs.Children.{last_alive, leaving, leaving_in, or_before}
+use Rattle.pt_children.specs.Ending.{monitor_of, told_in}
+use Rattle.pt_supervisor.specs.Ending.{next_at_stage}
+use Rattle.pt_children.specs.Hearing.{Standing}
+use Rattle.pt_children.specs.Homes.{is_waiting}
+use Rattle.pt_supervisor.proofs.Joining.{waits_settled}
 use Rattle.pt_supervisor.specs.Supervising.{EndsLast}
-use Rattle.pt_supervisor.specs.Keeping.{pid_of_child, is_end_of, has_cut, all_events, IsHeld, IsPlaced, IsWatched, IsAsked, bids_to, has_bid_to, Holds, PartOf, HoldsAs}
+use Rattle.pt_children.specs.Families.{pid_of_child, is_end_of, has_cut, all_events, IsHeld, IsPlaced, IsWatched, IsAsked, bids_to, has_bid_to}
+use Rattle.pt_supervisor.specs.Keeping.{Holds, PartOf, HoldsAs}
 use Rattle.pt_pauses.specs.Still.{HasTrapped, IsSpared, IsEnding, ChildLives, IsStillNode, StillLaws, QuietChildrenLive}
 use Rattle.pt_pauses.proofs.Homes.{born_here}
 use Rattle.pt_pauses.proofs.Opened.{keeper_lives, open_among, open_made, some_counted}
 use Rattle.pt_pauses.proofs.Stopping.{any_both, any_events, any_filter, ended_stays, known_ended, not_alive}
 use Rattle.pt_pauses.proofs.Trapping.{quiet_killed, quiet_trapped, told_born}
-use Rattle.pt_supervisor.proofs.Wanting.{lives_when_wanted}
+use Rattle.pt_children.proofs.Wanting.{lives_when_wanted}
 
 -- of one that has nothing to do no item waits
 none_waits : (test : Item → Bool) (items : List Item) → is_some (find (fits Pick.Any) items) ≡ false → list_any test items ≡ true → ⊥
@@ -138,9 +142,9 @@ module _ {B : Type 0} (part : PartOf B) (laws : StillLaws) (past : Past) (c : Cr
 
   -- one that waits for any item ------------------------------------------------------------------------
 
-  module _ (holds : Holds past s (Wait Pick.Any) p d) (is : roles c p ≡ Some (b, Wait Pick.Any)) (place : ℕ) (child : Child) (at_place : slice_get s.children place ≡ Some child) (wanted : child.wanted ≡ true) where
+  module _ (settled : is_waiting s.children ≡ false) (holds : Holds past s (Wait Pick.Any) p d) (is : roles c p ≡ Some (b, Wait Pick.Any)) (place : ℕ) (child : Child) (at_place : slice_get s.children place ≡ Some child) (wanted : child.wanted ≡ true) where
     q : (q : Pid) × (child.pid ≡ Some q)
-    q = pid_of child.pid (lives_when_wanted child wanted (holds.waits.0 place child (slice_get_within s.children place child at_place) at_place))
+    q = pid_of child.pid (lives_when_wanted child wanted ((waits_settled s holds.waits settled).0 place child (slice_get_within s.children place child at_place) at_place))
 
     linked : same_pid p q.0 ≡ false → is_some (held (state_in d p).links q.0) ≡ true → alive (begins g) (events merged) q.0 ≡ true
     linked other ties = by_cases (alive (begins g) (events merged) q.0)
@@ -160,7 +164,7 @@ module _ {B : Type 0} (part : PartOf B) (laws : StillLaws) (past : Past) (c : Cr
       q.1,
       by_cases (same_pid p q.0)
           (λ same. inl (subst (λ (x : Pid). alive (begins g) (events merged) x ≡ true) (same_pid_is p q.0 same) lives_there))
-          (λ other. go (holds.family.held holds.waits.2 place q.0 (ap pid_of_child at_place ∙ q.1)) other),
+          (λ other. go (holds.family.held (waits_settled s holds.waits settled).2 place q.0 (ap pid_of_child at_place ∙ q.1)) other),
     )
 
   -- one that ends a child ------------------------------------------------------------------------------
@@ -198,14 +202,6 @@ module _ {B : Type 0} (part : PartOf B) (laws : StillLaws) (past : Past) (c : Cr
         let agree = ((still.watches merged p q ref m).0 lives_there made_once).1 in
         keeper_lives p q ref (life (begins g) (events merged) q) (omega (arith, agree, open_there))
 
-    same_desk : q.shard ≡ p.shard
-    same_desk =
-        born_here d.number d.start (begins g) g.config.start g.config.top_version d.journal q
-        (subst (λ (x : ShardState). Every (λ y. y.0.shard ≡ d.number) x.start) (sym at) (subst (λ (n : ℕ). Every (λ y. y.0.shard ≡ n) (get_or g.shards d.number d).start) (node.shards d.number d number).number (node.shards d.number d number).fit.begun.own))
-        (subst (IsLocal (begins g) g.config.start g.config.top_version d.number) (journal_of g d.number d number ∙ ap (λ (x : ShardState). x.journal) (sym at)) (locals g node d.number))
-        (holds.family.born placed.0 q placed.1)
-        ∙ sym home
-
     -- it was told to end since the node began, or before
     module _ {X : Type 0} (r : Reason) (told : told_in stage ≡ Some r) (since : has_bid_to p q r (events merged) ≡ true → X) (before : (b : IsBeginning g.config.start (begins g)) → b.past ≡ past → has_bid_to p q r b.past ≡ true → X) where
       since_then : has_bid_to p q r (events d.journal) ≡ true → X
@@ -227,38 +223,38 @@ module _ {B : Type 0} (part : PartOf B) (laws : StillLaws) (past : Past) (c : Cr
     known = (laws.known (begins g) g.config.start g.config.top_version (journals g) merged (locals g node) m).0
 
     -- it lived before the node began
-    lived : (r : Reason) (b : IsBeginning g.config.start (begins g)) → has_bid_to p q r b.past ≡ true → alive [] b.past q ≡ true
-    lived r b told = living_or (life [] b.past q) (told_born [] p q same_desk r b.past b.known told)
+    lived : q.shard ≡ p.shard → (r : Reason) (b : IsBeginning g.config.start (begins g)) → has_bid_to p q r b.past ≡ true → alive [] b.past q ≡ true
+    lived same_desk r b told = living_or (life [] b.past q) (told_born [] p q same_desk r b.past b.known told)
         (by_cases (is_ended (life [] b.past q))
         (λ over. absurd (let bad : false ≡ true = sym (not_alive (life (begins g) (events merged) q) (ended_stays (begins g) (events merged) q (known_ended (at_start (begins g) q) (life [] b.past q) (b.left.alike q) over))) ∙ q_lives in cc))
         (λ on. on))
 
-    trapped_then : told_in stage ≡ Some Reason.Shutdown → GoesOnFrom past g ⊎ (past ≡ []) → HasTrapped (begins g) (events merged) p q ⊎ HasTrapped [] past p q
-    trapped_then told = told_then Reason.Shutdown told
+    trapped_then : q.shard ≡ p.shard → told_in stage ≡ Some Reason.Shutdown → GoesOnFrom past g ⊎ (past ≡ []) → HasTrapped (begins g) (events merged) p q ⊎ HasTrapped [] past p q
+    trapped_then same_desk told = told_then Reason.Shutdown told
         (λ any. inl (quiet_trapped (begins g) p q same_desk (events merged) (still.quiet merged m).0 known (still.quiet merged m).1 q_lives any))
-        (λ b is any. inr (subst (λ (x : Past). HasTrapped [] x p q) is (quiet_trapped [] p q same_desk b.past b.left.legal b.known b.left.quiet (lived Reason.Shutdown b any) any)))
+        (λ b is any. inr (subst (λ (x : Past). HasTrapped [] x p q) is (quiet_trapped [] p q same_desk b.past b.left.legal b.known b.left.quiet (lived same_desk Reason.Shutdown b any) any)))
 
-    killed_then : {X : Type 0} → told_in stage ≡ Some Reason.Kill → GoesOnFrom past g ⊎ (past ≡ []) → X
-    killed_then told = told_then Reason.Kill told
+    killed_then : {X : Type 0} → q.shard ≡ p.shard → told_in stage ≡ Some Reason.Kill → GoesOnFrom past g ⊎ (past ≡ []) → X
+    killed_then same_desk told = told_then Reason.Kill told
         (λ any. quiet_killed (begins g) p q same_desk (events merged) (still.quiet merged m).0 known (still.quiet merged m).1 q_lives any)
-        (λ b is any. quiet_killed [] p q same_desk b.past b.left.legal b.known b.left.quiet (lived Reason.Kill b any) any)
+        (λ b is any. quiet_killed [] p q same_desk b.past b.left.legal b.known b.left.quiet (lived same_desk Reason.Kill b any) any)
 
-    is_ending : next ≡ next_at_stage stage → (GoesOnFrom past g ⊎ (past ≡ []) → IsSpared shutdown stage × (HasTrapped (begins g) (events merged) p q ⊎ HasTrapped [] past p q)) → IsEnding past s next p q g merged
+    is_ending : next ≡ next_at_stage stage → (q.shard ≡ p.shard → GoesOnFrom past g ⊎ (past ≡ []) → IsSpared shutdown stage × (HasTrapped (begins g) (events merged) p q ⊎ HasTrapped [] past p q)) → IsEnding past s next p q g merged
     is_ending waits trapped = record { shutdown = shutdown; stage = stage; last = last; waits = waits; lives = q_lives; trapped = trapped }
 
   -- so it is of each -------------------------------------------------------------------------------------
 
-  module _ (place : ℕ) (child : Child) (at_place : slice_get s.children place ≡ Some child) (wanted : child.wanted ≡ true) where
+  module _ (settled : is_waiting s.children ≡ false) (place : ℕ) (child : Child) (at_place : slice_get s.children place ≡ Some child) (wanted : child.wanted ≡ true) where
     abbrev Outcome : Next → Type 0
     Outcome next = ChildLives past child p d g merged ⊎ ((q : Pid) × IsEnding past s next p q g merged)
 
     by_down : (ref : Ref) → (q : Pid) → (shutdown : Shutdown) → ((shutdown ≡ Infinity) × EndsLast q shutdown (Waiting ref) s) ⊎ EndsLast q shutdown (Killed ref) s → Holds past s (Wait (Pick.DownOf ref)) p d
         → need_not_wait (Pick.DownOf ref) (phase_of d p) ≡ false → Outcome (Wait (Pick.DownOf ref))
-    by_down ref q shutdown (inl h) holds idle_is = inr (q, is_ending (Wait (Pick.DownOf ref)) holds q shutdown (Waiting ref) ref h.1 refl idle_is refl (λ from. (h.0, trapped_then (Wait (Pick.DownOf ref)) holds q shutdown (Waiting ref) ref h.1 refl idle_is refl from)))
-    by_down ref q shutdown (inr h) holds idle_is = inr (q, is_ending (Wait (Pick.DownOf ref)) holds q shutdown (Killed ref) ref h refl idle_is refl (λ from. killed_then (Wait (Pick.DownOf ref)) holds q shutdown (Killed ref) ref h refl idle_is refl from))
+    by_down ref q shutdown (inl h) holds idle_is = inr (q, is_ending (Wait (Pick.DownOf ref)) holds q shutdown (Waiting ref) ref h.1 refl idle_is refl (λ near from. (h.0, trapped_then (Wait (Pick.DownOf ref)) holds q shutdown (Waiting ref) ref h.1 refl idle_is near refl from)))
+    by_down ref q shutdown (inr h) holds idle_is = inr (q, is_ending (Wait (Pick.DownOf ref)) holds q shutdown (Killed ref) ref h refl idle_is refl (λ near from. killed_then (Wait (Pick.DownOf ref)) holds q shutdown (Killed ref) ref h refl idle_is near refl from))
 
     outcome : (next : Next) → Holds past s next p d → roles c p ≡ Some (b, next) → Outcome next
-    outcome (Wait Pick.Any) holds is = inl (child_lives holds is place child at_place wanted)
+    outcome (Wait Pick.Any) holds is = inl (child_lives settled holds is place child at_place wanted)
     outcome (Wait (Pick.DownOf ref)) holds is = by_down ref holds.waits.0 holds.waits.1 holds.waits.2 holds (idle p (b, Wait (Pick.DownOf ref)) is)
     outcome (Wait (Pick.Kind k)) holds is = absurd holds.waits
     outcome (Wait (Pick.From f)) holds is = absurd holds.waits
@@ -267,7 +263,7 @@ module _ {B : Type 0} (part : PartOf B) (laws : StillLaws) (past : Past) (c : Cr
     outcome (WaitUntil (Pick.DownOf ref) t) holds is =
         let w = holds.waits in
         let none = idle p (b, WaitUntil (Pick.DownOf ref) t) is in
-        inr (w.0, is_ending (WaitUntil (Pick.DownOf ref) t) holds w.0 w.1 (Until ref t) ref w.2 refl none refl (λ from. (tt, trapped_then (WaitUntil (Pick.DownOf ref) t) holds w.0 w.1 (Until ref t) ref w.2 refl none refl from)))
+        inr (w.0, is_ending (WaitUntil (Pick.DownOf ref) t) holds w.0 w.1 (Until ref t) ref w.2 refl none refl (λ near from. (tt, trapped_then (WaitUntil (Pick.DownOf ref) t) holds w.0 w.1 (Until ref t) ref w.2 refl none near refl from)))
     outcome (WaitUntil Pick.Any t) holds is = absurd (let bad : true ≡ false = sym holds.ready ∙ idle p (b, WaitUntil Pick.Any t) is in cc)
     outcome (WaitUntil (Pick.Kind k) t) holds is = absurd holds.waits
     outcome (WaitUntil (Pick.From f) t) holds is = absurd holds.waits
@@ -279,8 +275,8 @@ module _ {B : Type 0} (part : PartOf B) (laws : StillLaws) (past : Past) (c : Cr
 
 module _ {B : Type 0} (part : PartOf B) (laws : StillLaws) where
   pub children_live : QuietChildrenLive part
-  children_live past c d g node still number at upholds idle merged m p b next s is part_is here home place child at_place wanted =
-      outcome part laws past c d g node still number at idle merged m p b s here home place child at_place wanted next
+  children_live past c d g node still number at upholds idle merged m p b next s is part_is here home settled place child at_place wanted =
+      outcome part laws past c d g node still number at idle merged m p b s here home settled place child at_place wanted next
       (holds_of past (part b) s next p d part_is here (upholds.members p (b, next) is).1) is
 
 -- a node with no letter left over is still

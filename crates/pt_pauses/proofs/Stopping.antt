@@ -31,12 +31,13 @@ use Rattle.pt_behaviour.specs.declared.births.Role.{Role}
 use Rattle.pt_behaviour.specs.Upholding.{child_by, children_by}
 use Rattle.pt_crew.specs.Upholding.{StandsStill}
 use Rattle.pt_behaviour.proofs.Cases.{by_cases}
-use Rattle.pt_supervisor.specs.Hearing.{Standing}
-use Rattle.pt_supervisor.specs.Keeping.{tells_end, has_told, WereTold, all_children, all_events, IsPlaced, PartOf, HoldsAs, Keeps}
+use Rattle.pt_children.specs.Hearing.{Standing}
+use Rattle.pt_children.specs.Families.{tells_end, has_told, WereTold, all_events, IsPlaced}
+use Rattle.pt_supervisor.specs.Keeping.{all_children, PartOf, HoldsAs, Keeps}
 use Rattle.pt_pauses.specs.Stopping.{bids_end, has_bidden, IsAllBefore, StoppedChildrenEnded}
-use Rattle.pt_supervisor.proofs.Tying.{or_left, or_right}
-use Rattle.pt_supervisor.proofs.Families.{none_at}
-use Rattle.pt_supervisor.proofs.Telling.{new_told}
+use Rattle.pt_children.proofs.Tying.{or_left, or_right}
+use Rattle.pt_children.proofs.Hearing.{none_at}
+use Rattle.pt_children.proofs.Telling.{new_told}
 use Rattle.pt_pauses.proofs.Before.{desk_told}
 use Rattle.pt_pauses.proofs.Ended.{shows_end, ended_later, ended_told}
 

@@ -16,10 +16,10 @@ use Rattle.pt_events.specs.History.{Past, Start, Phase, unborn, living, ended, a
 use Rattle.pt_events.proofs.Phases.{after_born, after_ended}
 use Rattle.pt_laws.specs.Links.{IsKnownSaid}
 use Rattle.pt_behaviour.proofs.Cases.{by_cases}
-use Rattle.pt_supervisor.specs.Keeping.{bids_to, has_bid_to, is_bid}
+use Rattle.pt_children.specs.Families.{bids_to, has_bid_to, is_bid}
 use Rattle.pt_pauses.specs.Still.{HasTrapped}
 use Rattle.pt_pauses.proofs.Ended.{known_rest}
-use Rattle.pt_supervisor.proofs.Tying.{or_left, or_right, stays_in}
+use Rattle.pt_children.proofs.Tying.{or_left, or_right, stays_in}
 
 bid_is : (r s : Reason) → is_bid r s ≡ true → r ≡ s
 bid_is Shutdown Shutdown h = refl

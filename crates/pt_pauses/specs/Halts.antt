@@ -16,7 +16,7 @@ use Rattle.pt_behaviour.specs.declared.behaviour.Next.TheVariants.{Stop}
 use Rattle.pt_crew.specs.declared.crew.Crew.{Crew}
 use Rattle.pt_crew.specs.Crews.{roles}
 use Rattle.pt_crew.specs.Running.{UpholdsOn, is_idle}
-use Rattle.pt_supervisor.specs.Hearing.{Standing}
+use Rattle.pt_children.specs.Hearing.{Standing}
 use Rattle.pt_supervisor.specs.Keeping.{Keeps, PartOf}
 use Rattle.pt_pauses.specs.Gathering.{AllChildrenLive}
 use Rattle.pt_pauses.specs.Stopping.{StartedEnded}

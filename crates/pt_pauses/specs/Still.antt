@@ -1,7 +1,7 @@
 -- The children of supervisors in a node that is still.
 --
 -- Everywhere here `past` is what happened on a node before the journals of its desks: [] where nothing is known of it.
-use Rattle.std.specs.Prelude.{◌≡◌, ⊤, ℕ, true, List, [], ◌∷◌, ◌++◌, Some}
+use Rattle.std.specs.Prelude.{◌≡◌, ⊤, ℕ, true, false, List, [], ◌∷◌, ◌++◌, Some}
 use Rattle.std.specs.Prelude.{◌⊎◌, ◌<◌, length, slice_get, slice_index_or}
 use Rattle.pt_signal.specs.declared.pid.Pid.{Pid}
 use Rattle.pt_signal.specs.declared.reason.Reason.{Reason}
@@ -24,14 +24,16 @@ use Rattle.pt_behaviour.specs.declared.behaviour.Next.{Next}
 use Rattle.pt_crew.specs.declared.crew.Crew.{Crew}
 use Rattle.pt_crew.specs.Upholding.{Upholds}
 use Rattle.pt_crew.specs.Crews.{roles, IsIdle}
-use Rattle.pt_supervisor.specs.declared.asked.Stage.{Stage}
-use Rattle.pt_supervisor.specs.declared.asked.Stage.TheVariants.{Waiting, Until}
-use Rattle.pt_supervisor.specs.declared.children.Child.{Child}
-use Rattle.pt_supervisor.specs.declared.children.Shutdown.{Shutdown}
+use Rattle.pt_children.specs.declared.asked.Stage.{Stage}
+use Rattle.pt_children.specs.declared.asked.Stage.TheVariants.{Waiting, Until}
+use Rattle.pt_children.specs.declared.children.Child.{Child}
+use Rattle.pt_children.specs.declared.children.Shutdown.{Shutdown}
 use Rattle.pt_supervisor.specs.Ending.{next_at_stage}
-use Rattle.pt_supervisor.specs.Hearing.{Standing}
+use Rattle.pt_children.specs.Hearing.{Standing}
+use Rattle.pt_children.specs.Homes.{is_waiting}
 use Rattle.pt_supervisor.specs.Supervising.{EndsLast}
-use Rattle.pt_supervisor.specs.Keeping.{has_cut, all_events, PartOf, Keeps}
+use Rattle.pt_children.specs.Families.{has_cut, all_events}
+use Rattle.pt_supervisor.specs.Keeping.{PartOf, Keeps}
 
 -- the laws of histories on which the promises on still nodes rest
 pub record StillLaws : Type 0 where
@@ -56,7 +58,7 @@ IsSpared shutdown _ = ⊥
 
 -- The supervisor p ends q, the last of its children that are to end, and waits for that. q lives. It was told to end, and
 -- trapped that, before the journals of the node or since; and it was given no time, or its time has not come. The last
--- two are said of a past that is all that happened, or of none.
+-- two are said of a past that is all that happened, or of none, and of a child of the supervisor's own desk.
 pub record IsEnding (past : Past) (s : Standing) (next : Next) (p q : Pid) (g : GatheredState) (merged : List Stamped)
     : Type 0 where
   pub shutdown : Shutdown
@@ -64,7 +66,7 @@ pub record IsEnding (past : Past) (s : Standing) (next : Next) (p q : Pid) (g : 
   pub last : EndsLast q shutdown stage s
   pub waits : next ≡ next_at_stage stage
   pub lives : alive (begins g) (events merged) q ≡ true
-  pub trapped : GoesOnFrom past g ⊎ (past ≡ [])
+  pub trapped : q.shard ≡ p.shard → GoesOnFrom past g ⊎ (past ≡ [])
       → IsSpared shutdown stage × (HasTrapped (begins g) (events merged) p q ⊎ HasTrapped [] past p q)
 
 -- The child has a process that lives, or took its link with the supervisor p away itself.
@@ -75,12 +77,13 @@ ChildLives past child p d g merged =
 
 -- The desk of the crew is one of the node. In each merge of the node's journals a supervisor of the crew that lives has,
 -- for each child that is to live, a process that lives, or took its link with it away itself; unless it is ending one
--- that traps exits and lives on.
+-- that traps exits and lives on. So it is of a supervisor that does not wait until the program has started a child on
+-- another desk: a supervisor that spawns all its children never does.
 abbrev pub ChildrenLive : {B : Type 0} → Past → PartOf B → Crew B → ShardState → GatheredState → Type 0
 ChildrenLive {B} past part c d g =
     (merged : List Stamped) → IsMerge (journals g) merged → (p : Pid) (b : B) (next : Next) (s : Standing)
     → roles c p ≡ Some (b, next) → part b ≡ Some s → lives d p ≡ true → p.shard ≡ d.number
-    → (place : ℕ) (child : Child) → slice_get s.children place ≡ Some child → child.wanted ≡ true
+    → is_waiting s.children ≡ false → (place : ℕ) (child : Child) → slice_get s.children place ≡ Some child → child.wanted ≡ true
     → ChildLives past child p d g merged ⊎ ((q : Pid) × IsEnding past s next p q g merged)
 
 -- the node is quiet, and links and monitors stand at both ends or at neither

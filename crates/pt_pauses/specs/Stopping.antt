@@ -16,8 +16,9 @@ use Rattle.pt_gathered.specs.Pasts.{GoesOnFrom}
 use Rattle.pt_behaviour.specs.declared.behaviour.Next.TheVariants.{Stop}
 use Rattle.pt_behaviour.specs.declared.births.Role.{Role}
 use Rattle.pt_crew.specs.Upholding.{StandsStill}
-use Rattle.pt_supervisor.specs.Hearing.{Standing}
-use Rattle.pt_supervisor.specs.Keeping.{PartOf, Keeps, was_started, all_events}
+use Rattle.pt_children.specs.Hearing.{Standing}
+use Rattle.pt_supervisor.specs.Keeping.{PartOf, Keeps, was_started}
+use Rattle.pt_children.specs.Families.{all_events}
 
 -- an exit signal that q sent itself came to me, which takes q to have ended then
 abbrev pub bids_end : Pid → Pid → Event → Bool

@@ -1,11 +1,11 @@
 -- What a supervisor of a scheduler makes of a question about its children, and what stays.
-use Rattle.std.proofs.Common.{◌≡◌, inl, inr, ℕ, Bool, true, false, cond, List, [], ◌++◌, append-nil, length, slice_get, Option, Some, None, Result, Ok, Err, refl, sym, ap, subst, ◌∙◌}
+use Rattle.std.proofs.Common.{◌≡◌, inl, inr, ℕ, Bool, true, false, cond, List, [], ◌++◌, append-nil, Option, Some, None, Result, Ok, Err, refl, sym, ap, subst, ◌∙◌}
 use Rattle.std.specs.Prelude.{MatchBool, OnErr, is_ok, is_some}
 use Rattle.std.specs.Option.{option_map}
 use Rattle.pt_signal.specs.declared.pid.Pid.{Pid}
 use Rattle.pt_signal.proofs.Same.{same_pid_refl}
-use Rattle.pt_events.specs.History.{Past, Phase, is_unborn}
-use Rattle.pt_shard.specs.ShardState.{ShardState, phase_of}
+use Rattle.pt_events.specs.History.{Past}
+use Rattle.pt_shard.specs.ShardState.{ShardState}
 use Rattle.pt_desk.proofs.Turning.{extends}
 use Rattle.pt_behaviour.specs.declared.behaviour.Next.{Next}
 use Rattle.pt_crew.specs.Visiting.{AreWith}
@@ -15,28 +15,20 @@ use Rattle.pt_behaviour.specs.Upholding.{AllFirst}
 use Rattle.pt_crew.proofs.Visiting.{rest_then}
 use Rattle.pt_behaviour.proofs.Cases.{same_some}
 use Rattle.pt_crew.proofs.Waking.{there}
-use Rattle.pt_supervisor.specs.declared.asked.Stage.{Stage}
-use Rattle.pt_supervisor.specs.declared.asked.Stage.TheVariants.{Gone, Watched, Waiting, Until, Killed}
-use Rattle.pt_supervisor.specs.declared.child_fault.ChildFault.{ChildFault}
-use Rattle.pt_supervisor.specs.declared.children.Child.{Child}
-use Rattle.pt_supervisor.specs.declared.children.Shutdown.{Shutdown}
-use Rattle.pt_supervisor.specs.declared.children.Shutdown.TheVariants.{Infinity, After, BrutalKill}
-use Rattle.pt_supervisor.specs.declared.seen.ChildState.{ChildState}
-use Rattle.pt_supervisor.specs.declared.seen.ChildState.TheVariants.{Running, Restarting, Undefined}
+use Rattle.pt_children.specs.declared.child_fault.ChildFault.{ChildFault}
 use Rattle.pt_supervisor.specs.declared.supervisor.Supervisor.{Supervisor}
-use Rattle.pt_supervisor.specs.Calling.{AddsAt, DeletesAs, DeletesAt, DeletesChild, DeletesIn, FindsPresent, RestartsAs, RestartsAt, RestartsChild, RestartsIn, TerminatesAt, TerminatesChild, place_of_id}
-use Rattle.pt_supervisor.specs.Changed.{RemembersWhere, due_at, due_for, next_due}
-use Rattle.pt_supervisor.specs.Children.{last_alive}
-use Rattle.pt_supervisor.specs.Ending.{stage_of}
-use Rattle.pt_supervisor.specs.Hearing.{Standing, standing}
-use Rattle.pt_supervisor.specs.Keeping.{HoldsAs, HoldsWhere, IsReady, Keeps}
-use Rattle.pt_supervisor.specs.Seen.{state_of_child}
-use Rattle.pt_supervisor.proofs.Due.{due_proceeds, due_supervises}
+use Rattle.pt_children.specs.Calling.{place_of_id}
+use Rattle.pt_supervisor.specs.Changed.{RemembersWhere, next_due}
+use Rattle.pt_children.specs.Hearing.{Standing}
+use Rattle.pt_supervisor.specs.Hearing.{standing}
+use Rattle.pt_supervisor.specs.Keeping.{HoldsAs, HoldsWhere, Keeps}
+use Rattle.pt_children.proofs.Refusing.{adds_err}
+use Rattle.pt_supervisor.proofs.Due.{asked_holds}
 use Rattle.pt_scheduler.specs.declared.member.Member.{Member}
-use Rattle.pt_scheduler.specs.declared.plan.ChildSpec.{ChildSpec}
+use Rattle.pt_children.specs.declared.spec.ChildSpec.{ChildSpec}
 use Rattle.pt_scheduler.specs.declared.plan.Plan.{Plan}
 use Rattle.pt_scheduler.specs.declared.scheduler.Scheduler.{Scheduler}
-use Rattle.pt_scheduler.specs.Planning.{child_as}
+use Rattle.pt_children.specs.Specifying.{child_as}
 use Rattle.pt_scheduler.specs.Members.{boss_part}
 use Rattle.pt_scheduler.specs.Scheduling.{SchedulerAttends, SchedulerUpholds, new_member}
 use Rattle.pt_scheduler.specs.Taken.{SetsMember, StaysElse}
@@ -46,115 +38,10 @@ use Rattle.pt_scheduler.proofs.Becoming.{both}
 use Rattle.pt_scheduler.proofs.Noting.{attends_then, changed_comes, fresh_is}
 use Rattle.pt_scheduler.proofs.Upheld.{stands_with}
 
--- a refusal changes nothing ------------------------------------------------------------------------
-
-absurd_ok : {A : Type 0} {X : Type 0} (a : A) (f : ChildFault) → ◌≡◌ {A = Result A ChildFault} (Err f) (Ok a) → X
-absurd_ok a f is = absurd (cc)
-
-adds_err : (o : Option ℕ) (c : Child) (s : Standing) (f : ChildFault) (t : Standing) → AddsAt o c s (Err f) t → t ≡ s
-adds_err None c s f t h = h.1
-adds_err (Some place) c s f t h = go (slice_get s.children place) h
-  where
-    go : (x : Option Child) → FindsPresent x s (Err f) t → t ≡ s
-    go None e = absurd e
-    go (Some x) e = e.1
-
 pub starts_err : (spec : ChildSpec) (s : Standing) (result : Result ℕ ChildFault) (t : Standing) → AddsOrNot spec s result t → OnErr result (t ≡ s)
 starts_err spec s (Ok place) t h = tt
 starts_err spec s (Err f) t (inl h) = adds_err (place_of_id (child_as spec).id s.children) (child_as spec) s f t h
 starts_err spec s (Err f) t (inr h) = h.1
-
-pub terminates_err : (id : ℕ) (s : Standing) (result : Result (Unit {0}) ChildFault) (t : Standing) → TerminatesChild id s result t → OnErr result (t ≡ s)
-terminates_err id s (Ok u) t h = tt
-terminates_err id s (Err f) t h = go (place_of_id id s.children) h
-  where
-    go : (o : Option ℕ) → TerminatesAt o s (Err f) t → t ≡ s
-    go None e = e.1
-    go (Some place) e = absurd_ok tt f e.0
-
-pub restarts_err : (id : ℕ) (s : Standing) (result : Result (Unit {0}) ChildFault) (t : Standing) → RestartsChild id s result t → OnErr result (t ≡ s)
-restarts_err id s (Ok u) t h = tt
-restarts_err id s (Err f) t h = go (place_of_id id s.children) h
-  where
-    by_state : (x : ChildState) (place : ℕ) → RestartsAs x place s (Err f) t → t ≡ s
-    by_state (Running p) place e = e.1
-    by_state Restarting place e = e.1
-    by_state Undefined place e = absurd_ok tt f e.0
-
-    in_place : (x : Option Child) (place : ℕ) → RestartsIn x place s (Err f) t → t ≡ s
-    in_place None place e = absurd e
-    in_place (Some c) place e = by_state (state_of_child c.pid c.wanted) place e
-
-    go : (o : Option ℕ) → RestartsAt o s (Err f) t → t ≡ s
-    go None e = e.1
-    go (Some place) e = in_place (slice_get s.children place) place e
-
-pub deletes_err : (id : ℕ) (s : Standing) (result : Result ℕ ChildFault) (t : Standing) → DeletesChild id s result t → OnErr result (t ≡ s)
-deletes_err id s (Ok place) t h = tt
-deletes_err id s (Err f) t h = go (place_of_id id s.children) h
-  where
-    by_state : (x : ChildState) (place : ℕ) → DeletesAs x place s (Err f) t → t ≡ s
-    by_state (Running p) place e = e.1
-    by_state Restarting place e = e.1
-    by_state Undefined place e = absurd_ok place f e.0
-
-    in_place : (x : Option Child) (place : ℕ) → DeletesIn x place s (Err f) t → t ≡ s
-    in_place None place e = absurd e
-    in_place (Some c) place e = by_state (state_of_child c.pid c.wanted) place e
-
-    go : (o : Option ℕ) → DeletesAt o s (Err f) t → t ≡ s
-    go None e = e.1
-    go (Some place) e = in_place (slice_get s.children place) place e
-
--- what a supervisor upholds ------------------------------------------------------------------------
-
--- it takes no item without one to take
-at_ready : (stage : Option Stage) (shutdown : Shutdown) (f : Phase) → IsReady (due_at stage shutdown) f
-at_ready None shutdown f = tt
-at_ready (Some Gone) shutdown f = tt
-at_ready (Some (Watched m)) shutdown f = tt
-at_ready (Some (Waiting m)) Infinity f = tt
-at_ready (Some (Waiting m)) (After time) f = tt
-at_ready (Some (Waiting m)) BrutalKill f = tt
-at_ready (Some (Until m at)) shutdown f = tt
-at_ready (Some (Killed m)) shutdown f = tt
-
-for_ready : (s : Standing) (o : Option (Pid × Shutdown)) (f : Phase) → IsReady (due_for o s) f
-for_ready s None f = tt
-for_ready s (Some (p, shutdown)) f = at_ready (stage_of s.asked p) shutdown f
-
-due_ready : (s : Standing) (f : Phase) → IsReady (next_due s) f
-due_ready s f = for_ready s (last_alive s.children s.ending (length s.children)) f
-
-module _ (past : Past) (s t : Standing) (before : Next) (p : Pid) (d : ShardState) where
-  -- one that was changed so does what is due next
-  due_holds : HoldsWhere s t → RemembersWhere s t → is_unborn (phase_of d p) ≡ false → HoldsAs past (Some s) before p d → HoldsAs past (Some t) (next_due t) p d
-  due_holds holds remembers born h = (
-    λ alive.
-        let was = h.0 alive in
-        let is = holds past before p d (record { remembers = was.remembers; traps = was.traps; family = was.family; asks = was.asks }) in
-        record {
-          waits = due_supervises t;
-          ready = due_ready t (phase_of d p);
-          remembers = is.remembers;
-          traps = elim is.traps [
-            | inl on ↦ inl on
-            | inr none ↦ inr (due_proceeds t none.1, none.1)
-          ];
-          family = is.family;
-          asks = is.asks;
-        },
-    due_supervises t,
-    remembers past p d h.2,
-    λ unborn. absurd (let bad : false ≡ true = sym born ∙ unborn in cc),
-  )
-
-  asked_holds : {A : Type 0} (result : Result A ChildFault) (taken : Bool) → taken ≡ is_ok result → HoldsWhere s t → RemembersWhere s t → OnErr result (t ≡ s) → is_unborn (phase_of d p) ≡ false
-      → HoldsAs past (Some s) before p d → HoldsAs past (Some t) (cond taken (next_due t) before) p d
-  asked_holds (Ok a) taken is holds remembers same born h =
-      subst (λ (b : Bool). HoldsAs past (Some t) (cond b (next_due t) before) p d) (sym is) (due_holds holds remembers born h)
-  asked_holds (Err f) taken is holds remembers same born h =
-      subst (λ (b : Bool). HoldsAs past (Some t) (cond b (next_due t) before) p d) (sym is) (subst (λ (x : Standing). HoldsAs past (Some x) before p d) (sym same) h)
 
 -- it is taken out, asked, and put back -------------------------------------------------------------
 

@@ -16,9 +16,9 @@ use Rattle.pt_behaviour.proofs.Cases.{by_cases}
 use Rattle.pt_crew.proofs.Waking.{elsewhere, there}
 use Rattle.pt_supervisor.specs.declared.supervisor.Supervisor.{Supervisor}
 use Rattle.pt_scheduler.specs.declared.member.Member.{Member}
-use Rattle.pt_scheduler.specs.declared.plan.ChildSpec.{ChildSpec}
+use Rattle.pt_children.specs.declared.spec.ChildSpec.{ChildSpec}
 use Rattle.pt_scheduler.specs.declared.plan.Plan.{Plan}
-use Rattle.pt_scheduler.specs.declared.plan.SupervisorSpec.{SupervisorSpec}
+use Rattle.pt_children.specs.declared.spec.SupervisorSpec.{SupervisorSpec}
 use Rattle.pt_scheduler.specs.declared.scheduler.Scheduler.{Scheduler}
 use Rattle.pt_scheduler.specs.Scheduling.{SchedulerAttends, BecomesBoss, IsNewBoss}
 use Rattle.pt_scheduler.specs.Taken.{SetsBoss, StaysElse}

@@ -32,20 +32,21 @@ use Rattle.pt_crew.proofs.Upholding.{AreGone, all_enter, enter_upholds, one_upho
 use Rattle.pt_behaviour.proofs.Cases.{by_cases, same_some}
 use Rattle.pt_crew.proofs.Waking.{elsewhere, there}
 use Rattle.pt_events.specs.declared.event.Stamped.{Stamped}
-use Rattle.pt_supervisor.specs.declared.children.Child.{Child}
+use Rattle.pt_children.specs.declared.children.Child.{Child}
 use Rattle.pt_supervisor.specs.declared.supervisor.Supervisor.{Supervisor}
-use Rattle.pt_supervisor.specs.Children.{NoneLives}
-use Rattle.pt_supervisor.specs.Hearing.{Standing, standing}
+use Rattle.pt_children.specs.Children.{NoneLives}
+use Rattle.pt_children.specs.Hearing.{Standing}
+use Rattle.pt_supervisor.specs.Hearing.{standing}
 use Rattle.pt_supervisor.specs.Keeping.{ActsAs, AllBegin, AnswerAs, HoldsAs, Keeps, SupervisorBegins}
 use Rattle.pt_supervisor.proofs.Tending.{begins, upheld}
 use Rattle.pt_scheduler.specs.Exits.{exit_in}
 use Rattle.pt_scheduler.specs.declared.member.Member.{Member}
 use Rattle.pt_scheduler.specs.declared.member.Job.{Job}
-use Rattle.pt_scheduler.specs.declared.plan.ChildSpec.{ChildSpec}
+use Rattle.pt_children.specs.declared.spec.ChildSpec.{ChildSpec}
 use Rattle.pt_scheduler.specs.declared.plan.Plan.{Plan}
-use Rattle.pt_scheduler.specs.declared.plan.SupervisorSpec.{SupervisorSpec}
+use Rattle.pt_children.specs.declared.spec.SupervisorSpec.{SupervisorSpec}
 use Rattle.pt_scheduler.specs.declared.scheduler.Scheduler.{Scheduler}
-use Rattle.pt_scheduler.specs.Planning.{child_as}
+use Rattle.pt_children.specs.Specifying.{child_as}
 use Rattle.pt_scheduler.specs.Members.{TellsBy, boss_part, member_answers}
 use Rattle.pt_scheduler.specs.Scheduling.{AreLeftAlone, SameViews, SchedulerAttends, BecomesBoss, IsNewBoss, IsNoBoss, MemberView, NotesLost, SchedulerUpholds, member_view, member_views}
 use Rattle.pt_scheduler.specs.Taken.{DropsLeft, IsAllNoted, KeepsExits, member_role_kept}

@@ -6,20 +6,24 @@ use Rattle.pt_behaviour.specs.declared.behaviour.Next.{Next}
 use Rattle.pt_crew.specs.Visiting.{AreWith}
 use Rattle.pt_crew.specs.Crews.{KeepsRest, queue, roles}
 use Rattle.pt_crew.specs.Stepping.{QueueIsLonger}
-use Rattle.pt_supervisor.specs.declared.child_fault.ChildFault.{ChildFault}
-use Rattle.pt_supervisor.specs.declared.gave_up.GaveUp.{GaveUp}
-use Rattle.pt_supervisor.specs.declared.seen.ChildCounts.{ChildCounts}
+use Rattle.pt_children.specs.declared.child_fault.ChildFault.{ChildFault}
+use Rattle.pt_children.specs.declared.gave_up.GaveUp.{GaveUp}
+use Rattle.pt_children.specs.declared.seen.ChildCounts.{ChildCounts}
 use Rattle.pt_supervisor.specs.declared.supervisor.Supervisor.{Supervisor}
-use Rattle.pt_supervisor.specs.Calling.{AddsChild, DeletesChild, RestartsChild, TerminatesChild}
+use Rattle.pt_shard.specs.declared.fault.Fault.{Fault}
+use Rattle.pt_children.specs.Answering.{AnswersNotStarted, AnswersStarted, AsksProgram}
+use Rattle.pt_children.specs.Calling.{AddsChild, DeletesChild, RestartsChild, TerminatesChild}
 use Rattle.pt_supervisor.specs.Changed.{next_due}
-use Rattle.pt_supervisor.specs.Hearing.{Standing, program_of, standing}
-use Rattle.pt_supervisor.specs.Seen.{children_counted}
+use Rattle.pt_children.specs.Hearing.{Standing}
+use Rattle.pt_supervisor.specs.Hearing.{program_of, standing}
+use Rattle.pt_children.specs.Seen.{children_counted}
 use Rattle.pt_scheduler.specs.declared.member.Member.{Member}
-use Rattle.pt_scheduler.specs.declared.plan.ChildSpec.{ChildSpec}
+use Rattle.pt_children.specs.declared.spec.ChildSpec.{ChildSpec}
 use Rattle.pt_scheduler.specs.declared.plan.Plan.{Plan}
 use Rattle.pt_scheduler.specs.declared.plan.Post.{Post}
 use Rattle.pt_scheduler.specs.declared.scheduler.Scheduler.{Scheduler}
-use Rattle.pt_scheduler.specs.Planning.{child_as, post_as, posts_of}
+use Rattle.pt_children.specs.Specifying.{child_as}
+use Rattle.pt_scheduler.specs.Planning.{post_as, posts_of}
 use Rattle.pt_scheduler.specs.Scheduling.{IsNoBoss, MemberView}
 
 -- what a supervisor makes of it --------------------------------------------------------------
@@ -60,6 +64,17 @@ abbrev pub BossDeletes : ℕ → Supervisor Plan → Result ℕ ChildFault → S
 BossDeletes id old result new =
     DeletesChild id (standing old) result (standing new)
     × (its_posts new ≡ posts_deleted result (its_posts old))
+
+abbrev pub BossAsksProgram : Supervisor Plan → Result ℕ ChildFault → Supervisor Plan → Type 0
+BossAsksProgram old result new = AsksProgram (standing old) result (standing new) × (its_posts new ≡ its_posts old)
+
+abbrev pub BossAnswersStarted : ℕ → Pid → Supervisor Plan → Result (Unit {0}) ChildFault → Supervisor Plan → Type 0
+BossAnswersStarted id p old result new =
+    AnswersStarted id p (standing old) result (standing new) × (its_posts new ≡ its_posts old)
+
+abbrev pub BossAnswersNotStarted : ℕ → Fault → Supervisor Plan → Result (Unit {0}) ChildFault → Supervisor Plan → Type 0
+BossAnswersNotStarted id f old result new =
+    AnswersNotStarted id f (standing old) result (standing new) × (its_posts new ≡ its_posts old)
 
 -- what a scheduler makes of it ---------------------------------------------------------------
 

@@ -11,7 +11,7 @@ use Rattle.pt_behaviour.specs.declared.births.Role.{Role}
 use Rattle.pt_behaviour.specs.Behaving.{Answers}
 use Rattle.pt_crew.specs.Outside.{TellsOf}
 use Rattle.pt_supervisor.specs.declared.supervisor.Supervisor.{Supervisor}
-use Rattle.pt_supervisor.specs.Ending.{child_end_heard}
+use Rattle.pt_children.specs.Ending.{child_end_heard}
 use Rattle.pt_supervisor.specs.Hearing.{program_of, standing}
 use Rattle.pt_supervisor.specs.Supervising.{SupervisorHandles}
 use Rattle.pt_supervisor.specs.Keeping.{AnswerAs, PartOf}

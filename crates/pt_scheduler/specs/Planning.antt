@@ -1,19 +1,16 @@
 -- What a supervisor starts: the tag of each place, and whether a child that was there has exited.
-use Rattle.std.specs.Prelude.{◌≡◌, ℕ, true, false, List, [], map, Option, Some, None, Result, Ok, Err, length, position, slice_get, slice_set}
+use Rattle.std.specs.Prelude.{◌≡◌, ℕ, true, false, List, [], Option, Some, None, Result, Ok, Err, position, slice_get, slice_set}
 use Rattle.pt_signal.specs.declared.pid.Pid.{Pid}
 use Rattle.pt_shard.specs.declared.fault.Fault.{Fault}
 use Rattle.pt_behaviour.specs.declared.behaviour.Next.{Next}
 use Rattle.pt_behaviour.specs.declared.behaviour.Next.TheVariants.{Proceed}
-use Rattle.pt_supervisor.specs.declared.children.Child.{Child}
-use Rattle.pt_supervisor.specs.declared.trial.Trial.TheVariants.{First}
+use Rattle.pt_children.specs.declared.children.Child.{Child}
 use Rattle.pt_signal.specs.Values.{is_pid}
-use Rattle.pt_supervisor.specs.Hearing.{Standing}
 use Rattle.pt_supervisor.specs.Supervising.{StartsOf}
 use Rattle.pt_scheduler.specs.declared.member.Member.{Member}
-use Rattle.pt_scheduler.specs.declared.plan.ChildSpec.{ChildSpec}
+use Rattle.pt_children.specs.declared.spec.ChildSpec.{ChildSpec}
 use Rattle.pt_scheduler.specs.declared.plan.Plan.{Plan}
 use Rattle.pt_scheduler.specs.declared.plan.Post.{Post}
-use Rattle.pt_scheduler.specs.declared.plan.SupervisorSpec.{SupervisorSpec}
 
 -- the places of a supervisor
 abbrev pub posts_of : Plan → List Post
@@ -57,32 +54,5 @@ post_at plan place = slice_get (posts_of plan) place
 abbrev pub starts_post : StartsOf Plan Member
 starts_post old boss place result new = (new ≡ old) × (result ≡ child_of_post boss (post_at old place))
 
--- a new supervisor
-abbrev pub child_as : ChildSpec → Child
-child_as spec = record {
-  pid = None;
-  restart = spec.restart;
-  shutdown = spec.shutdown;
-  wanted = true;
-  id = spec.tag;
-  trial = First;
-}
-
 abbrev pub post_as : ChildSpec → Post
 post_as spec = record { tag = spec.tag; again = false }
-
-abbrev pub begun_as : SupervisorSpec → List ChildSpec → Standing
-begun_as spec children = record {
-  children = map child_as children;
-  strategy = spec.strategy;
-  parent = spec.parent;
-  times = [];
-  most = spec.most;
-  span = spec.span;
-  timed = spec.timed;
-  ending = length (map child_as children);
-  stopping = None;
-  asked = None;
-  started = 0;
-  gave_up = None;
-}

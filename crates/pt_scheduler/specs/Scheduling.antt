@@ -28,20 +28,21 @@ use Rattle.pt_behaviour.specs.Upholding.{IsLeftAlone, ItemIsTaken}
 use Rattle.pt_crew.specs.Upholding.{StandsStill, Upholds}
 use Rattle.pt_crew.specs.Crews.{AreBorn, Attends, Enters, IsSame, KeepsRest, members, queue, roles, time_of, waiting, was_refused}
 use Rattle.pt_crew.specs.Stepping.{QueueIsLonger}
-use Rattle.pt_supervisor.specs.declared.children.Child.{Child}
+use Rattle.pt_children.specs.declared.children.Child.{Child}
 use Rattle.pt_supervisor.specs.declared.supervisor.Supervisor.{Supervisor}
 use Rattle.pt_supervisor.specs.Hearing.{program_of, standing}
 use Rattle.pt_supervisor.specs.Keeping.{Keeps}
 use Rattle.pt_scheduler.specs.declared.member.Member.{Member}
 use Rattle.pt_scheduler.specs.declared.member.What.TheVariants.{Exit}
 use Rattle.pt_scheduler.specs.declared.member.Job.{Job}
-use Rattle.pt_scheduler.specs.declared.plan.ChildSpec.{ChildSpec}
+use Rattle.pt_children.specs.declared.spec.ChildSpec.{ChildSpec}
 use Rattle.pt_scheduler.specs.declared.plan.Origin.{Origin}
 use Rattle.pt_scheduler.specs.declared.plan.Plan.{Plan}
-use Rattle.pt_scheduler.specs.declared.plan.SupervisorSpec.{SupervisorSpec}
+use Rattle.pt_children.specs.declared.spec.SupervisorSpec.{SupervisorSpec}
 use Rattle.pt_scheduler.specs.declared.scheduler.Scheduler.{Scheduler}
 use Rattle.pt_scheduler.specs.Exits.{HasExitsOf, exit_in, exit_reason, reason_kept}
-use Rattle.pt_scheduler.specs.Planning.{begun_as, post_as, posts_of}
+use Rattle.pt_children.specs.Specifying.{begun_as}
+use Rattle.pt_scheduler.specs.Planning.{post_as, posts_of}
 use Rattle.pt_scheduler.specs.Members.{BossHandles, boss_part, what_of}
 
 -- the crew of a scheduler

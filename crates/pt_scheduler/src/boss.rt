@@ -5,21 +5,23 @@ ghost use Rattle.pt_behaviour.specs.Births.{bore, born, kept_roles, time_told};
 ghost use Rattle.pt_behaviour.specs.Behaving.{takes};
 ghost use Rattle.pt_desk.specs.DeskState.{GoesOn};
 ghost use Rattle.pt_signal.specs.Values.{is_pid};
-ghost use Rattle.pt_supervisor.specs.Ending.{child_end_heard};
+ghost use Rattle.pt_children.specs.Ending.{child_end_heard};
 ghost use Rattle.pt_supervisor.specs.Hearing.{program_of, standing};
 ghost use Rattle.pt_supervisor.specs.Changed.{RemembersWhere, next_due};
 ghost use Rattle.pt_supervisor.specs.Keeping.{BearsFrom, HoldsWhere, Tends};
-ghost use Rattle.pt_supervisor.specs.Seen.{children_counted};
+ghost use Rattle.pt_children.specs.Seen.{children_counted};
 ghost use Rattle.pt_supervisor.specs.Supervising.{Supervises};
+ghost use Rattle.pt_scheduler.specs.Asking.{BossAnswersNotStarted, BossAnswersStarted, BossAsksProgram};
 ghost use Rattle.pt_scheduler.specs.Asking.{BossDeletes, BossRestarts, BossStarts, BossTerminates};
 ghost use Rattle.pt_scheduler.specs.Members.{BossHandles};
 ghost use Rattle.pt_scheduler.specs.Planning.{again_at, posts_heard, posts_of, starts_post};
 
 use crate::member::Member;
-use crate::plan::{ChildSpec, Plan, delete_child, mark, start_child};
+use crate::plan::{Plan, delete_child, mark, start_child};
 use pt_behaviour::{Births, Next};
-use pt_supervisor::{Child, ChildCounts, ChildFault, GaveUp, Supervisor};
-use pt_workers::{Desk, Item, Pid};
+use pt_children::{Child, ChildCounts, ChildFault, ChildSpec, GaveUp, place_of};
+use pt_supervisor::Supervisor;
+use pt_workers::{Desk, Fault, Item, Pid};
 use std::alloc::{AllocError, Global};
 use std::boxed::Box;
 use std::marker::Model;
@@ -107,6 +109,33 @@ impl Boss {
         self.supervisor.restart_child(id)
     }
 
+    /// Tells of the child that the program is to start on another desk.
+    pub(crate) fn to_start(&mut self) -> Result<u64, ChildFault>
+        ensures asks { BossAsksProgram self.old result self.new }
+        ensures holds { HoldsWhere (standing self.old) (standing self.new) }
+        ensures remembers { RemembersWhere (standing self.old) (standing self.new) }
+    {
+        self.supervisor.to_start()
+    }
+
+    /// Notes that the program has started a child on another desk.
+    pub(crate) fn child_started(&mut self, id: u64, pid: Pid) -> Result<(), ChildFault>
+        ensures answers { BossAnswersStarted id pid self.old result self.new }
+        ensures holds { HoldsWhere (standing self.old) (standing self.new) }
+        ensures remembers { RemembersWhere (standing self.old) (standing self.new) }
+    {
+        self.supervisor.child_started(id, pid)
+    }
+
+    /// Notes that the program has not started a child on another desk.
+    pub(crate) fn child_not_started(&mut self, id: u64, fault: Fault) -> Result<(), ChildFault>
+        ensures answers { BossAnswersNotStarted id fault self.old result self.new }
+        ensures holds { HoldsWhere (standing self.old) (standing self.new) }
+        ensures remembers { RemembersWhere (standing self.old) (standing self.new) }
+    {
+        self.supervisor.child_not_started(id, fault)
+    }
+
     /// Forgets a child, and its place in the plan.
     pub(crate) fn delete_child(&mut self, id: u64) -> Result<usize, ChildFault>
         ensures deletes { BossDeletes id self.old result self.new }
@@ -154,13 +183,6 @@ fn run(
 {
     heed(boss, item);
     boss.handle(desk, births, me, item)
-}
-
-/// The place of a child by its pid.
-fn place_of(children: &[Child], pid: Pid) -> Option<usize>
-    ensures { result ≡ position (λ c. is_pid c.pid pid) children.now }
-{
-    children.iter().position(|child| child.is_of(pid))
 }
 
 /// Notes that a child of a supervisor has exited, if the process is one.

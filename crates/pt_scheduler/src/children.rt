@@ -6,15 +6,15 @@ ghost use Rattle.pt_shard.specs.ShardState.{ShardState};
 ghost use Rattle.pt_scheduler.specs.Owning.{desk_of};
 ghost use Rattle.pt_scheduler.specs.Scheduling.{SchedulerAttends, SchedulerUpholds, member_views};
 ghost use Rattle.pt_scheduler.specs.Asking.{AsksBoss, BossDeletes, BossRestarts, BossStarts, BossTerminates};
+ghost use Rattle.pt_scheduler.specs.Asking.{BossAnswersNotStarted, BossAnswersStarted, BossAsksProgram};
 ghost use Rattle.pt_scheduler.specs.Asking.{cause_seen, counts_seen};
 ghost use Rattle.pt_scheduler.specs.Out.{PutsBoss, TakesBoss};
 
 use crate::boss::Boss;
 use crate::member::Member;
-use crate::plan::ChildSpec;
 use crate::scheduler::Scheduler;
-use pt_supervisor::{ChildCounts, ChildFault, GaveUp};
-use pt_workers::Pid;
+use pt_children::{ChildCounts, ChildFault, ChildSpec, GaveUp};
+use pt_workers::{Fault, Pid};
 
 impl Scheduler {
     /// How many children a supervisor has, how many of them are alive, and how many are to be started. It is `None` if the
@@ -104,6 +104,65 @@ impl Scheduler {
     {
         let (mut boss, member) = self.take_boss(p)?;
         let result = boss.delete_child(id);
+        self.put_boss(p, boss, member, result.is_ok());
+        Some(result)
+    }
+
+    /// Returns the tag of the child that a supervisor wants started on another desk. The supervisor comes to such a child in
+    /// its turn, and then waits until [`Scheduler::child_started`] or [`Scheduler::child_not_started`] answers.
+    ///
+    /// The program is told of it once, so it asks the supervisors that have such children after each step. The result is
+    /// `NotAwaited` if there is no such child, or the program was told of it, and then nothing has changed. It is `None` if
+    /// the process is no supervisor of these.
+    pub fn child_to_start(&mut self, p: Pid) -> Option<Result<u64, ChildFault>>
+        ensures asks { AsksBoss p (λ r old new. BossAsksProgram old r new) result self.old self.new }
+        ensures attends { (d : ShardState) → SchedulerAttends self.old d → SchedulerAttends self.new d }
+        ensures upholds { (past : Past) (d : ShardState) → SchedulerUpholds past self.old d
+            → SchedulerUpholds past self.new d }
+        ensures desk { desk_of self.new ≡ desk_of self.old }
+    {
+        let (mut boss, member) = self.take_boss(p)?;
+        let result = boss.to_start();
+        self.put_boss(p, boss, member, result.is_ok());
+        Some(result)
+    }
+
+    /// Tells a supervisor that the program has started the child with this id on another desk, as this process.
+    ///
+    /// The supervisor is in the queue then, and links with the process when it runs
+    /// ([`Supervisor::child_started`](pt_supervisor::Supervisor::child_started)). It returns `None` if p is no supervisor of
+    /// these. If the supervisor does not wait for this child, the result is `NotAwaited`, and it is as it was.
+    pub fn child_started(&mut self, p: Pid, id: u64, pid: Pid) -> Option<Result<(), ChildFault>>
+        ensures asks { AsksBoss p (λ r old new. BossAnswersStarted id pid old r new) result self.old self.new }
+        ensures attends { (d : ShardState) → SchedulerAttends self.old d → SchedulerAttends self.new d }
+        ensures upholds { (past : Past) (d : ShardState) → SchedulerUpholds past self.old d
+            → SchedulerUpholds past self.new d }
+        ensures desk { desk_of self.new ≡ desk_of self.old }
+    {
+        let (mut boss, member) = self.take_boss(p)?;
+        let result = boss.child_started(id, pid);
+        self.put_boss(p, boss, member, result.is_ok());
+        Some(result)
+    }
+
+    /// Tells a supervisor that the program has not started the child with this id on another desk, for this reason.
+    ///
+    /// The supervisor is in the queue then, and does what it does after a start that failed. It returns `None` if p is no
+    /// supervisor of these. If the supervisor does not wait for this child, the result is `NotAwaited`, and it is as it was.
+    pub fn child_not_started(
+        &mut self,
+        p: Pid,
+        id: u64,
+        fault: Fault,
+    ) -> Option<Result<(), ChildFault>>
+        ensures asks { AsksBoss p (λ r old new. BossAnswersNotStarted id fault old r new) result self.old self.new }
+        ensures attends { (d : ShardState) → SchedulerAttends self.old d → SchedulerAttends self.new d }
+        ensures upholds { (past : Past) (d : ShardState) → SchedulerUpholds past self.old d
+            → SchedulerUpholds past self.new d }
+        ensures desk { desk_of self.new ≡ desk_of self.old }
+    {
+        let (mut boss, member) = self.take_boss(p)?;
+        let result = boss.child_not_started(id, fault);
         self.put_boss(p, boss, member, result.is_ok());
         Some(result)
     }

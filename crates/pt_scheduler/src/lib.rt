@@ -14,7 +14,8 @@
 //! [`Scheduler::end_step`]. The handlers may run in between, or later: a process that has not been answered is running,
 //! and gets nothing.
 //!
-//! Tests: `checks/tried/test_calls/scheduler.rt.txt`, `checks/tried/test_calls/scheduler_children.rt.txt`.
+//! Tests: `checks/tried/test_calls/scheduler.rt.txt`, `checks/tried/test_calls/scheduler_children.rt.txt` and
+//! `checks/tried/test_calls/scheduler_elsewhere.rt.txt`.
 //!
 //! # What is proved
 //!
@@ -34,6 +35,8 @@
 //! - **Children at run time.** A program asks a supervisor of a scheduler what `Supervisor` may be asked, each call exact and
 //!   with its refusals. The supervisor is in the queue then. (`start_child`, `terminate_child`, `restart_child`,
 //!   `delete_child`)
+//! - **Children on other desks.** A supervisor tells the program once of each child that it is to start on another desk, and
+//!   takes in what the program answers. (`child_to_start`, `child_started`, `child_not_started`)
 //! - **Starts are told.** A child begins with the tag of its place. It is told first that it starts, by which supervisor,
 //!   and whether a child in the same place has exited before. (`starts_post`, `posts_heard`, `what_of`)
 //! - **Exits.** A process that has exited leaves once, supervisors too. A job tells its tag, the reason, and what it was to
@@ -63,5 +66,6 @@ mod scheduler;
 
 pub use boss::Boss;
 pub use member::{Job, Member, Notes, What};
-pub use plan::{ChildSpec, Origin, Plan, Post, SupervisorSpec};
+pub use plan::{Origin, Plan, Post};
+pub use pt_children::{ChildSpec, SupervisorSpec};
 pub use scheduler::Scheduler;

@@ -12,8 +12,9 @@ ghost use Rattle.pt_scheduler.specs.Members.{boss_part, member_answers, member_t
 use crate::boss::Boss;
 use crate::plan::{Origin, Post};
 use pt_behaviour::{Behaviour, Births, Next, Role};
+use pt_children::Child;
 use pt_crew::Outside;
-use pt_supervisor::{Child, Supervised};
+use pt_supervisor::Supervised;
 use pt_workers::{Desk, Item, Pid, Reason};
 
 /// What is told of a process.

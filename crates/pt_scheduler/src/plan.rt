@@ -6,35 +6,16 @@ ghost use Rattle.pt_supervisor.specs.Hearing.{program_of, standing};
 ghost use Rattle.pt_supervisor.specs.Changed.{RemembersWhere};
 ghost use Rattle.pt_supervisor.specs.Keeping.{HoldsWhere};
 ghost use Rattle.pt_scheduler.specs.Asking.{AddsOrNot, BossDeletes, BossStarts, posts_started};
-ghost use Rattle.pt_scheduler.specs.Planning.{begun_as, child_as, post_as, posts_of, starts_post, with_again};
+ghost use Rattle.pt_children.specs.Specifying.{begun_as, child_as};
+ghost use Rattle.pt_scheduler.specs.Planning.{post_as, posts_of, starts_post, with_again};
 
 use crate::boss::Boss;
 use crate::member::Member;
 use pt_behaviour::Next;
-use pt_supervisor::{Child, ChildFault, Limit, Restart, Shutdown, Start, Strategy, Supervisor};
+use pt_children::{Child, ChildFault, ChildSpec, Limit, SupervisorSpec};
+use pt_supervisor::{Start, Supervisor};
 use pt_workers::{Fault, Pid};
 use std::alloc::{AllocError, Global};
-
-/// What a supervisor knows of a child: the tag that it is started with, whether it is started again, and how it is ended.
-#[derive(Clone, Copy, Debug, PartialEq, Eq)]
-pub struct ChildSpec {
-    pub tag: u64,
-    pub restart: Restart,
-    pub shutdown: Shutdown,
-}
-
-/// A supervisor without its children.
-#[derive(Clone, Copy, Debug, PartialEq, Eq)]
-pub struct SupervisorSpec {
-    pub strategy: Strategy,
-    /// The number of restarts that it makes within the span.
-    pub most: usize,
-    pub span: u64,
-    /// Whether the span is one of time, and not of stamps of the desk.
-    pub timed: bool,
-    /// The process with which it exits.
-    pub parent: Option<Pid>,
-}
 
 /// Which supervisor started a process, and whether a child in the same place had exited before.
 #[derive(Clone, Copy, Debug, PartialEq, Eq)]
@@ -167,15 +148,6 @@ pub(crate) fn mark(boss: &mut Supervisor<Plan>, place: usize)
     let _ = boss.replace_start(plan);
 }
 
-/// A child that has not been started.
-fn child_as(spec: ChildSpec) -> Child
-    ensures { result ≡ child_as spec }
-{
-    Child::new(spec.restart)
-        .ended_by(spec.shutdown)
-        .with_id(spec.tag)
-}
-
 /// A supervisor takes in a child behind the others, and a place of its plan.
 pub(crate) fn start_child(boss: &mut Supervisor<Plan>, spec: ChildSpec) -> Result<usize, ChildFault>
     ensures starts { BossStarts spec boss.old result boss.new }
@@ -203,7 +175,7 @@ fn take_in(
     if plan.push(spec.tag).is_err() {
         return Err(ChildFault::Memory);
     }
-    let result = boss.start_child(child_as(spec));
+    let result = boss.start_child(spec.child());
     if result.is_err() {
         plan.remove(last);
     }
@@ -227,7 +199,7 @@ pub(crate) fn delete_child(boss: &mut Supervisor<Plan>, id: u64) -> Result<usize
 fn children_of(alloc: Global, specs: &[ChildSpec]) -> Result<Vec<Child>, AllocError>
     ensures { IfOk result (λ v. v.items ≡ map child_as specs.now) }
 {
-    specs.iter().map(|spec| child_as(*spec)).collect(alloc)
+    specs.iter().map(|spec| spec.child()).collect(alloc)
 }
 
 /// The places of a new supervisor.

@@ -25,11 +25,11 @@ ghost use Rattle.pt_scheduler.specs.Taken.{SetsNotes, StaysElse, TakesMember};
 
 use crate::boss::Boss;
 use crate::member::{Job, Member, Notes, What, job_of_exit};
-use crate::plan::{ChildSpec, SupervisorSpec, supervisor};
+use crate::plan::supervisor;
 use pt_behaviour::Next;
+use pt_children::{Child, ChildSpec, SupervisorSpec};
 use pt_crew::Crew;
 use pt_events::Stamped;
-use pt_supervisor::Child;
 use pt_workers::{Desk, Event, Fault, Loss, Pid, Reason};
 use std::alloc::{AllocError, Global};
 

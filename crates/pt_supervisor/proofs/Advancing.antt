@@ -1,6 +1,6 @@
 -- A supervisor starts the children that are due, and tells to exit those that are to go.
 use Rattle.std.proofs.Common.{◌≡◌, ◌⊎◌, inl, inr, ℕ, zero, suc, ◌-◌, ◌^◌, Bool, true, false, cond, List, [], ◌∷◌, length, slice_get, slice_set, Option, Some, None, is_some, Result, Ok, Err, refl, sym, ap, subst, ◌∙◌}
-use Rattle.std.specs.Prelude.{MatchBool, is_ok, nat_lt}
+use Rattle.std.specs.Prelude.{IfOk, MatchBool, is_ok, nat_lt}
 use Rattle.std.specs.List.{find}
 use Rattle.pt_signal.specs.declared.pid.Pid.{Pid}
 use Rattle.pt_signal.specs.declared.ids.Ref.{Ref}
@@ -22,18 +22,21 @@ use Rattle.pt_behaviour.specs.declared.births.Role.{Role}
 use Rattle.pt_behaviour.specs.Births.{Bore}
 use Rattle.pt_behaviour.specs.declared.call_fault.CallFault.{CallFault}
 use Rattle.pt_behaviour.specs.declared.call_fault.CallFault.TheVariants.{Unknown}
-use Rattle.pt_supervisor.specs.declared.asked.Stage.{Stage}
-use Rattle.pt_supervisor.specs.declared.asked.Stage.TheVariants.{Watched, Waiting, Until, Killed}
-use Rattle.pt_supervisor.specs.declared.asked.Stage.TheVariants as far
-use Rattle.pt_supervisor.specs.declared.children.Child.{Child}
-use Rattle.pt_supervisor.specs.declared.children.Shutdown.{Shutdown}
-use Rattle.pt_supervisor.specs.declared.restart.Strategy.{Strategy}
-use Rattle.pt_supervisor.specs.Trying.{is_startable, unstarted_child}
-use Rattle.pt_supervisor.specs.Ending.{bids, next_behind, next_tried, stage_of, stage_told}
-use Rattle.pt_supervisor.specs.Hearing.{Standing, at_stage}
-use Rattle.pt_supervisor.specs.Supervising.{EndsChild, TellsToEnd, WatchesChild, after_watching, StartsOf, Nursery, BearsAs, TriesAt, StartsAt, StartsOne, StartsFirst, StartsUpTo, SupervisorScene, nursery, settled, SupervisorSettles, AdvancesAs, with_pid, with_one}
-use Rattle.pt_supervisor.specs.Keeping.{IsReady, AreAsked}
-use Rattle.pt_supervisor.proofs.Wanting.{first_rest}
+use Rattle.pt_children.specs.declared.asked.Stage.{Stage}
+use Rattle.pt_children.specs.declared.asked.Stage.TheVariants.{Watched, Waiting, Until, Killed}
+use Rattle.pt_children.specs.declared.asked.Stage.TheVariants as far
+use Rattle.pt_children.specs.declared.children.Child.{Child}
+use Rattle.pt_children.specs.declared.children.Shutdown.{Shutdown}
+use Rattle.pt_children.specs.declared.restart.Strategy.{Strategy}
+use Rattle.pt_children.specs.Trying.{is_startable, unstarted_child}
+use Rattle.pt_children.specs.Homes.{asked_child, is_here}
+use Rattle.pt_children.specs.Ending.{bids, stage_of, stage_told}
+use Rattle.pt_supervisor.specs.Ending.{next_behind, next_tried}
+use Rattle.pt_children.specs.Hearing.{Standing, at_stage}
+use Rattle.pt_supervisor.specs.Supervising.{EndsChild, TellsToEnd, WatchesChild, after_watching, StartsOf, Nursery, BearsAs, SpawnsChildAt, AsksProgramFor, TriesAt, StartsAt, StartsOne, StartsFirst, StartsUpTo, SupervisorScene, nursery, settled, SupervisorSettles, AdvancesAs, with_pid, with_one}
+use Rattle.pt_supervisor.specs.Keeping.{IsReady}
+use Rattle.pt_children.specs.Families.{AreAsked}
+use Rattle.pt_children.proofs.Wanting.{first_rest}
 use Rattle.pt_supervisor.proofs.Starting.{due_missing, missing_bare, unstarted_pid}
 use Rattle.pt_supervisor.proofs.Ending.{ends_ready}
 use Rattle.pt_supervisor.proofs.Changing.{SameLive, same_live, set_live}
@@ -49,7 +52,7 @@ kept_alike past me e xs ys started o p same stop k = record {
   living_is = k.living_is;
   traps = k.traps;
   family = record {
-    born = λ place q is. k.family.born (same.from place) q (same.sub place q is);
+    born = λ place q is own. k.family.born (same.from place) q (same.sub place q is) own;
     apart = λ i j q a b. same.apart i j (k.family.apart (same.from i) (same.from j) q (same.sub i q a) (same.sub j q b));
     held = λ none place q is. k.family.held (stop none) (same.from place) q (same.sub place q is);
   };
@@ -59,9 +62,9 @@ kept_alike past me e xs ys started o p same stop k = record {
   ];
 }
 
-kept_set : (past : Past) (me : Pid) (e : ShardState) (children : List Child) (started place : ℕ) (c v : Child) → slice_get children place ≡ Some c → v.pid ≡ c.pid → Kept past children started None me e
-    → Kept past (slice_set children place v) started None me e
-kept_set past me e children started place c v at pid k = kept_alike past me e children (slice_set children place v) started None None (set_live children place c v at pid) (λ h. h) k
+pub kept_set : (past : Past) (me : Pid) (e : ShardState) (children : List Child) (started place : ℕ) (stopping : Option Reason) (c v : Child) → slice_get children place ≡ Some c → v.pid ≡ c.pid → Kept past children started stopping me e
+    → Kept past (slice_set children place v) started stopping me e
+kept_set past me e children started place stopping c v at pid k = kept_alike past me e children (slice_set children place v) started stopping stopping (set_live children place c v at pid) (λ h. h) k
 
 module _ {B : Type 0} (me : Pid) (b : B) (first : Next) where
   pub not_born : (f : Fault) (d e : ShardState) → BearsChild me true d (Err f) e ⊎ ((f ≡ Memory) × (e ≡ d)) → e ≡ d
@@ -78,11 +81,11 @@ module _ {B : Type 0} (me : Pid) (b : B) (first : Next) where
   bore_goes d e wait waiting (Err f) h = goes_is me d e (not_born f d e h.0)
 
   bore_kept : (past : Past) (d e : ShardState) (wait waiting : List (Role B)) (result : Result Pid Fault) (children : List Child) (started place clock : ℕ) (c : Child) → slice_get children place ≡ Some c → c.pid ≡ None
-      → Bore me true b first d wait result e waiting → Kept past children started None me d → Kept past (with_pid clock place c result children) (with_one result started) None me e
-  bore_kept past d e wait waiting (Ok p) children started place clock c at missing h k =
-      born_kept me p d e (new_link d) h.2 (ap (λ (x : ShardState). x.start) h.0.1.2) (ap (λ (x : ShardState). x.journal) h.0.1.2) past children started (2 ^ 64 - 1) place c at missing k
-  bore_kept past d e wait waiting (Err f) children started place clock c at missing h k =
-      kept_set past me e children started place c (unstarted_child clock f c) at (unstarted_pid clock f c) (kept_is past children started None me d e (not_born f d e h.0) k)
+      → IfOk result (λ p. p.shard ≡ me.shard) → Bore me true b first d wait result e waiting → Kept past children started None me d → Kept past (with_pid clock place c result children) (with_one result started) None me e
+  bore_kept past d e wait waiting (Ok p) children started place clock c at missing near h k =
+      born_kept me p d e (new_link d) h.2 (ap (λ (x : ShardState). x.start) h.0.1.2) (ap (λ (x : ShardState). x.journal) h.0.1.2) past children started (2 ^ 64 - 1) place c at missing near k
+  bore_kept past d e wait waiting (Err f) children started place clock c at missing near h k =
+      kept_set past me e children started place None c (unstarted_child clock f c) at (unstarted_pid clock f c) (kept_is past children started None me d e (not_born f d e h.0) k)
 
 abbrev pub KeptIn : {S B : Type 0} → Past → Pid → Nursery S B → Type 0
 KeptIn past me n = Kept past n.children n.started None me n.desk
@@ -97,19 +100,28 @@ module _ {S B : Type 0} (starts : StartsOf S B) (me : Pid) where
   bears_kept past place c (Err f) old new at missing h k =
       subst (λ (n : ℕ). Kept past new.children n None me new.desk) (sym h.3)
       (subst (λ (xs : List Child). Kept past xs old.started None me new.desk) (sym h.0)
-      (kept_set past me new.desk old.children old.started place c (unstarted_child old.desk.clock f c) at (unstarted_pid old.desk.clock f c) (kept_is past old.children old.started None me old.desk new.desk h.1 k)))
+      (kept_set past me new.desk old.children old.started place None c (unstarted_child old.desk.clock f c) at (unstarted_pid old.desk.clock f c) (kept_is past old.children old.started None me old.desk new.desk h.1 k)))
   bears_kept past place c (Ok (b, first)) old new at missing h k =
       subst (λ (n : ℕ). Kept past new.children n None me new.desk) (sym h.3)
       (subst (λ (xs : List Child). Kept past xs (with_one h.0 old.started) None me new.desk) (sym h.2)
-      (bore_kept me b first past old.desk new.desk old.born new.born h.0 old.children old.started place new.desk.clock c at missing h.1 k))
+      (bore_kept me b first past old.desk new.desk old.born new.born h.0 old.children old.started place new.desk.clock c at missing h.4 h.1 k))
+
+  tries_goes : (here : Bool) (place : ℕ) (c : Child) (old new : Nursery S B) → MatchBool here (SpawnsChildAt starts me place c old new) (AsksProgramFor place c old new) → Goes me old.desk new.desk
+  tries_goes true place c old new h = bears_goes place c h.0 old new h.2
+  tries_goes false place c old new h = goes_is me old.desk new.desk (ap (λ (n : Nursery S B). n.desk) h)
+
+  tries_kept : (past : Past) (here : Bool) (place : ℕ) (c : Child) (old new : Nursery S B) → slice_get old.children place ≡ Some c → c.pid ≡ None → MatchBool here (SpawnsChildAt starts me place c old new) (AsksProgramFor place c old new)
+      → KeptIn past me old → KeptIn past me new
+  tries_kept past true place c old new at missing h k = bears_kept past place c h.0 old new at missing h.2 k
+  tries_kept past false place c old new at missing h k = subst (KeptIn past me) (sym h) (kept_set past me old.desk old.children old.started place None c (asked_child c) at refl k)
 
   due_goes : (due : Bool) (place : ℕ) (c : Child) (old new : Nursery S B) → MatchBool due (TriesAt starts me place c old new) (new ≡ old) → Goes me old.desk new.desk
-  due_goes true place c old new h = bears_goes place c h.0 old new h.2
+  due_goes true place c old new h = tries_goes (is_here c.home) place c old new h
   due_goes false place c old new h = goes_is me old.desk new.desk (ap (λ (n : Nursery S B). n.desk) h)
 
   due_kept : (past : Past) (due : Bool) (place : ℕ) (c : Child) (old new : Nursery S B) → slice_get old.children place ≡ Some c → is_startable c ≡ due → MatchBool due (TriesAt starts me place c old new) (new ≡ old)
       → KeptIn past me old → KeptIn past me new
-  due_kept past true place c old new at due h k = bears_kept past place c h.0 old new at (missing_bare c (due_missing c due)) h.2 k
+  due_kept past true place c old new at due h k = tries_kept past (is_here c.home) place c old new at (missing_bare c (due_missing c due)) h k
   due_kept past false place c old new at due h k = subst (KeptIn past me) (sym h) k
 
   module _ (strategy : Strategy) where

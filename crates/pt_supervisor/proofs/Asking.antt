@@ -29,19 +29,19 @@ use Rattle.pt_behaviour.specs.declared.call_fault.CallFault.TheVariants.{Unknown
 use Rattle.pt_behaviour.specs.Upholding.{IsLater}
 use Rattle.pt_behaviour.proofs.Cases.{by_cases}
 use Rattle.pt_behaviour.proofs.Upholding.{phase_is}
-use Rattle.pt_supervisor.specs.declared.asked.Asked.{Asked}
-use Rattle.pt_supervisor.specs.declared.asked.Stage.{Stage}
-use Rattle.pt_supervisor.specs.declared.asked.Stage.TheVariants.{Gone, Watched, Waiting, Until, Killed}
-use Rattle.pt_supervisor.specs.declared.children.Child.{Child}
-use Rattle.pt_supervisor.specs.declared.children.Shutdown.{Shutdown}
-use Rattle.pt_supervisor.specs.declared.children.Shutdown.TheVariants.{Infinity, After, BrutalKill}
-use Rattle.pt_supervisor.specs.Ending.{bids, gone_at, is_ref, monitor_of, stage_of, stage_told, told_in, unless_by}
-use Rattle.pt_supervisor.specs.Hearing.{Standing, at_stage}
+use Rattle.pt_children.specs.declared.asked.Asked.{Asked}
+use Rattle.pt_children.specs.declared.asked.Stage.{Stage}
+use Rattle.pt_children.specs.declared.asked.Stage.TheVariants.{Gone, Watched, Waiting, Until, Killed}
+use Rattle.pt_children.specs.declared.children.Child.{Child}
+use Rattle.pt_children.specs.declared.children.Shutdown.{Shutdown}
+use Rattle.pt_children.specs.declared.children.Shutdown.TheVariants.{Infinity, After, BrutalKill}
+use Rattle.pt_children.specs.Ending.{bids, gone_at, is_ref, monitor_of, stage_of, stage_told, told_in, unless_by}
+use Rattle.pt_children.specs.Hearing.{Standing, at_stage}
 use Rattle.pt_supervisor.specs.Supervising.{EndsChild, TellsToEnd, after_watching}
-use Rattle.pt_supervisor.specs.Keeping.{AreAsked, IsAsked, IsPlaced, IsWatched, all_events, bids_to, has_bid_to, has_told, is_bid}
+use Rattle.pt_children.specs.Families.{AreAsked, IsAsked, IsPlaced, IsWatched, all_events, bids_to, has_bid_to, has_told, is_bid}
 use Rattle.pt_supervisor.proofs.Ending.{stage_at}
 use Rattle.pt_supervisor.proofs.Families.{ToldAs, WatchedAs, any_later, own_phase, told_as, told_later, watched_as}
-use Rattle.pt_supervisor.proofs.Tying.{more_waits, or_left, or_right}
+use Rattle.pt_children.proofs.Tying.{more_waits, or_left, or_right}
 
 -- a monitor stays open, or its DOWN waits -----------------------------------------------------------
 

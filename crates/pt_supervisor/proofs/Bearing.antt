@@ -10,12 +10,13 @@ use Rattle.pt_behaviour.specs.declared.behaviour.Next.{Next}
 use Rattle.pt_behaviour.specs.declared.births.Role.{Role}
 use Rattle.pt_shard.specs.ShardState.{ShardState}
 use Rattle.pt_behaviour.specs.Births.{Bore, bore}
-use Rattle.pt_supervisor.specs.declared.children.Child.{Child}
-use Rattle.pt_supervisor.specs.declared.children.Shutdown.{Shutdown}
-use Rattle.pt_supervisor.specs.declared.restart.Strategy.{Strategy}
-use Rattle.pt_supervisor.specs.Children.{last_alive}
-use Rattle.pt_supervisor.specs.Trying.{is_startable}
-use Rattle.pt_supervisor.specs.Supervising.{StartsOf, Nursery, BearsAs, TriesAt, StartsAt, StartsOne, StartsFirst, StartsUpTo, SupervisorScene, nursery, SupervisorSettles, AdvancesAs, SupervisorHandles, after_attending}
+use Rattle.pt_children.specs.declared.children.Child.{Child}
+use Rattle.pt_children.specs.declared.children.Shutdown.{Shutdown}
+use Rattle.pt_children.specs.declared.restart.Strategy.{Strategy}
+use Rattle.pt_children.specs.Children.{last_alive}
+use Rattle.pt_children.specs.Homes.{is_here, place_coming}
+use Rattle.pt_children.specs.Trying.{is_startable}
+use Rattle.pt_supervisor.specs.Supervising.{StartsOf, Nursery, BearsAs, SpawnsChildAt, AsksProgramFor, TriesAt, StartsAt, StartsOne, StartsFirst, StartsUpTo, SupervisorScene, nursery, SupervisorSettles, AdvancesAs, SupervisorHandles, GoesForward, after_attending}
 use Rattle.pt_supervisor.specs.Keeping.{AllStarted, AllBegin, SupervisorBegins, BearsFrom, PartOf}
 
 module _ {S B : Type 0} (starts : StartsOf S B) (me : Pid) where
@@ -38,8 +39,12 @@ module _ {S B : Type 0} (starts : StartsOf S B) (me : Pid) where
   bears_from place c (Err f) old new s h = from_none old.born new.born h.2
   bears_from place c (Ok (b, first)) old new s h = bore_from place b first old.start new.start old.desk new.desk old.born new.born h.0 s h.1
 
+  tries_from : (here : Bool) (place : ℕ) (c : Child) (old new : Nursery S B) → MatchBool here (SpawnsChildAt starts me place c old new) (AsksProgramFor place c old new) → BearsFrom starts me old.born new.born
+  tries_from true place c old new h = bears_from place c h.0 old new h.1 h.2
+  tries_from false place c old new h = from_none old.born new.born (ap (λ (n : Nursery S B). n.born) h)
+
   due_from : (due : Bool) (place : ℕ) (c : Child) (old new : Nursery S B) → MatchBool due (TriesAt starts me place c old new) (new ≡ old) → BearsFrom starts me old.born new.born
-  due_from true place c old new h = bears_from place c h.0 old new h.1 h.2
+  due_from true place c old new h = tries_from (is_here c.home) place c old new h
   due_from false place c old new h = from_none old.born new.born (ap (λ (n : Nursery S B). n.born) h)
 
   module _ (strategy : Strategy) where
@@ -66,8 +71,12 @@ module _ {S B : Type 0} (starts : StartsOf S B) (me : Pid) where
   advances_from now (Some (p, shutdown)) old next new h = from_none old.born new.born h.2
   advances_from now None old next new h = settles_from old.standing.stopping old next new h
 
+  forward_from : (now : ℕ) (coming : Option ℕ) (mid : SupervisorScene S B) (next : Next) (new : SupervisorScene S B) → GoesForward starts me now coming mid next new → BearsFrom starts me mid.born new.born
+  forward_from now None mid next new h = advances_from now (last_alive mid.standing.children mid.standing.ending (length mid.standing.children)) mid next new h
+  forward_from now (Some place) mid next new h = from_none mid.born new.born h.2
+
   then_from : (now : ℕ) (answer : Bool) (mid : SupervisorScene S B) (next : Next) (new : SupervisorScene S B) → after_attending starts me now answer mid next new → BearsFrom starts me mid.born new.born
-  then_from now true mid next new h = advances_from now (last_alive mid.standing.children mid.standing.ending (length mid.standing.children)) mid next new h
+  then_from now true mid next new h = forward_from now (place_coming mid.standing.children) mid next new h
   then_from now false mid next new h = from_none mid.born new.born (ap (λ (x : SupervisorScene S B). x.born) h.1)
 
   pub handles_bear : (time : ℕ) (item : Option Item) (old : SupervisorScene S B) (next : Next) (new : SupervisorScene S B) → SupervisorHandles starts me time item old next new → BearsFrom starts me old.born new.born

@@ -1,20 +1,22 @@
 -- What a program asks of a supervisor about its children keeps what the supervisor upholds of them.
-use Rattle.std.proofs.Common.{◌≡◌, inl, inr, ℕ, zero, suc, Bool, true, List, [], ◌∷◌, ◌++◌, slice_get, slice_set, Option, Some, None, refl, sym, ap, subst, ◌∙◌, arith}
+use Rattle.std.proofs.Common.{◌≡◌, inl, inr, ℕ, zero, suc, ◌||◌, Bool, true, List, [], ◌∷◌, ◌++◌, slice_get, slice_set, Option, Some, None, refl, sym, ap, subst, ◌∙◌, arith}
 use Rattle.std.specs.Prelude.{remove}
 use Rattle.std.proofs.lemmas.Bool.{cases_eq}
 use Rattle.pt_signal.specs.declared.pid.Pid.{Pid}
-use Rattle.pt_supervisor.specs.declared.children.Child.{Child}
-use Rattle.pt_supervisor.specs.declared.seen.ChildState.TheVariants.{Undefined}
-use Rattle.pt_supervisor.specs.Children.{NoneLives}
+use Rattle.pt_children.specs.declared.children.Child.{Child}
+use Rattle.pt_children.specs.declared.seen.ChildState.TheVariants.{Undefined}
+use Rattle.pt_children.specs.Children.{NoneLives}
 use Rattle.pt_signal.specs.declared.reason.Reason.{Reason}
-use Rattle.pt_supervisor.specs.declared.trial.Trial.TheVariants.{Again, Asked}
-use Rattle.pt_supervisor.specs.Hearing.{Standing, started_again, to_try, tried_again, tried_child, tried_where}
-use Rattle.pt_supervisor.specs.Keeping.{HoldsChildren, HoldsWhere, IsPlaced, Remembers, child_at, pid_of_child, was_started}
+use Rattle.pt_children.specs.declared.trial.Trial.TheVariants.{Again, Asked}
+use Rattle.pt_children.specs.Hearing.{Standing, started_again, to_try, tried_again, tried_child, tried_where}
+use Rattle.pt_supervisor.specs.Keeping.{HoldsChildren, HoldsWhere, Remembers, was_started}
+use Rattle.pt_children.specs.Families.{IsPlaced, child_at, pid_of_child}
 use Rattle.pt_supervisor.specs.Changed.{RemembersWhere}
-use Rattle.pt_supervisor.specs.Calling.{wanted_in, with_last_child, with_wanted, without_child}
-use Rattle.pt_supervisor.specs.Seen.{state_of_child}
-use Rattle.pt_supervisor.proofs.Wanting.{again_asked, again_count, again_get, again_kept}
-use Rattle.pt_supervisor.proofs.Families.{again_stop, child_is, none_at, set_at, set_beside, set_same_at}
+use Rattle.pt_children.specs.Calling.{wanted_in, with_last_child, with_wanted, without_child}
+use Rattle.pt_children.specs.Homes.{is_abroad}
+use Rattle.pt_children.specs.Seen.{child_state, state_of_child}
+use Rattle.pt_children.proofs.Wanting.{again_asked, again_count, again_get, again_kept}
+use Rattle.pt_children.proofs.Hearing.{again_stop, child_is, none_at, set_at, set_beside, set_same_at}
 
 -- the same children live, each in one place
 pub record SameLive (old new : List Child) : Type 0 where
@@ -46,7 +48,7 @@ holds_where s t same stopping asked started past next me d h = record {
     | inr none ↦ inr (none.0, none_as s.children t.children same none.1)
   ];
   family = record {
-    born = λ place q is. h.family.born (same.from place) q (same.sub place q is);
+    born = λ place q is own. h.family.born (same.from place) q (same.sub place q is) own;
     apart = λ i j q a b. same.apart i j (h.family.apart (same.from i) (same.from j) q (same.sub i q a) (same.sub j q b));
     held = λ none place q is. h.family.held (sym stopping ∙ none) (same.from place) q (same.sub place q is);
   };
@@ -141,6 +143,15 @@ pub with_wanted_remembers : (wanted : Bool) (place : ℕ) (s t : Standing) → t
 with_wanted_remembers wanted place s t is =
     subst (RemembersWhere s) (sym is) (remembers_where s (with_wanted wanted place s) (wanted_live wanted place (slice_get s.children place) s.children refl) refl)
 
+-- an answer of the program about a child, which has the same process
+pub set_holds : (place : ℕ) (c v : Child) (s t : Standing) → slice_get s.children place ≡ Some c → v.pid ≡ c.pid → t ≡ record s { children = slice_set s.children place v } → HoldsWhere s t
+set_holds place c v s t at pid is =
+    subst (HoldsWhere s) (sym is) (holds_where s (record s { children = slice_set s.children place v }) (set_live s.children place c v at pid) refl refl refl)
+
+pub set_remembers : (place : ℕ) (c v : Child) (s t : Standing) → slice_get s.children place ≡ Some c → v.pid ≡ c.pid → t ≡ record s { children = slice_set s.children place v } → RemembersWhere s t
+set_remembers place c v s t at pid is =
+    subst (RemembersWhere s) (sym is) (remembers_where s (record s { children = slice_set s.children place v }) (set_live s.children place c v at pid) refl)
+
 -- one more child ---------------------------------------------------------------------------------------------------
 
 more_sub : (xs : List Child) (c : Child) (j : ℕ) (q : Pid) → c.pid ≡ None → child_at (xs ++ c ∷ []) j ≡ Some q → child_at xs j ≡ Some q
@@ -202,10 +213,10 @@ undefined_is : (pid : Option Pid) (wanted : Bool) → state_of_child pid wanted 
 undefined_is None wanted is = refl
 undefined_is (Some p) wanted is = absurd (cc)
 
-pub less_holds : (place : ℕ) (c : Child) (s t : Standing) → slice_get s.children place ≡ Some c → state_of_child c.pid c.wanted ≡ Undefined → t ≡ without_child place s → HoldsWhere s t
+pub less_holds : (place : ℕ) (c : Child) (s t : Standing) → slice_get s.children place ≡ Some c → child_state c ≡ Undefined → t ≡ without_child place s → HoldsWhere s t
 less_holds place c s t at none is =
-    subst (HoldsWhere s) (sym is) (holds_where s (without_child place s) (less_live s.children place (ap pid_of_child at ∙ undefined_is c.pid c.wanted none)) refl refl refl)
+    subst (HoldsWhere s) (sym is) (holds_where s (without_child place s) (less_live s.children place (ap pid_of_child at ∙ undefined_is c.pid (c.wanted || is_abroad c.home) none)) refl refl refl)
 
-pub less_remembers : (place : ℕ) (c : Child) (s t : Standing) → slice_get s.children place ≡ Some c → state_of_child c.pid c.wanted ≡ Undefined → t ≡ without_child place s → RemembersWhere s t
+pub less_remembers : (place : ℕ) (c : Child) (s t : Standing) → slice_get s.children place ≡ Some c → child_state c ≡ Undefined → t ≡ without_child place s → RemembersWhere s t
 less_remembers place c s t at none is =
-    subst (RemembersWhere s) (sym is) (remembers_where s (without_child place s) (less_live s.children place (ap pid_of_child at ∙ undefined_is c.pid c.wanted none)) refl)
+    subst (RemembersWhere s) (sym is) (remembers_where s (without_child place s) (less_live s.children place (ap pid_of_child at ∙ undefined_is c.pid (c.wanted || is_abroad c.home) none)) refl)

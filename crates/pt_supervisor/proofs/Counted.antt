@@ -22,20 +22,23 @@ use Rattle.pt_behaviour.specs.declared.call_fault.CallFault.{CallFault}
 use Rattle.pt_behaviour.specs.declared.call_fault.CallFault.TheVariants.{Unknown}
 use Rattle.pt_behaviour.specs.Births.{Bore}
 use Rattle.pt_behaviour.specs.Upholding.{children_by}
-use Rattle.pt_supervisor.specs.declared.asked.Stage.{Stage}
-use Rattle.pt_supervisor.specs.declared.asked.Stage.TheVariants.{Watched, Waiting, Until, Killed}
-use Rattle.pt_supervisor.specs.declared.asked.Stage.TheVariants as far
-use Rattle.pt_supervisor.specs.declared.children.Child.{Child}
-use Rattle.pt_supervisor.specs.declared.children.Shutdown.{Shutdown}
-use Rattle.pt_supervisor.specs.declared.restart.Strategy.{Strategy}
-use Rattle.pt_supervisor.specs.Children.{last_alive}
-use Rattle.pt_supervisor.specs.Trying.{is_startable}
-use Rattle.pt_supervisor.specs.Ending.{bids, gone_in, stage_of, stage_told}
-use Rattle.pt_supervisor.specs.Hearing.{Standing, at_stage, monitor_closed, gone_heard, gone_on, heard, heard_gone}
-use Rattle.pt_supervisor.specs.Limits.{moment}
-use Rattle.pt_supervisor.specs.Supervising.{CountsBirths, counted_with, EndsChild, TellsToEnd, WatchesChild, after_watching, StartsOf, Nursery, BearsAs, TriesAt, StartsAt, StartsOne, StartsFirst, StartsUpTo, SupervisorScene, nursery, SupervisorSettles, AdvancesAs, SupervisorAttends, SupervisorHandles, with_one, after_attending}
-use Rattle.pt_supervisor.proofs.Families.{ToldAs, WatchedAs, heard_count, told_as, watched_as}
+use Rattle.pt_children.specs.declared.asked.Stage.{Stage}
+use Rattle.pt_children.specs.declared.asked.Stage.TheVariants.{Watched, Waiting, Until, Killed}
+use Rattle.pt_children.specs.declared.asked.Stage.TheVariants as far
+use Rattle.pt_children.specs.declared.children.Child.{Child}
+use Rattle.pt_children.specs.declared.children.Shutdown.{Shutdown}
+use Rattle.pt_children.specs.declared.restart.Strategy.{Strategy}
+use Rattle.pt_children.specs.Children.{last_alive}
+use Rattle.pt_children.specs.Homes.{is_here, place_coming}
+use Rattle.pt_children.specs.Trying.{is_startable}
+use Rattle.pt_children.specs.Ending.{bids, gone_in, stage_of, stage_told}
+use Rattle.pt_children.specs.Hearing.{Standing, at_stage, monitor_closed, gone_heard, gone_on, heard, heard_gone}
+use Rattle.pt_children.specs.Limits.{moment}
+use Rattle.pt_supervisor.specs.Supervising.{CountsBirths, counted_with, EndsChild, TellsToEnd, WatchesChild, after_watching, StartsOf, Nursery, BearsAs, SpawnsChildAt, AsksProgramFor, TriesAt, StartsAt, StartsOne, StartsFirst, StartsUpTo, SupervisorScene, nursery, SupervisorSettles, AdvancesAs, SupervisorAttends, SupervisorHandles, with_one, GoesForward, after_attending}
+use Rattle.pt_supervisor.proofs.Families.{ToldAs, told_as, watched_as, watched_bare}
+use Rattle.pt_children.proofs.Hearing.{heard_count}
 use Rattle.pt_supervisor.proofs.Changing.{again_same}
+use Rattle.pt_supervisor.proofs.Joining.{meets_bare}
 use Rattle.pt_supervisor.proofs.Advancing.{ends_rest, not_born}
 
 more_then : (xs ys : List Pid) (n : ℕ) → counted_with (xs ++ ys) n ≡ counted_with xs (counted_with ys n)
@@ -79,8 +82,12 @@ module _ (me : Pid) where
     bears_counts place c (Ok (b, first)) old new h =
         subst (λ (n : ℕ). CountsBirths me old.started old.desk n new.desk) (sym h.3) (bore_counts b first old.desk new.desk old.born new.born h.0 old.started h.1)
 
+    tries_counts : (here : Bool) (place : ℕ) (c : Child) (old new : Nursery S B) → MatchBool here (SpawnsChildAt starts me place c old new) (AsksProgramFor place c old new) → Counts old new
+    tries_counts true place c old new h = bears_counts place c h.0 old new h.2
+    tries_counts false place c old new h = counts_is old.started old.desk new.started new.desk (ap (λ (n : Nursery S B). n.desk) h) (ap (λ (n : Nursery S B). n.started) h)
+
     due_counts : (due : Bool) (place : ℕ) (c : Child) (old new : Nursery S B) → MatchBool due (TriesAt starts me place c old new) (new ≡ old) → Counts old new
-    due_counts true place c old new h = bears_counts place c h.0 old new h.2
+    due_counts true place c old new h = tries_counts (is_here c.home) place c old new h
     due_counts false place c old new h = same_counts old new h
 
     module _ (strategy : Strategy) where
@@ -106,16 +113,6 @@ module _ (me : Pid) where
     told_bare reason d e (Ok x) h = ap (λ (f : ShardState). children_by me f.journal) h
     told_bare reason d e (Err f) h = ap (λ (f : ShardState). children_by me f.journal) h
 
-    watched_bare : (d e : ShardState) (result : Result Ref CallFault) → WatchedAs me p d e result → children_by me e.journal ≡ children_by me d.journal
-    watched_bare d e (Ok m) h = ap (λ (f : ShardState). children_by me f.journal) h
-    watched_bare d e (Err (CallFault.Refused NoProc)) h = ap (λ (f : ShardState). children_by me f.journal) h.1
-    watched_bare d e (Err (CallFault.Refused Gone)) h = ap (λ (f : ShardState). children_by me f.journal) h
-    watched_bare d e (Err (CallFault.Refused Worn)) h = ap (λ (f : ShardState). children_by me f.journal) h
-    watched_bare d e (Err (CallFault.Refused Memory)) h = ap (λ (f : ShardState). children_by me f.journal) h
-    watched_bare d e (Err (CallFault.Refused Full)) h = ap (λ (f : ShardState). children_by me f.journal) h
-    watched_bare d e (Err (CallFault.Refused Myself)) h = ap (λ (f : ShardState). children_by me f.journal) h
-    watched_bare d e (Err Unknown) h = ap (λ (f : ShardState). children_by me f.journal) h
-
     tells_bare : (reason : Reason) (stage : Stage) (s : Standing) (d : DeskState) (next : Next) (t : Standing) (e : DeskState) → TellsToEnd me p reason stage s d next t e → children_by me e.shard.journal ≡ children_by me d.shard.journal
     tells_bare reason stage s d next t e h = told_bare reason d.shard e.shard h.result (told_as me p reason (knows d.shard p) d e h.result h.signal)
 
@@ -137,7 +134,7 @@ module _ (me : Pid) where
       Bare = children_by me e.shard.journal ≡ children_by me d.shard.journal
 
       watches_bare : WatchesChild me now p shutdown s d next t e → Bare
-      watches_bare h = after_bare now shutdown h.result s h.mid next t e h.goes ∙ watched_bare d.shard h.mid.shard h.result (watched_as me p (knows d.shard p) d h.mid h.result h.monitor)
+      watches_bare h = after_bare now shutdown h.result s h.mid next t e h.goes ∙ watched_bare me p d.shard h.mid.shard h.result (watched_as me p (knows d.shard p) d h.mid h.result h.monitor)
 
       over_bare : (early : Bool) (m : Ref) (at : ℕ) → MatchBool early ((next ≡ WaitUntil (Pick.DownOf m) at) × (t ≡ s) × (e ≡ d)) (TellsToEnd me p Reason.Kill (Killed m) s d next t e) → Bare
       over_bare true m at h = same_bare d e h.2
@@ -204,8 +201,14 @@ module _ (me : Pid) where
         (ap (λ (x : Standing). x.started) (ends_rest starts me now p shutdown old.standing old.desk next new.standing new.desk (stage_of old.standing.asked p) h.0))
     advances_counts now None old next new h = settles_counts old.standing.stopping old next new h
 
+    forward_counts : (now : ℕ) (coming : Option ℕ) (mid : SupervisorScene S B) (next : Next) (new : SupervisorScene S B) → GoesForward starts me now coming mid next new → SceneCounts mid new
+    forward_counts now None mid next new h = advances_counts now (last_alive mid.standing.children mid.standing.ending (length mid.standing.children)) mid next new h
+    forward_counts now (Some place) mid next new h =
+        let both = meets_bare me place (slice_get mid.standing.children place) mid.standing mid.desk next new.standing new.desk h.0 in
+        counts_none mid.standing.started mid.desk.shard new.standing.started new.desk.shard both.0 both.1
+
     then_counts : (now : ℕ) (answer : Bool) (mid : SupervisorScene S B) (next : Next) (new : SupervisorScene S B) → after_attending starts me now answer mid next new → SceneCounts mid new
-    then_counts now true mid next new h = advances_counts now (last_alive mid.standing.children mid.standing.ending (length mid.standing.children)) mid next new h
+    then_counts now true mid next new h = forward_counts now (place_coming mid.standing.children) mid next new h
     then_counts now false mid next new h = scene_same mid new h.1
 
     pub handles_count : (time : ℕ) (item : Option Item) (old : SupervisorScene S B) (next : Next) (new : SupervisorScene S B) → SupervisorHandles starts me time item old next new → SceneCounts old new

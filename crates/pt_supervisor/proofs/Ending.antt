@@ -14,14 +14,15 @@ use Rattle.pt_behaviour.specs.declared.behaviour.Next.TheVariants.{WaitUntil, Pr
 use Rattle.pt_behaviour.specs.declared.call_fault.CallFault.{CallFault}
 use Rattle.pt_behaviour.specs.declared.call_fault.CallFault.TheVariants.{Unknown}
 use Rattle.pt_behaviour.proofs.Cases.{by_cases}
-use Rattle.pt_supervisor.specs.declared.asked.Asked.{Asked}
-use Rattle.pt_supervisor.specs.declared.asked.Stage.{Stage}
-use Rattle.pt_supervisor.specs.declared.asked.Stage.TheVariants.{Gone, Watched, Waiting, Until, Killed}
-use Rattle.pt_supervisor.specs.declared.children.Shutdown.{Shutdown}
-use Rattle.pt_supervisor.specs.declared.children.Shutdown.TheVariants.{Infinity, After, BrutalKill}
-use Rattle.pt_supervisor.specs.Children.{last_alive}
-use Rattle.pt_supervisor.specs.Ending.{bids, stage_of, stage_told, next_at_stage}
-use Rattle.pt_supervisor.specs.Hearing.{Standing, at_stage}
+use Rattle.pt_children.specs.declared.asked.Asked.{Asked}
+use Rattle.pt_children.specs.declared.asked.Stage.{Stage}
+use Rattle.pt_children.specs.declared.asked.Stage.TheVariants.{Gone, Watched, Waiting, Until, Killed}
+use Rattle.pt_children.specs.declared.children.Shutdown.{Shutdown}
+use Rattle.pt_children.specs.declared.children.Shutdown.TheVariants.{Infinity, After, BrutalKill}
+use Rattle.pt_children.specs.Children.{last_alive}
+use Rattle.pt_children.specs.Ending.{bids, stage_of, stage_told}
+use Rattle.pt_supervisor.specs.Ending.{next_at_stage}
+use Rattle.pt_children.specs.Hearing.{Standing, at_stage}
 use Rattle.pt_events.specs.History.{Phase}
 use Rattle.pt_supervisor.specs.Supervising.{EndsChild, Supervises, TellsToEnd, after_watching}
 use Rattle.pt_supervisor.specs.Keeping.{IsReady}

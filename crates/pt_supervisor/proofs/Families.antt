@@ -1,14 +1,11 @@
 -- What a supervisor does keeps its children held.
-use Rattle.std.proofs.Common.{◌≡◌, ◌⊎◌, inl, inr, ℕ, ◌<◌, ◌≤◌, ◌+◌, min, Bool, true, false, cond, ◌||◌, ◌&&◌, not, List, [], ◌∷◌, ◌++◌, take, length, slice_get, slice_set, get_or, Option, Some, None, Result, Ok, Err, is_some, append_assoc, refl, sym, ap, subst, ◌∙◌, arith}
-use Rattle.std.specs.Prelude.{nat_lt, nat_le, position, max, MatchOption}
+use Rattle.std.proofs.Common.{◌≡◌, ◌⊎◌, inl, inr, ℕ, ◌+◌, min, Bool, true, false, cond, ◌||◌, List, [], ◌∷◌, ◌++◌, take, slice_get, slice_set, Option, Some, None, Result, Ok, Err, is_some, append_assoc, refl, sym, ap, subst, ◌∙◌}
+use Rattle.std.specs.Prelude.{max, MatchOption}
 use Rattle.std.specs.Result.{IsErrAnd}
 use Rattle.std.proofs.lemmas.Bool.{cases_eq}
-use Rattle.std.proofs.lemmas.Option.{slice_get_within, slice_get-get_or, get_or_from_slice_get}
 use Rattle.std.proofs.lemmas.List.{map-append}
 use Rattle.std.proofs.lemmas.List.Folds.{list_any-append}
-use Rattle.std.proofs.lemmas.List.Quantifiers.{position-Some}
-use Rattle.std.proofs.lemmas.List.Sums.{fails_before_first}
-use Rattle.std.specs.List.{flat_map, list_any, position_or_len}
+use Rattle.std.specs.List.{flat_map, list_any}
 use Rattle.pt_signal.specs.declared.pid.Pid.{Pid}
 use Rattle.pt_signal.specs.declared.ids.LinkId.{LinkId}
 use Rattle.pt_signal.specs.declared.ids.Ref.{Ref}
@@ -16,7 +13,7 @@ use Rattle.pt_signal.specs.declared.item.Item.{Item}
 use Rattle.pt_signal.specs.declared.reason.Reason.{Reason}
 use Rattle.pt_signal.specs.declared.signal.Signal.{Signal}
 use Rattle.pt_signal.specs.declared.signal.Signal.TheVariants.{Monitor}
-use Rattle.pt_signal.specs.Values.{same_pid, is_pid}
+use Rattle.pt_signal.specs.Values.{same_pid}
 use Rattle.pt_signal.specs.Process.{ProcessState, enter, say}
 use Rattle.pt_signal.proofs.Same.{same_pid_refl, same_pid_is}
 use Rattle.pt_events.specs.declared.event.Event.{Event}
@@ -37,204 +34,14 @@ use Rattle.pt_behaviour.specs.Telling.{IfKnown, call_answered}
 use Rattle.pt_behaviour.specs.Upholding.{IsLater, ActsFor, child_by, children_by}
 use Rattle.pt_behaviour.proofs.Cases.{by_cases}
 use Rattle.pt_behaviour.proofs.Upholding.{later_is, later_same, later_then, later_after, born_then, phase_same, phase_is, alone_is, alone_then, alone_event, acts_is, acts_then, same_pid_sym, living_born}
-use Rattle.pt_supervisor.specs.declared.children.Child.{Child}
-use Rattle.pt_supervisor.specs.Children.{NoneLives}
-use Rattle.pt_supervisor.specs.Trying.{started_child}
-use Rattle.pt_supervisor.specs.Hearing.{Standing, gone, heard, heard_at, lost, restarted_child, started_again, stopped, wanted_again}
-use Rattle.pt_supervisor.specs.Limits.{allows}
-use Rattle.pt_supervisor.specs.Keeping.{pid_of_child, child_at, is_end_of, is_cut, has_cut, all_events, IsTied, IsHeld, Family, tells_end, has_told, WereTold, all_children, was_started, IsPlaced, Remembers}
-use Rattle.pt_supervisor.proofs.Wanting.{set_same, set_other, set_keeps, again_get, again_kept, again_asked, again_count}
-use Rattle.pt_supervisor.proofs.Telling.{one_taken}
-use Rattle.pt_supervisor.proofs.Tying.{or_right, entered_tied}
-
--- children in their places ---------------------------------------------------------------------
-
-child_in : (o : Option Child) (q : Pid) → pid_of_child o ≡ Some q → (c : Child) × (o ≡ Some c) × (c.pid ≡ Some q)
-child_in None q is = absurd (cc)
-child_in (Some c) q is = (c, refl, is)
-
-pub child_is : (children : List Child) (place : ℕ) (q : Pid) → child_at children place ≡ Some q → (c : Child) × (slice_get children place ≡ Some c) × (c.pid ≡ Some q)
-child_is children place q is = child_in (slice_get children place) q is
-
-pub none_at : (children : List Child) (place : ℕ) (q : Pid) → NoneLives children → child_at children place ≡ Some q → ⊥
-none_at children place q none is =
-    let c = child_is children place q is in
-    let bad : None ≡ Some q = sym (none place c.0 c.1) ∙ c.2 in absurd (cc)
-
-pub set_at : (children : List Child) (place : ℕ) (c v : Child) → slice_get children place ≡ Some c → child_at (slice_set children place v) place ≡ v.pid
-set_at children place c v at = ap pid_of_child (set_same children place v (slice_get_within children place c at))
-
-pub set_beside : (children : List Child) (place j : ℕ) (v : Child) (q : Pid) → (j ≡ place → ⊥) → child_at (slice_set children place v) j ≡ Some q → child_at children j ≡ Some q
-set_beside children place j v q apart is =
-    let x = child_is (slice_set children place v) j q is in
-    ap pid_of_child (set_other children place j v x.0 apart x.1) ∙ x.2
-
-pub set_same_at : (children : List Child) (place j : ℕ) (v : Child) (q : Pid) → (j ≡ place → ⊥) → child_at children j ≡ Some q → child_at (slice_set children place v) j ≡ Some q
-set_same_at children place j v q apart is =
-    let x = child_is children j q is in
-    ap pid_of_child (set_keeps children place j v x.0 apart x.1) ∙ x.2
-
--- what is left of the children after an item -----------------------------------------------------
-
-pub record Less (item : Item) (old new : Standing) : Type 0 where
-  pub sub : (j : ℕ) (q : Pid) → child_at new.children j ≡ Some q → child_at old.children j ≡ Some q
-  pub stop : new.stopping ≡ None → old.stopping ≡ None
-  pub out : new.stopping ≡ None → (j : ℕ) (q : Pid) → child_at new.children j ≡ Some q → is_end_of q item ≡ false
-  -- whoever loses its place is the one of whose end the item tells
-  pub kept : (j : ℕ) (q : Pid) → child_at old.children j ≡ Some q → (child_at new.children j ≡ Some q) ⊎ (is_end_of q item ≡ true)
-  pub count : new.started ≡ old.started
-
-restarted_stop : (allowed : Bool) (now place id : ℕ) (reason : Reason) (s : Standing) → (restarted_child allowed now place id reason s).stopping ≡ None → s.stopping ≡ None
-restarted_stop true now place id reason s h = h
-restarted_stop false now place id reason s h = absurd (cc)
-
-pub again_stop : (again : Bool) (now place id : ℕ) (reason : Reason) (s : Standing) → (started_again again now place id reason s).stopping ≡ None → s.stopping ≡ None
-again_stop true now place id reason s h = restarted_stop (allows now s.span s.most s.times) now place id reason s h
-again_stop false now place id reason s h = h
-
--- who stands in a place, by the test of its pid
-of_is : (pid : Option Pid) (p : Pid) → is_pid pid p ≡ true → pid ≡ Some p
-of_is None p h = absurd (cc)
-of_is (Some q) p h = ap Some (same_pid_is q p h)
-
-of_not : (c : Child) (q from : Pid) → c.pid ≡ Some q → is_pid c.pid from ≡ false → same_pid q from ≡ false
-of_not c q from is no_of = sym (ap (λ (o : Option Pid). is_pid o from) is) ∙ no_of
-
-module _ (now : ℕ) (from : Pid) (reason : Reason) (s : Standing) (apart : (i j : ℕ) (q : Pid) → child_at s.children i ≡ Some q → child_at s.children j ≡ Some q → i ≡ j) where
-  test : Child → Bool
-  test c = is_pid c.pid from
-
-  none_of : position (λ (c : Child). is_pid c.pid from) s.children ≡ None → (j : ℕ) (q : Pid) → child_at s.children j ≡ Some q → same_pid q from ≡ false
-  none_of nowhere j q is =
-      let x = child_is s.children j q is in
-      let within : j < length s.children = slice_get_within s.children j x.0 x.1 in
-      let at : get_or s.children j x.0 ≡ x.0 = get_or_from_slice_get s.children j x.0 x.0 x.1 in
-      let past : length s.children ≤ position_or_len (λ (c : Child). is_pid c.pid from) s.children = past_end nowhere in
-      of_not x.0 q from x.2 (ap (λ (c : Child). is_pid c.pid from) (sym at) ∙ fails_before_first (λ (c : Child). is_pid c.pid from) s.children j x.0 (omega (arith, within, past)))
-    where
-      past_end : cond (nat_lt (position_or_len (λ (c : Child). is_pid c.pid from) s.children) (length s.children)) (Some (position_or_len (λ (c : Child). is_pid c.pid from) s.children)) None ≡ None
-          → length s.children ≤ position_or_len (λ (c : Child). is_pid c.pid from) s.children
-      past_end h = grind (arith, h)
-
-  one_of : (place : ℕ) → position (λ (c : Child). is_pid c.pid from) s.children ≡ Some place → (d : Child) → (slice_get s.children place ≡ Some (get_or s.children place d)) × (child_at s.children place ≡ Some from)
-  one_of place found d =
-      let p = position-Some (λ (c : Child). is_pid c.pid from) s.children place d found in
-      let at : slice_get s.children place ≡ Some (get_or s.children place d) = slice_get-get_or s.children place d p.0 in
-      (at, ap pid_of_child at ∙ of_is (get_or s.children place d).pid from p.1)
-
-  less_lost : (place : ℕ) (c : Option Child) → position (λ (x : Child). is_pid x.pid from) s.children ≡ Some place → slice_get s.children place ≡ c → (r : Reason) → Less (Item.Exit from r) s (lost now reason place c s)
-  less_lost place None found at r = record {
-    sub = λ j q is. is;
-    stop = λ h. h;
-    out = λ h j q is.
-        let x = child_is s.children j q is in
-        let one = one_of place found x.0 in
-        let bad : None ≡ Some (get_or s.children place x.0) = sym at ∙ one.0 in absurd (cc);
-    kept = λ j q is. inl is;
-    count = refl;
-  }
-  less_lost place (Some c) found at r = record {
-    kept = λ j q is. elim (cases_eq j place) [
-      | inl same ↦ inr (from_is q (sym is ∙ ap (child_at s.children) same ∙ (one_of place found c).1))
-      | inr other ↦ inl (onward j q (set_same_at s.children place j v q other is))
-    ];
-    count = again_count again now place c.id reason t;
-    sub = λ j q is. elim (cases_eq j place) [
-      | inl same ↦ absurd (here j q is same)
-      | inr other ↦ set_beside s.children place j v q other (before j q is)
-    ];
-    stop = λ h. again_stop again now place c.id reason t h;
-    out = λ h j q is. elim (cases_eq j place) [
-      | inl same ↦ absurd (here j q is same)
-      | inr other ↦ by_cases (same_pid q from)
-          (λ e. let one = one_of place found c in absurd (other (apart j place from (set_beside s.children place j v q other (before j q is) ∙ ap Some (same_pid_is q from e)) one.1)))
-          (λ e. e)
-    ];
-  }
-    where
-      bidden : Bool
-      bidden = nat_le s.ending place
-
-      again : Bool
-      again = not bidden && wanted_again bidden reason c
-
-      v : Child
-      v = gone bidden reason c
-
-      t : Standing
-      t = record s { children = slice_set s.children place v }
-
-      from_is : (q : Pid) → Some q ≡ Some from → same_pid q from ≡ true
-      from_is q is = let same : q ≡ from = cc in subst (λ (x : Pid). same_pid q x ≡ true) same (same_pid_refl q)
-
-      before : (j : ℕ) (q : Pid) → child_at (started_again again now place c.id reason t).children j ≡ Some q → child_at (slice_set s.children place v) j ≡ Some q
-      before j q is =
-          let x = child_is (started_again again now place c.id reason t).children j q is in
-          let k = again_get again now place c.id reason t j x.0 x.1 in
-          ap pid_of_child k.1 ∙ (sym k.2.pid ∙ x.2)
-
-      onward : (j : ℕ) (q : Pid) → child_at (slice_set s.children place v) j ≡ Some q → child_at (started_again again now place c.id reason t).children j ≡ Some q
-      onward j q is =
-          let x = child_is (slice_set s.children place v) j q is in
-          let k = again_kept again now place c.id reason t j x.0 x.1 in
-          ap pid_of_child k.1 ∙ (k.2.pid ∙ x.2)
-
-      here : (j : ℕ) (q : Pid) → child_at (started_again again now place c.id reason t).children j ≡ Some q → j ≡ place → ⊥
-      here j q is same =
-          let bad : None ≡ Some q = sym (set_at s.children place c v at) ∙ ap (child_at (slice_set s.children place v)) (sym same) ∙ before j q is in absurd (cc)
-
-  less_at : (at : Option ℕ) → position (λ (x : Child). is_pid x.pid from) s.children ≡ at → (r : Reason) → Less (Item.Exit from r) s (heard_at at now reason s)
-  less_at None nowhere r = record { sub = λ j q is. is; stop = λ h. h; out = λ h j q is. none_of nowhere j q is; kept = λ j q is. inl is; count = refl }
-  less_at (Some place) found r = less_lost place (slice_get s.children place) found refl r
-
-  less_parent : (is : Bool) (other : Standing) (r : Reason) → Less (Item.Exit from r) s other → Less (Item.Exit from r) s (cond is (stopped reason s) other)
-  less_parent true other r h = record { sub = λ j q is. is; stop = λ h. absurd (cc); out = λ h. absurd (cc); kept = λ j q is. inl is; count = refl }
-  less_parent false other r h = h
-
-  pub less_heard : Less (Item.Exit from reason) s (heard now from reason s)
-  less_heard =
-      less_parent (is_pid s.parent from) (heard_at (position (λ (c : Child). is_pid c.pid from) s.children) now reason s) reason
-      (less_at (position (λ (c : Child). is_pid c.pid from) s.children) refl reason)
-
--- what it hears leaves whom it ends
-lost_asked : (now : ℕ) (reason : Reason) (place : ℕ) (c : Option Child) (s : Standing) → (lost now reason place c s).asked ≡ s.asked
-lost_asked now reason place None s = refl
-lost_asked now reason place (Some c) s =
-    let bidden = nat_le s.ending place in
-    again_asked (not bidden && wanted_again bidden reason c) now place c.id reason (record s { children = slice_set s.children place (gone bidden reason c) })
-
-at_asked : (at : Option ℕ) (now : ℕ) (reason : Reason) (s : Standing) → (heard_at at now reason s).asked ≡ s.asked
-at_asked None now reason s = refl
-at_asked (Some place) now reason s = lost_asked now reason place (slice_get s.children place) s
-
-parent_asked : (is : Bool) (reason : Reason) (s other : Standing) → other.asked ≡ s.asked → (cond is (stopped reason s) other).asked ≡ s.asked
-parent_asked true reason s other h = refl
-parent_asked false reason s other h = h
-
-pub heard_asked : (now : ℕ) (from : Pid) (reason : Reason) (s : Standing) → (heard now from reason s).asked ≡ s.asked
-heard_asked now from reason s =
-    parent_asked (is_pid s.parent from) reason s (heard_at (position (λ (c : Child). is_pid c.pid from) s.children) now reason s)
-    (at_asked (position (λ (c : Child). is_pid c.pid from) s.children) now reason s)
-
--- nor does it count anybody
-lost_count : (now : ℕ) (reason : Reason) (place : ℕ) (c : Option Child) (s : Standing) → (lost now reason place c s).started ≡ s.started
-lost_count now reason place None s = refl
-lost_count now reason place (Some c) s =
-    let bidden = nat_le s.ending place in
-    again_count (not bidden && wanted_again bidden reason c) now place c.id reason (record s { children = slice_set s.children place (gone bidden reason c) })
-
-at_count : (at : Option ℕ) (now : ℕ) (reason : Reason) (s : Standing) → (heard_at at now reason s).started ≡ s.started
-at_count None now reason s = refl
-at_count (Some place) now reason s = lost_count now reason place (slice_get s.children place) s
-
-parent_count : (is : Bool) (reason : Reason) (s other : Standing) → other.started ≡ s.started → (cond is (stopped reason s) other).started ≡ s.started
-parent_count true reason s other h = refl
-parent_count false reason s other h = h
-
-pub heard_count : (now : ℕ) (from : Pid) (reason : Reason) (s : Standing) → (heard now from reason s).started ≡ s.started
-heard_count now from reason s =
-    parent_count (is_pid s.parent from) reason s (heard_at (position (λ (c : Child). is_pid c.pid from) s.children) now reason s)
-    (at_count (position (λ (c : Child). is_pid c.pid from) s.children) now reason s)
+use Rattle.pt_children.specs.declared.children.Child.{Child}
+use Rattle.pt_children.specs.Trying.{started_child}
+use Rattle.pt_children.specs.Hearing.{Standing, heard}
+use Rattle.pt_children.specs.Families.{pid_of_child, child_at, is_end_of, is_cut, has_cut, all_events, IsTied, IsHeld, Family, tells_end, has_told, WereTold, IsPlaced}
+use Rattle.pt_supervisor.specs.Keeping.{all_children, was_started, Remembers}
+use Rattle.pt_children.proofs.Hearing.{Less, set_at, set_beside, set_same_at}
+use Rattle.pt_children.proofs.Telling.{one_taken}
+use Rattle.pt_children.proofs.Tying.{or_right, entered_tied}
 
 -- desks that go on -----------------------------------------------------------------------------------
 
@@ -310,7 +117,7 @@ pub record Kept (past : Past) (children : List Child) (started : ℕ) (stopping 
 pub family_step : (past : Past) (children : List Child) (stopping : Option Reason) (me : Pid) (d e : ShardState) → IsLater d e → ((q : Pid) → IsTied (state_in d me) q → IsHeld past me q e) → Family past children stopping me d
     → Family past children stopping me e
 family_step past children stopping me d e later ties f = record {
-  born = λ place q is. born_then d e later q (f.born place q is);
+  born = λ place q is own. born_then d e later q (f.born place q is own);
   apart = f.apart;
   held = λ none place q is. go q (f.held none place q is);
 }
@@ -339,11 +146,53 @@ kept_step past children started stopping me d e later bare k t now traps ties = 
 pub kept_is : (past : Past) (children : List Child) (started : ℕ) (stopping : Option Reason) (me : Pid) (d e : ShardState) → e ≡ d → Kept past children started stopping me d → Kept past children started stopping me e
 kept_is past children started stopping me d e is k = subst (Kept past children started stopping me) (sym is) k
 
+-- one more child, where there was none ---------------------------------------------------------------------
+
+module _ (p : Pid) (children : List Child) (place : ℕ) (c v : Child) (at : slice_get children place ≡ Some c) (missing : c.pid ≡ None) (now : v.pid ≡ Some p) where
+  pub still_placed : (q : Pid) → IsPlaced children q → IsPlaced (slice_set children place v) q
+  still_placed q placed = elim (cases_eq placed.0 place) [
+    | inl same ↦ absurd (let bad : None ≡ Some q = sym missing ∙ sym (ap pid_of_child at) ∙ sym (ap (child_at children) same) ∙ placed.1 in cc)
+    | inr other ↦ (placed.0, set_same_at children place placed.0 v q other placed.1)
+  ]
+
+  pub newly_placed : IsPlaced (slice_set children place v) p
+  newly_placed = (place, set_at children place c v at ∙ now)
+
+  is_new : (j : ℕ) (q : Pid) → child_at (slice_set children place v) j ≡ Some q → j ≡ place → p ≡ q
+  is_new j q is same =
+      let both : Some p ≡ Some q = sym (set_at children place c v at ∙ now) ∙ ap (child_at (slice_set children place v)) (sym same) ∙ is in cc
+
+  pub joins_family : (past : Past) (stopping : Option Reason) (me : Pid) (e : ShardState) → ((j : ℕ) → child_at children j ≡ Some p → ⊥) → (p.shard ≡ me.shard → is_unborn (phase_of e p) ≡ false) → IsHeld past me p e
+      → Family past children stopping me e → Family past (slice_set children place v) stopping me e
+  joins_family past stopping me e fresh born held old = record {
+    born = λ j q is. elim (cases_eq j place) [
+      | inl same ↦ subst (λ (x : Pid). x.shard ≡ me.shard → is_unborn (phase_of e x) ≡ false) (is_new j q is same) born
+      | inr other ↦ old.born j q (set_beside children place j v q other is)
+    ];
+    apart = λ a b q is_a is_b. elim (cases_eq a place) [
+      | inl same ↦ elim (cases_eq b place) [
+        | inl also ↦ same ∙ sym also
+        | inr other ↦ absurd (not_both b q (set_beside children place b v q other is_b) (is_new a q is_a same))
+      ]
+      | inr apart ↦ elim (cases_eq b place) [
+        | inl also ↦ absurd (not_both a q (set_beside children place a v q apart is_a) (is_new b q is_b also))
+        | inr other ↦ old.apart a b q (set_beside children place a v q apart is_a) (set_beside children place b v q other is_b)
+      ]
+    ];
+    held = λ none j q is. elim (cases_eq j place) [
+      | inl same ↦ subst (λ (x : Pid). IsHeld past me x e) (is_new j q is same) held
+      | inr other ↦ old.held none j q (set_beside children place j v q other is)
+    ];
+  }
+    where
+      not_both : (j : ℕ) (q : Pid) → child_at children j ≡ Some q → p ≡ q → ⊥
+      not_both j q is same = fresh j (is ∙ ap Some (sym same))
+
 -- an event of its own
 pub own_phase : (me : Pid) (ev : Event) (d : ShardState) (s : ProcessState) (own : touches me ev ≡ true) → phase_of d me ≡ living s → phase_of (shard_after ev d) me ≡ change me ev (living s)
 own_phase me ev d s own is i = cond (own i) (change me ev (is i)) (is i)
 
-said_own : (me p : Pid) (x : Signal) (q : Pid) → same_pid me q ≡ false → touches q (Said me p x) ≡ false
+pub said_own : (me p : Pid) (x : Signal) (q : Pid) → same_pid me q ≡ false → touches q (Said me p x) ≡ false
 said_own me p x q other = same_pid_sym me q other
 
 -- what a desk has noted as me told p to end was answered so
@@ -352,14 +201,17 @@ ToldAs me p reason d e (Ok done) = e ≡ shard_after (Said me p (Signal.Exit rea
 ToldAs me p reason d e (Err f) = e ≡ d
 
 module _ (me p : Pid) (reason : Reason) where
+  failed_as : (d e : ShardState) (f : Fault) → Calls me (Some (Said me p (Signal.Exit reason))) (tt {0}) d (Err f) e → e ≡ d
+  failed_as d e Gone c = c.1
+  failed_as d e Worn c = c.3
+  failed_as d e Memory c = c.3
+  failed_as d e Full c = absurd c
+  failed_as d e Myself c = absurd c
+  failed_as d e NoProc c = absurd c
+
   called_as : (d e : ShardState) (r : Result (Unit {0}) Fault) → Calls me (Some (Said me p (Signal.Exit reason))) (tt {0}) d r e → ToldAs me p reason d e (call_answered r)
   called_as d e (Ok x) c = c.3
-  called_as d e (Err Gone) c = c.1
-  called_as d e (Err Worn) c = c.3
-  called_as d e (Err Memory) c = c.3
-  called_as d e (Err Full) c = absurd c
-  called_as d e (Err Myself) c = absurd c
-  called_as d e (Err NoProc) c = absurd c
+  called_as d e (Err f) c = failed_as d e f c
 
   pub told_as : (known : Bool) (d e : DeskState) (result : Result (Unit {0}) CallFault)
       → IfKnown known (λ r. Calls me (Some (Said me p (Signal.Exit reason))) (tt {0}) d.shard r e.shard) d result e → ToldAs me p reason d.shard e.shard result
@@ -394,7 +246,7 @@ module _ (me p : Pid) where
   monitored_as d e (Err Full) h = absurd h
   monitored_as d e (Err NoProc) h = absurd h
 
-  refused_as : (n : ℕ) (d e : ShardState) (f : Fault) → Refuses me p n d f e → WatchedAs me p d e (Err (CallFault.Refused f))
+  pub refused_as : (n : ℕ) (d e : ShardState) (f : Fault) → Refuses me p n d f e → WatchedAs me p d e (Err (CallFault.Refused f))
   refused_as n d e NoProc h = (max d.clock n + 1, h.1)
   refused_as n d e Worn h = h.1
   refused_as n d e Memory h = h.1
@@ -435,6 +287,16 @@ module _ (me p : Pid) where
   watched_goes d e (Err (CallFault.Refused Full)) h = goes_is me d e h
   watched_goes d e (Err (CallFault.Refused Myself)) h = goes_is me d e h
   watched_goes d e (Err Unknown) h = goes_is me d e h
+
+  pub watched_bare : (d e : ShardState) (result : Result Ref CallFault) → WatchedAs me p d e result → children_by me e.journal ≡ children_by me d.journal
+  watched_bare d e (Ok m) h = ap (λ (f : ShardState). children_by me f.journal) h
+  watched_bare d e (Err (CallFault.Refused NoProc)) h = ap (λ (f : ShardState). children_by me f.journal) h.1
+  watched_bare d e (Err (CallFault.Refused Gone)) h = ap (λ (f : ShardState). children_by me f.journal) h
+  watched_bare d e (Err (CallFault.Refused Worn)) h = ap (λ (f : ShardState). children_by me f.journal) h
+  watched_bare d e (Err (CallFault.Refused Memory)) h = ap (λ (f : ShardState). children_by me f.journal) h
+  watched_bare d e (Err (CallFault.Refused Full)) h = ap (λ (f : ShardState). children_by me f.journal) h
+  watched_bare d e (Err (CallFault.Refused Myself)) h = ap (λ (f : ShardState). children_by me f.journal) h
+  watched_bare d e (Err Unknown) h = ap (λ (f : ShardState). children_by me f.journal) h
 
   pub watched_kept : (past : Past) (children : List Child) (started : ℕ) (stopping : Option Reason) (d e : ShardState) (result : Result Ref CallFault) → WatchedAs me p d e result → Kept past children started stopping me d → Kept past children started stopping me e
   watched_kept past children started stopping d e (Ok m) h k =
@@ -492,35 +354,17 @@ module _ (me p : Pid) (d e : ShardState) (i : LinkId) (unborn_is : is_unborn (ph
       ap (λ (j : List Stamped). children_by me j ++ flat_map (child_by me) past) journal
       ∙ ap (λ (b : Bool). (cond b (p ∷ []) [] ++ children_by me d.journal) ++ flat_map (child_by me) past) (same_pid_refl me)
 
-  pub born_kept : (past : Past) (children : List Child) (started top place : ℕ) (c : Child) → slice_get children place ≡ Some c → c.pid ≡ None → Kept past children started None me d
+  pub born_kept : (past : Past) (children : List Child) (started top place : ℕ) (c : Child) → slice_get children place ≡ Some c → c.pid ≡ None → p.shard ≡ me.shard → Kept past children started None me d
       → Kept past (slice_set children place (started_child p c)) (min (started + 1) top) None me e
-  born_kept past children started top place c at missing k = record {
+  born_kept past children started top place c at missing near k = record {
     remembers = λ were q was. remembered were q (one_taken started top q p (all_children past me d)
         (ap (λ (qs : List Pid). list_any (same_pid q) (take (min (started + 1) top) qs)) (sym (one_more past)) ∙ was));
     state = t;
     living_is = linked_now k.state k.living_is;
     traps = k.traps;
-    family = record {
-      born = λ j q is. elim (cases_eq j place) [
-        | inl same ↦ subst (λ (x : Pid). is_unborn (phase_of e x) ≡ false) (is_new j q is same) born_here
-        | inr other ↦ old.born j q (set_beside children place j v q other is)
-      ];
-      apart = λ a b q is_a is_b. elim (cases_eq a place) [
-        | inl same ↦ elim (cases_eq b place) [
-          | inl also ↦ same ∙ sym also
-          | inr other ↦ absurd (not_both b q (set_beside children place b v q other is_b) (is_new a q is_a same))
-        ]
-        | inr apart ↦ elim (cases_eq b place) [
-          | inl also ↦ absurd (not_both a q (set_beside children place a v q apart is_a) (is_new b q is_b also))
-          | inr other ↦ k.family.apart a b q (set_beside children place a v q apart is_a) (set_beside children place b v q other is_b)
-        ]
-      ];
-      held = λ none j q is. elim (cases_eq j place) [
-        | inl same ↦ inl (subst (λ (f : Phase). IsTied (state_of f) q) (sym (linked_now k.state k.living_is))
-            (subst (λ (x : Pid). IsTied t x) (is_new j q is same) (inl (ap is_some (held-enter p i k.state.links)))))
-        | inr other ↦ old.held none j q (set_beside children place j v q other is)
-      ];
-    };
+    family = joins_family p children place c v at missing refl past None me e fresh (λ own. born_here)
+        (inl (subst (λ (f : Phase). IsTied (state_of f) p) (sym (linked_now k.state k.living_is)) (inl (ap is_some (held-enter p i k.state.links)))))
+        (family_kept past children started None me d e born_goes.later k t (linked_now k.state k.living_is) (λ q h. entered_tied k.state p q i h));
   }
     where
       v : Child
@@ -529,28 +373,14 @@ module _ (me p : Pid) (d e : ShardState) (i : LinkId) (unborn_is : is_unborn (ph
       t : ProcessState
       t = record (k.state) { links = enter p i k.state.links }
 
-      old : Family past children None me e
-      old = family_kept past children started None me d e born_goes.later k t (linked_now k.state k.living_is) (λ q h. entered_tied k.state p q i h)
-
-      still_placed : (q : Pid) → IsPlaced children q → IsPlaced (slice_set children place v) q
-      still_placed q placed = elim (cases_eq placed.0 place) [
-        | inl same ↦ absurd (let bad : None ≡ Some q = sym missing ∙ sym (ap pid_of_child at) ∙ sym (ap (child_at children) same) ∙ placed.1 in cc)
-        | inr other ↦ (placed.0, set_same_at children place placed.0 v q other placed.1)
-      ]
+      fresh : (j : ℕ) → child_at children j ≡ Some p → ⊥
+      fresh j is = let bad : false ≡ true = sym (k.family.born j p is near) ∙ unborn_is in absurd (cc)
 
       onward : (q : Pid) → IsPlaced children q ⊎ (has_told me q (all_events past d) ≡ true) → IsPlaced (slice_set children place v) q ⊎ (has_told me q (all_events past e) ≡ true)
-      onward q (inl placed) = inl (still_placed q placed)
+      onward q (inl placed) = inl (still_placed p children place c v at missing refl q placed)
       onward q (inr told) = inr (told_later past me q d e born_goes.later told)
 
       remembered : WereTold past me e.start → (q : Pid) → (same_pid q p ≡ true) ⊎ (list_any (same_pid q) (take started (all_children past me d)) ≡ true)
           → IsPlaced (slice_set children place v) q ⊎ (has_told me q (all_events past e) ≡ true)
       remembered were q (inl same) = inl (place, set_at children place c v at ∙ ap Some (sym (same_pid_is q p same)))
       remembered were q (inr was) = onward q (k.remembers (subst (WereTold past me) start were) q was)
-
-      is_new : (j : ℕ) (q : Pid) → child_at (slice_set children place v) j ≡ Some q → j ≡ place → p ≡ q
-      is_new j q is same =
-          let both : Some p ≡ Some q = sym (set_at children place c v at) ∙ ap (child_at (slice_set children place v)) (sym same) ∙ is in cc
-
-      not_both : (j : ℕ) (q : Pid) → child_at children j ≡ Some q → p ≡ q → ⊥
-      not_both j q is same =
-          let bad : false ≡ true = sym (k.family.born j q is) ∙ ap (λ (x : Pid). is_unborn (phase_of d x)) (sym same) ∙ unborn_is in absurd (cc)

@@ -1,15 +1,12 @@
 -- The lemmas that more than one function of the crate uses.
-pub mod Limiting
-pub mod Wanting
 pub mod Starting
 pub mod Ending
 pub mod Due
-pub mod Tying
-pub mod Telling
 pub mod Families
 pub mod Changing
 pub mod Asking
 pub mod Advancing
+pub mod Joining
 pub mod Tending
 pub mod Bearing
 pub mod Counted

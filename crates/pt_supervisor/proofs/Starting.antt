@@ -7,23 +7,24 @@ use Rattle.std.specs.Option.{option_map}
 use Rattle.std.proofs.lemmas.Bool.{cases_eq, cases_lt}
 use Rattle.std.proofs.lemmas.Option.{slice_get_within}
 use Rattle.pt_signal.specs.declared.pid.Pid.{Pid}
-use Rattle.pt_supervisor.specs.declared.children.Child.{Child}
-use Rattle.pt_supervisor.specs.declared.children.Shutdown.{Shutdown}
+use Rattle.pt_children.specs.declared.children.Child.{Child}
+use Rattle.pt_children.specs.declared.children.Shutdown.{Shutdown}
 use Rattle.pt_signal.specs.declared.item.Item.{Item}
 use Rattle.pt_shard.specs.declared.fault.Fault.{Fault}
 use Rattle.pt_events.specs.History.{Phase, unborn, living, ended}
-use Rattle.pt_supervisor.specs.declared.restart.Strategy.{Strategy}
-use Rattle.pt_supervisor.specs.declared.trial.Trial.{Trial}
-use Rattle.pt_supervisor.specs.declared.trial.Trial.TheVariants.{First, Again, Failed, Over}
-use Rattle.pt_supervisor.specs.Children.{AreStarted, IsWanted, NoneLives, NoneUnwanted, PermanentAreWanted, is_by_call, is_missing, last_alive, leaving, leaving_in, or_before}
-use Rattle.pt_supervisor.specs.Trying.{earlier, failed_at, failed_child, failed_trial, first_failed, is_accident, is_startable, started_child, tried_in, unstarted_child}
-use Rattle.pt_supervisor.specs.Hearing.{Standing, first_heeded}
+use Rattle.pt_children.specs.declared.restart.Strategy.{Strategy}
+use Rattle.pt_children.specs.declared.trial.Trial.{Trial}
+use Rattle.pt_children.specs.declared.trial.Trial.TheVariants.{First, Again, Failed, Over}
+use Rattle.pt_children.specs.Children.{AreStarted, IsWanted, NoneLives, NoneUnwanted, PermanentAreWanted, is_by_call, is_missing, last_alive, leaving, leaving_in, or_before}
+use Rattle.pt_children.specs.Trying.{earlier, failed_child, failed_trial, first_failed, has_failed, is_accident, is_startable, started_child, tried_in, unstarted_child}
+use Rattle.pt_children.specs.Homes.{asked_child}
+use Rattle.pt_children.specs.Hearing.{Standing, first_heeded}
 use Rattle.pt_desk.specs.DeskState.{DeskState}
 use Rattle.pt_shard.specs.ShardState.{phase_of}
 use Rattle.pt_behaviour.specs.declared.behaviour.Next.{Next}
 use Rattle.pt_supervisor.specs.Supervising.{SetsAt, StartsAll, StartsOf, Nursery, StartsFirst, StartsOne, SupervisorScene, SupervisorSettles, Supervises, nursery}
 use Rattle.pt_supervisor.specs.Ending.{next_behind, next_tried}
-use Rattle.pt_supervisor.proofs.Wanting.{first_rest, kept_wanted, set_same, set_other}
+use Rattle.pt_children.proofs.Wanting.{first_rest, kept_wanted, set_same, set_other}
 
 zero_le : (n : ℕ) → nat_le 0 n ≡ true
 zero_le n = grind arith
@@ -107,7 +108,7 @@ and_left true b h = refl
 and_left false b h = absurd (cc)
 
 pub due_missing : (c : Child) → is_startable c ≡ true → is_missing c ≡ true
-due_missing c is = and_left (is_missing c) (not (is_some (failed_at c.trial))) is
+due_missing c is = and_left (is_missing c) (not (has_failed c.trial)) is
 
 pub missing_bare : (c : Child) → is_missing c ≡ true → c.pid ≡ None
 missing_bare c missing = go c.wanted c.pid missing
@@ -122,6 +123,11 @@ pub started_sets : (children : List Child) (place : ℕ) (c : Child) (p : Pid) �
 started_sets children place c p at due =
     sets_at children place c (started_child p c) at refl (λ w. (w.0, refl))
     (λ off. absurd (let bad : true ≡ false = sym (missing_wanted c (due_missing c due)) ∙ off in cc))
+
+-- or the program was asked to start it
+pub asked_sets : (children : List Child) (place : ℕ) (c : Child) → slice_get children place ≡ Some c → is_startable c ≡ true → SetsAt place children (slice_set children place (asked_child c))
+asked_sets children place c at due =
+    sets_at children place c (asked_child c) at refl (λ w. w) (λ off. missing_bare c (due_missing c due))
 
 -- or it was not
 asked_still : (clock : ℕ) (t : Trial) → is_by_call t ≡ false → is_by_call (failed_trial clock t) ≡ false
@@ -146,9 +152,15 @@ same_pid_of clock false c = refl
 pub unstarted_pid : (clock : ℕ) (f : Fault) (c : Child) → (unstarted_child clock f c).pid ≡ c.pid
 unstarted_pid clock f c = same_pid_of clock (is_accident f) c
 
+pub unstarted_restart : (clock : ℕ) (f : Fault) (c : Child) → (unstarted_child clock f c).restart ≡ c.restart
+unstarted_restart clock f c = same_restart clock (is_accident f) c
+
+pub unstarted_wants : (clock : ℕ) (f : Fault) (c : Child) → IsWanted c → IsWanted (unstarted_child clock f c)
+unstarted_wants clock f c = wants_still clock (is_accident f) c
+
 pub unstarted_sets : (children : List Child) (place : ℕ) (c : Child) (clock : ℕ) (f : Fault) → slice_get children place ≡ Some c → is_startable c ≡ true → SetsAt place children (slice_set children place (unstarted_child clock f c))
 unstarted_sets children place c clock f at due =
-    sets_at children place c (unstarted_child clock f c) at (same_restart clock (is_accident f) c) (wants_still clock (is_accident f) c)
+    sets_at children place c (unstarted_child clock f c) at (unstarted_restart clock f c) (unstarted_wants clock f c)
     (λ off. unstarted_pid clock f c ∙ missing_bare c (due_missing c due))
 
 -- none is missing, by the test of all

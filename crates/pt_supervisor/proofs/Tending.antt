@@ -1,5 +1,5 @@
 -- A supervisor upholds that its children are held.
-use Rattle.std.proofs.Common.{◌≡◌, ◌⊎◌, inl, inr, ℕ, Bool, true, false, cond, ◌&&◌, List, [], ◌∷◌, length, take, Option, Some, None, Result, Ok, Err, refl, sym, ap, subst, ◌∙◌}
+use Rattle.std.proofs.Common.{◌≡◌, ◌⊎◌, inl, inr, ℕ, Bool, true, false, cond, ◌&&◌, List, [], ◌∷◌, length, slice_get, take, Option, Some, None, Result, Ok, Err, refl, sym, ap, subst, ◌∙◌}
 use Rattle.std.specs.Prelude.{MatchBool, is_ok}
 use Rattle.std.specs.List.{find, list_any}
 use Rattle.pt_signal.specs.declared.pid.Pid.{Pid}
@@ -31,22 +31,26 @@ use Rattle.pt_behaviour.specs.Upholding.{IsLater, IsLeftAlone, ActsFor, ItemIsTa
 use Rattle.pt_behaviour.proofs.Cases.{by_cases}
 use Rattle.pt_behaviour.proofs.Upholding.{later_is, later_after, later_handled, born_then, phase_is, same_pid_sym}
 use Rattle.pt_laws.specs.Watch.{is_down_item}
-use Rattle.pt_supervisor.specs.declared.asked.Asked.{Asked}
-use Rattle.pt_supervisor.specs.declared.asked.Stage.{Stage}
-use Rattle.pt_supervisor.specs.declared.asked.Stage.TheVariants.{Watched, Waiting, Until, Killed}
-use Rattle.pt_supervisor.specs.declared.asked.Stage.TheVariants as far
-use Rattle.pt_supervisor.specs.declared.children.Child.{Child}
-use Rattle.pt_supervisor.specs.Children.{NoneLives, last_alive}
-use Rattle.pt_supervisor.specs.Ending.{gone_at, gone_in, is_ref, monitor_of}
-use Rattle.pt_supervisor.specs.Limits.{moment}
-use Rattle.pt_supervisor.specs.Hearing.{Standing, monitor_closed, gone_heard, gone_on, heard, heard_gone, tried_again}
-use Rattle.pt_supervisor.specs.Supervising.{StartsOf, SupervisorScene, SupervisorAttends, SupervisorHandles, Supervises, after_attending}
-use Rattle.pt_supervisor.specs.Keeping.{IsReady, is_end_of, is_cut, has_cut, all_events, IsTied, IsHeld, Family, all_children, was_started, has_told, IsPlaced, Remembers, AreAsked, IsWatched, Holds, HoldsChildren, ChangesBefore, ChangesAfter, Tends, PartOf, HoldsAs, Keeps, SupervisorBegins, AllBegin, ActsAs, SuperviseAs}
+use Rattle.pt_children.specs.declared.asked.Asked.{Asked}
+use Rattle.pt_children.specs.declared.asked.Stage.{Stage}
+use Rattle.pt_children.specs.declared.asked.Stage.TheVariants.{Watched, Waiting, Until, Killed}
+use Rattle.pt_children.specs.declared.asked.Stage.TheVariants as far
+use Rattle.pt_children.specs.declared.children.Child.{Child}
+use Rattle.pt_children.specs.Children.{NoneLives, last_alive}
+use Rattle.pt_children.specs.Ending.{gone_at, gone_in, is_ref, monitor_of}
+use Rattle.pt_children.specs.Limits.{moment}
+use Rattle.pt_children.specs.Hearing.{Standing, monitor_closed, gone_heard, gone_on, heard, heard_gone, tried_again}
+use Rattle.pt_supervisor.specs.Supervising.{StartsOf, SupervisorScene, SupervisorAttends, SupervisorHandles, Supervises, GoesForward, after_attending}
+use Rattle.pt_supervisor.specs.Keeping.{IsReady, all_children, was_started, Remembers, Holds, HoldsChildren, ChangesBefore, ChangesAfter, Tends, PartOf, HoldsAs, Keeps, SupervisorBegins, AllBegin, ActsAs, SuperviseAs}
+use Rattle.pt_children.specs.Families.{is_end_of, is_cut, has_cut, all_events, IsTied, IsHeld, Family, has_told, IsPlaced, AreAsked, IsWatched}
 use Rattle.pt_supervisor.proofs.Ending.{proceed_ready}
 use Rattle.pt_supervisor.proofs.Changing.{again_same}
-use Rattle.pt_supervisor.proofs.Tying.{or_left, stays_in, tied_by, is_unlink, handled_ready, handled_tied, handled_traps}
-use Rattle.pt_supervisor.proofs.Telling.{found_any, waits_told}
-use Rattle.pt_supervisor.proofs.Families.{none_at, Less, less_heard, heard_asked, Goes, goes_is, goes_then, goes_event, cut_later, remembers_step, remembers_less, Kept, family_step, kept_is, own_phase}
+use Rattle.pt_children.proofs.Tying.{or_left, stays_in, tied_by, is_unlink, handled_ready, handled_tied, handled_traps}
+use Rattle.pt_children.proofs.Telling.{found_any, waits_told}
+use Rattle.pt_children.proofs.Hearing.{none_at, Less, less_heard, heard_asked}
+use Rattle.pt_supervisor.proofs.Families.{Goes, goes_is, goes_then, goes_event, cut_later, remembers_step, remembers_less, Kept, family_step, kept_is, own_phase}
+use Rattle.pt_children.specs.Homes.{place_coming}
+use Rattle.pt_supervisor.proofs.Joining.{meets_goes, meets_kept, meets_ready}
 use Rattle.pt_supervisor.proofs.Asking.{asked_step, asks_is, asks_step, handled_watched, unless_is, watched_by}
 use Rattle.pt_supervisor.proofs.Advancing.{advances_asks, advances_goes, advances_kept, advances_ready, kept_alike}
 
@@ -93,7 +97,7 @@ taken_kept past me item s m before was d less taken h = record {
   living_is = k.now_is;
   traps = subst (λ (f : Phase). (state_of f).traps ≡ true) k.was_is (waits_traps (state_in was me).traps before taken.0 s.children h.traps taken.1);
   family = record {
-    born = λ place q is. born_then was d k.later q (h.family.born place q (less.sub place q is));
+    born = λ place q is own. born_then was d k.later q (h.family.born place q (less.sub place q is) own);
     apart = λ i j q a b. h.family.apart i j q (less.sub i q a) (less.sub j q b);
     held = λ none place q is. go q (less.out none place q is) (h.family.held (less.stop none) place q (less.sub place q is));
   };
@@ -165,7 +169,7 @@ kept_less past me item s m e less tells k = record {
   living_is = k.living_is;
   traps = k.traps;
   family = record {
-    born = λ place q is. k.family.born place q (less.sub place q is);
+    born = λ place q is own. k.family.born place q (less.sub place q is) own;
     apart = λ i j q a b. k.family.apart i j q (less.sub i q a) (less.sub j q b);
     held = λ none place q is. k.family.held (less.stop none) place q (less.sub place q is);
   };
@@ -296,21 +300,33 @@ attends_goes me time None s m d e answer a = flag_goes me (state_in d.shard me).
 -- so it handles an item, or none ---------------------------------------------------------------------------
 
 module _ {S B : Type 0} (starts : StartsOf S B) (me : Pid) where
+  forward_goes : (now : ℕ) (coming : Option ℕ) (mid : SupervisorScene S B) (next : Next) (new : SupervisorScene S B) → GoesForward starts me now coming mid next new → Goes me mid.desk.shard new.desk.shard
+  forward_goes now None mid next new h = advances_goes starts me now (last_alive mid.standing.children mid.standing.ending (length mid.standing.children)) mid next new h
+  forward_goes now (Some place) mid next new h = meets_goes me place (slice_get mid.standing.children place) mid.standing mid.desk next new.standing new.desk h.0
+
   then_goes : (now : ℕ) (answer : Bool) (mid : SupervisorScene S B) (next : Next) (new : SupervisorScene S B) → after_attending starts me now answer mid next new → Goes me mid.desk.shard new.desk.shard
-  then_goes now true mid next new h = advances_goes starts me now (last_alive mid.standing.children mid.standing.ending (length mid.standing.children)) mid next new h
+  then_goes now true mid next new h = forward_goes now (place_coming mid.standing.children) mid next new h
   then_goes now false mid next new h = goes_is me mid.desk.shard new.desk.shard (ap (λ (x : SupervisorScene S B). x.desk.shard) h.1)
 
   kept_holds : (past : Past) (s : Standing) (next : Next) (e : ShardState) → Supervises next s → IsReady next (phase_of e me) → KeptWith past s me e → Holds past s next me e
   kept_holds past s next e waits ready k = record { waits = waits; ready = ready; remembers = k.0.remembers; traps = inl (subst (λ (f : Phase). (state_of f).traps ≡ true) (sym k.0.living_is) k.0.traps); family = k.0.family; asks = k.1 }
 
-  then_holds : (past : Past) (now : ℕ) (answer : Bool) (mid : SupervisorScene S B) (next : Next) (new : SupervisorScene S B) → after_attending starts me now answer mid next new → Supervises next new.standing → Attended past answer mid.standing me mid.desk.shard
-      → Holds past new.standing next me new.desk.shard
-  then_holds past now true mid next new h waits k =
+  forward_holds : (past : Past) (now : ℕ) (coming : Option ℕ) (mid : SupervisorScene S B) (next : Next) (new : SupervisorScene S B) → place_coming mid.standing.children ≡ coming → GoesForward starts me now coming mid next new
+      → Supervises next new.standing → KeptWith past mid.standing me mid.desk.shard → Holds past new.standing next me new.desk.shard
+  forward_holds past now None mid next new is h waits k =
       kept_holds past new.standing next new.desk.shard waits
       (advances_ready starts me now (last_alive mid.standing.children mid.standing.ending (length mid.standing.children)) mid next new h) (
         advances_kept starts me past now (last_alive mid.standing.children mid.standing.ending (length mid.standing.children)) mid next new h k.0,
         advances_asks starts me past now (last_alive mid.standing.children mid.standing.ending (length mid.standing.children)) mid next new h k.0 k.1,
       )
+  forward_holds past now (Some place) mid next new is h waits k =
+      kept_holds past new.standing next new.desk.shard waits
+      (meets_ready me place (slice_get mid.standing.children place) mid.standing mid.desk next new.standing new.desk (phase_of new.desk.shard me) h.0)
+      (meets_kept me past place mid.standing mid.desk next new.standing new.desk is h.0 k.0 k.1)
+
+  then_holds : (past : Past) (now : ℕ) (answer : Bool) (mid : SupervisorScene S B) (next : Next) (new : SupervisorScene S B) → after_attending starts me now answer mid next new → Supervises next new.standing → Attended past answer mid.standing me mid.desk.shard
+      → Holds past new.standing next me new.desk.shard
+  then_holds past now true mid next new h waits k = forward_holds past now (place_coming mid.standing.children) mid next new refl h waits k
   then_holds past now false mid next new h waits k =
       subst (λ (x : SupervisorScene S B). Holds past x.standing next me x.desk.shard) (sym h.1) (subst (λ (n : Next). Holds past mid.standing n me mid.desk.shard) (sym h.0) k)
 
@@ -383,7 +399,7 @@ module _ (past : Past) (s : Standing) (next : Next) (me : Pid) (d : ShardState) 
 
   came_family : ((state_in d me).traps ≡ true) ⊎ ((next ≡ Proceed) × NoneLives s.children) → Family past s.children s.stopping me (handled l d)
   came_family (inr none) = record {
-    born = λ place q is. absurd (none_at s.children place q none.1 is);
+    born = λ place q is own. absurd (none_at s.children place q none.1 is);
     apart = λ i j q a b. absurd (none_at s.children i q none.1 a);
     held = λ z place q is. absurd (none_at s.children place q none.1 is);
   }
@@ -475,7 +491,7 @@ begins past (Some s) next me d h = (
     remembers = remembers;
     traps = inr (h.0, h.1);
     family = record {
-      born = λ place q is. absurd (none_at s.children place q h.1 is);
+      born = λ place q is own. absurd (none_at s.children place q h.1 is);
       apart = λ i j q a b. absurd (none_at s.children i q h.1 a);
       held = λ z place q is. absurd (none_at s.children place q h.1 is);
     };

@@ -6,13 +6,13 @@ use Rattle.pt_events.specs.History.{Past}
 use Rattle.pt_shard.specs.ShardState.{ShardState}
 use Rattle.pt_behaviour.specs.declared.behaviour.Next.{Next}
 use Rattle.pt_behaviour.specs.declared.behaviour.Next.TheVariants.{Wait, WaitUntil, Proceed}
-use Rattle.pt_supervisor.specs.declared.asked.Stage.{Stage}
-use Rattle.pt_supervisor.specs.declared.asked.Stage.TheVariants.{Waiting, Until, Killed}
-use Rattle.pt_supervisor.specs.declared.children.Shutdown.{Shutdown}
-use Rattle.pt_supervisor.specs.declared.children.Shutdown.TheVariants.{Infinity}
-use Rattle.pt_supervisor.specs.Children.{last_alive}
-use Rattle.pt_supervisor.specs.Ending.{stage_of}
-use Rattle.pt_supervisor.specs.Hearing.{Standing}
+use Rattle.pt_children.specs.declared.asked.Stage.{Stage}
+use Rattle.pt_children.specs.declared.asked.Stage.TheVariants.{Waiting, Until, Killed}
+use Rattle.pt_children.specs.declared.children.Shutdown.{Shutdown}
+use Rattle.pt_children.specs.declared.children.Shutdown.TheVariants.{Infinity}
+use Rattle.pt_children.specs.Children.{last_alive}
+use Rattle.pt_children.specs.Ending.{stage_of}
+use Rattle.pt_children.specs.Hearing.{Standing}
 use Rattle.pt_supervisor.specs.Keeping.{Remembers}
 
 -- a supervisor that forgets nobody as it was forgets nobody as it is, also once it has ended

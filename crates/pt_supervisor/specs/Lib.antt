@@ -1,12 +1,6 @@
-pub mod Text
-pub mod Restarts
-pub mod Limits
 pub mod Ending
-pub mod Children
-pub mod Trying
-pub mod Seen
 pub mod Hearing
-pub mod Calling
+pub mod Joining
 pub mod Supervising
 pub mod Keeping
 pub mod Changed

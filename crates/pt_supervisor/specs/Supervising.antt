@@ -1,7 +1,8 @@
 -- What a supervisor does with an item, and what it does next.
 use Rattle.std.specs.Prelude.{◌≡◌, ◌⊎◌, ℕ, zero, suc, ◌+◌, ◌-◌, ◌^◌, min, ◌<◌, nat_lt, cond, Bool, true, false, List, length}
 use Rattle.std.specs.List.{list_all}
-use Rattle.std.specs.Prelude.{◌&&◌, not, [], ◌∷◌, ◌++◌, Option, Some, None, MatchBool, Result, Ok, Err, is_ok, is_some, slice_get, slice_set}
+use Rattle.std.specs.Prelude.{◌&&◌, not, [], ◌∷◌, ◌++◌, Option, Some, None, MatchBool, Result, Ok, Err, IfOk, is_ok, is_some}
+use Rattle.std.specs.Prelude.{slice_get, slice_set}
 use Rattle.pt_signal.specs.declared.pid.Pid.{Pid}
 use Rattle.pt_signal.specs.declared.ids.Ref.{Ref}
 use Rattle.pt_signal.specs.declared.item.Item.{Item}
@@ -23,19 +24,23 @@ use Rattle.pt_behaviour.specs.Births.{Bore, born}
 use Rattle.pt_behaviour.specs.declared.call_fault.CallFault.{CallFault}
 use Rattle.pt_behaviour.specs.Telling.{IfKnown, Watches}
 use Rattle.pt_behaviour.specs.Upholding.{children_by}
-use Rattle.pt_supervisor.specs.declared.asked.Stage.{Stage}
-use Rattle.pt_supervisor.specs.declared.asked.Stage.TheVariants.{Gone, Watched, Waiting, Until, Killed}
-use Rattle.pt_supervisor.specs.declared.children.Child.{Child}
-use Rattle.pt_supervisor.specs.declared.children.Shutdown.{Shutdown}
-use Rattle.pt_supervisor.specs.declared.restart.Restart.{Restart}
-use Rattle.pt_supervisor.specs.Children.{AreStarted, NoneLives, NoneUnwanted, PermanentAreWanted}
-use Rattle.pt_supervisor.specs.Children.{is_missing, last_alive}
-use Rattle.pt_supervisor.specs.Ending.{bids, is_noproc, stage_of, stage_told, next_at_stage, next_tried}
+use Rattle.pt_children.specs.declared.asked.Stage.{Stage}
+use Rattle.pt_children.specs.declared.asked.Stage.TheVariants.{Gone, Watched, Waiting, Until, Killed}
+use Rattle.pt_children.specs.declared.children.Child.{Child}
+use Rattle.pt_children.specs.declared.children.Shutdown.{Shutdown}
+use Rattle.pt_children.specs.declared.restart.Restart.{Restart}
+use Rattle.pt_children.specs.Children.{AreStarted, NoneLives, NoneUnwanted, PermanentAreWanted}
+use Rattle.pt_children.specs.Children.{is_missing, last_alive}
+use Rattle.pt_children.specs.Ending.{bids, stage_of, stage_told}
+use Rattle.pt_supervisor.specs.Ending.{is_noproc, next_at_stage, next_tried}
 use Rattle.pt_supervisor.specs.declared.supervisor.Supervisor.{Supervisor}
-use Rattle.pt_supervisor.specs.Limits.{moment}
-use Rattle.pt_supervisor.specs.declared.restart.Strategy.{Strategy}
-use Rattle.pt_supervisor.specs.Trying.{goes_past, is_startable, started_child, unstarted_child}
-use Rattle.pt_supervisor.specs.Hearing.{Standing, at_stage, first_heeded, gone_on, heard, monitor_closed, program_of, standing}
+use Rattle.pt_children.specs.Limits.{moment}
+use Rattle.pt_children.specs.declared.restart.Strategy.{Strategy}
+use Rattle.pt_children.specs.Homes.{AllHere, asked_child, is_here, is_waiting, place_coming}
+use Rattle.pt_supervisor.specs.Joining.{MeetsIn}
+use Rattle.pt_children.specs.Trying.{goes_past, is_startable, started_child, unstarted_child}
+use Rattle.pt_children.specs.Hearing.{Standing, at_stage, first_heeded, gone_on, heard, monitor_closed}
+use Rattle.pt_supervisor.specs.Hearing.{program_of, standing}
 
 -- the program's `Start`: it before, the supervisor, the place, what it answers, and it afterwards
 abbrev pub StartsOf : Type 0 → Type 0 → Type 1
@@ -61,8 +66,8 @@ abbrev pub with_one : Result Pid Fault → ℕ → ℕ
 with_one (Ok p) n = min (n + 1) (2 ^ 64 - 1)
 with_one (Err f) n = n
 
--- What the program answers as the child c is to be started: its behaviour, with which it is born, linked with its
--- supervisor, if the desk does not refuse that; or a refusal of its own.
+-- What the program answers as the child c is to be started: its behaviour, with which it is born on the same desk, linked
+-- with its supervisor, if the desk does not refuse that; or a refusal of its own.
 abbrev pub BearsAs : {S B : Type 0} → Pid → ℕ → Child → Result (B × Next) Fault → Nursery S B → Nursery S B → Type 0
 BearsAs me place c (Err f) old new =
     (new.children ≡ slice_set old.children place (unstarted_child old.desk.clock f c)) × (new.desk ≡ old.desk)
@@ -70,11 +75,20 @@ BearsAs me place c (Err f) old new =
 BearsAs me place c (Ok (b, first)) old new =
     (born : Result Pid Fault) × Bore me true b first old.desk old.born born new.desk new.born
     × (new.children ≡ with_pid new.desk.clock place c born old.children) × (new.started ≡ with_one born old.started)
+    × IfOk born (λ p. p.shard ≡ me.shard)
 
--- the child at a place is started, or is not
-abbrev pub TriesAt : {S B : Type 0} → StartsOf S B → Pid → ℕ → Child → Nursery S B → Nursery S B → Type 0
-TriesAt {S} {B} starts me place c old new =
+-- the child at a place is started on its supervisor's desk, or is not
+abbrev pub SpawnsChildAt : {S B : Type 0} → StartsOf S B → Pid → ℕ → Child → Nursery S B → Nursery S B → Type 0
+SpawnsChildAt {S} {B} starts me place c old new =
     (begins : Result (B × Next) Fault) × starts old.start me place begins new.start × BearsAs me place c begins old new
+
+-- one that is to be started on another desk: the program is asked, and nothing else has changed
+abbrev pub AsksProgramFor : {S B : Type 0} → ℕ → Child → Nursery S B → Nursery S B → Type 0
+AsksProgramFor place c old new = new ≡ record old { children = slice_set old.children place (asked_child c) }
+
+abbrev pub TriesAt : {S B : Type 0} → StartsOf S B → Pid → ℕ → Child → Nursery S B → Nursery S B → Type 0
+TriesAt starts me place c old new =
+    MatchBool (is_here c.home) (SpawnsChildAt starts me place c old new) (AsksProgramFor place c old new)
 
 -- so it is if it is due; whether those behind it are started
 abbrev pub StartsAt : {S B : Type 0} → StartsOf S B → Pid → Strategy → ℕ → Option Child → Nursery S B → Bool → Nursery S B
@@ -219,9 +233,18 @@ SupervisorAttends me time None old d answer new e =
     × Calls me (Some (Flag me true)) (state_in d.shard me).traps d.shard result e.shard × (answer ≡ is_ok result)
     × (new ≡ cond answer (gone_on (moment old.timed e.shard.clock time) old) old)
 
+-- while a child is started on another desk nobody else is started or ended, and it does not end
+abbrev pub GoesForward : {S B : Type 0} → StartsOf S B → Pid → ℕ → Option ℕ → SupervisorScene S B → Next → SupervisorScene S B
+    → Type 0
+GoesForward starts me now None old next new = Advances starts me now old next new
+GoesForward starts me now (Some place) old next new =
+    MeetsIn me place (slice_get old.standing.children place) old.standing old.desk next new.standing new.desk
+    × (new.start ≡ old.start) × (new.born ≡ old.born)
+
 abbrev pub after_attending : {S B : Type 0} → StartsOf S B → Pid → ℕ → Bool → SupervisorScene S B → Next
     → SupervisorScene S B → Type 0
-after_attending starts me now true mid next new = Advances starts me now mid next new
+after_attending starts me now true mid next new =
+    GoesForward starts me now (place_coming mid.standing.children) mid next new
 after_attending starts me now false mid next new = (next ≡ Proceed) × (new ≡ mid)
 
 -- so it handles an item, or none, at a time
@@ -234,17 +257,21 @@ pub record SupervisorHandles {S B : Type 0} (starts : StartsOf S B) (me : Pid) (
   pub goes : after_attending starts me time answer mid next new
 
 -- What it waits for tells how its children stand: for any item where each that is to live was started, none that is not
--- wanted lives, and none is to end; for the DOWN of one, where that is the last of those that are to end, and it was told so, or killed; until a time,
+-- wanted lives, and none is to end, or where one is being started on another desk; for the DOWN of one, where that is the last of those that are to end, and it was told so, or killed; until a time,
 -- where it has to end by then; for any item, and no longer than there is one, where a start failed. It ends where none lives.
 abbrev pub EndsLast : Pid → Shutdown → Stage → Standing → Type 0
 EndsLast p shutdown stage s =
     (last_alive s.children s.ending (length s.children) ≡ Some (p, shutdown))
     × (s.asked ≡ Some (record { pid = p; stage = stage }))
 
-abbrev pub WaitsFor : Pick → Standing → Type 0
-WaitsFor Pick.Any s =
+-- it has nothing to do
+abbrev pub HasNothingToDo : Standing → Type 0
+HasNothingToDo s =
     AreStarted s.children (length s.children) × (s.ending ≡ length s.children) × (s.stopping ≡ None) × (s.asked ≡ None)
     × NoneUnwanted s.children
+
+abbrev pub WaitsFor : Pick → Standing → Type 0
+WaitsFor Pick.Any s = MatchBool (is_waiting s.children) (Unit {0}) (HasNothingToDo s)
 WaitsFor (Pick.DownOf m) s =
     (p : Pid) × (shutdown : Shutdown)
     × (((shutdown ≡ Shutdown.Infinity) × EndsLast p shutdown (Waiting m) s) ⊎ EndsLast p shutdown (Killed m) s)
@@ -268,11 +295,17 @@ StaysWanted =
     (now : ℕ) (from : Pid) (reason : Reason) (s : Standing) → PermanentAreWanted s.children
     → PermanentAreWanted (heard now from reason s).children
 
--- so where it waits for any item each of its permanent children lives, by all that it has heard
+-- so where it waits for any item, and no child is being started on another desk, each of its permanent children lives, by
+-- all that it has heard
 abbrev pub PermanentLive : Type 0
 PermanentLive =
-    (s : Standing) → Supervises (Wait Pick.Any) s → PermanentAreWanted s.children → (place : ℕ) (c : Child)
-    → slice_get s.children place ≡ Some c → c.restart ≡ Restart.Permanent → is_some c.pid ≡ true
+    (s : Standing) → Supervises (Wait Pick.Any) s → is_waiting s.children ≡ false → PermanentAreWanted s.children
+    → (place : ℕ) (c : Child) → slice_get s.children place ≡ Some c → c.restart ≡ Restart.Permanent
+    → is_some c.pid ≡ true
+
+-- none is being started there where a supervisor spawns all its children
+abbrev pub HereAwaitsNobody : Type 0
+HereAwaitsNobody = (children : List Child) → AllHere children → is_waiting children ≡ false
 
 -- it counts one more for each child, up to the greatest number
 abbrev pub counted_with : List Pid → ℕ → ℕ

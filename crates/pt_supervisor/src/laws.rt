@@ -1,13 +1,15 @@
 //! What holds for each supervisor, as the contract of a function that does nothing.
 
 ghost use Rattle.pt_supervisor.specs.Keeping.{ChangesAfter, ChangesBefore};
-ghost use Rattle.pt_supervisor.specs.Supervising.{PermanentLive, StaysWanted};
+ghost use Rattle.pt_supervisor.specs.Supervising.{HereAwaitsNobody, PermanentLive, StaysWanted};
 
 /// For any item that a supervisor handles, each permanent child stays one that it wants alive. So if it waits for any
-/// item, each of them is alive, as far as it knows.
+/// item, and for no child that the program is to start on another desk, each of them is alive, as far as it knows. A
+/// supervisor that spawns all its children never waits for such a child (`here`).
 pub fn permanent_children_live()
     ensures stays { StaysWanted }
     ensures live { PermanentLive }
+    ensures here { HereAwaitsNobody }
 {}
 
 /// A behaviour may change its supervisor by calls that keep what it upholds of its children (`HoldsWhere`, as

@@ -1,7 +1,7 @@
 //! Behaviours of which some values are supervisors.
 
 ghost use Rattle.std.specs.Prelude.{Option};
-ghost use Rattle.pt_supervisor.specs.Hearing.{Standing};
+ghost use Rattle.pt_children.specs.Hearing.{Standing};
 ghost use Rattle.pt_supervisor.specs.Keeping.{SuperviseAs};
 
 use pt_behaviour::Behaviour;

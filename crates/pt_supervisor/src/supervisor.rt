@@ -1,6 +1,9 @@
 //! A supervisor.
 
-ghost use Rattle.std.specs.Prelude.{◌≡◌, ⊤, ℕ, Result};
+ghost use Rattle.std.specs.Prelude.{◌≡◌, ⊤, ℕ, IfOk, Result, true};
+ghost use Rattle.pt_behaviour.specs.Behaving.{takes};
+ghost use Rattle.pt_behaviour.specs.Births.{Bore, born, kept_roles};
+ghost use Rattle.pt_desk.specs.DeskState.{GoesOn};
 ghost use Rattle.pt_shard.specs.ShardState.{phase_of};
 ghost use Rattle.pt_supervisor.specs.Ending.{next_tried};
 ghost use Rattle.std.specs.Option.{ForSome};
@@ -8,15 +11,13 @@ ghost use Rattle.pt_signal.specs.declared.pid.Pid.{Pid};
 ghost use Rattle.pt_shard.specs.declared.fault.Fault.{Fault};
 ghost use Rattle.pt_behaviour.specs.declared.behaviour.Next.{Next};
 
-use crate::asked::{Asked, Stage, due_at, gone_in, is_noproc, stage_of, unless_by};
-use crate::child_fault::{ChildFault, present};
-use crate::children::{Child, Shutdown, is_process, last_alive, place_of, place_of_id, revive};
-use crate::gave_up::GaveUp;
-use crate::limit::Limit;
-use crate::restart::Strategy;
-use crate::seen::{ChildCounts, ChildSeen, ChildState, counted, seen};
-use crate::trial::{Trial, all_started, first_failed, place_over};
+use crate::asked::{due_at, is_noproc, waits};
 use pt_behaviour::{Births, CallFault, Next, exit_signal, monitor, spawn_child, trap};
+use pt_children::{
+    Asked, Child, ChildCounts, ChildFault, ChildSeen, ChildState, GaveUp, Limit, Shutdown, Stage,
+    Strategy, Trial, all_seen, all_started, counted, first_failed, gone_in, is_process, last_alive,
+    place_of, place_of_id, place_over, present, revive, stage_of, unless_by,
+};
 use pt_workers::{Desk, Fault, Item, Pick, Pid, Reason, Ref};
 use std::alloc::{AllocError, Global};
 use std::mem;
@@ -59,22 +60,23 @@ pub struct Supervisor<S> {
 }
 
 impl<S> Supervisor<S> {
-    ghost use Rattle.std.specs.Prelude.{◌<◌, IfOk, IfSome, Some, true, cond, length, map, slice_get};
-    ghost use Rattle.pt_desk.specs.DeskState.{GoesOn};
-    ghost use Rattle.pt_behaviour.specs.Births.{born, kept_roles, time_told};
-    ghost use Rattle.pt_behaviour.specs.Behaving.{takes};
-    ghost use Rattle.pt_supervisor.specs.Calling.{AddsChild, DeletesChild, RestartsChild, TerminatesChild, with_wanted, without_child};
-    ghost use Rattle.pt_supervisor.specs.Children.{AreStarted, NoneUnwanted, PermanentAreWanted};
-    ghost use Rattle.pt_supervisor.specs.declared.asked.Stage.TheVariants.{Gone};
-    ghost use Rattle.pt_supervisor.specs.Ending.{child_end_heard, is_noproc, stage_of};
-    ghost use Rattle.pt_supervisor.specs.Hearing.{at_stage, begun, first_heeded, gave_up_at, gone_heard, heard, lost};
-    ghost use Rattle.pt_supervisor.specs.Hearing.{monitor_closed, program_of, standing, to_try, tried_again};
-    ghost use Rattle.pt_supervisor.specs.Limits.{moment};
-    ghost use Rattle.pt_supervisor.specs.Hearing.{started_again, stopped};
-    ghost use Rattle.pt_supervisor.specs.Seen.{child_seen, children_counted};
+    ghost use Rattle.std.specs.Prelude.{◌<◌, IfSome, Some, cond, length, map, slice_get, slice_set};
+    ghost use Rattle.pt_behaviour.specs.Births.{time_told};
+    ghost use Rattle.pt_children.specs.Calling.{AddsChild, DeletesChild, RestartsChild, TerminatesChild, with_wanted, without_child};
+    ghost use Rattle.pt_children.specs.Children.{AreStarted, NoneUnwanted, PermanentAreWanted};
+    ghost use Rattle.pt_children.specs.declared.asked.Stage.TheVariants.{Gone};
+    ghost use Rattle.pt_children.specs.Ending.{child_end_heard, stage_of};
+    ghost use Rattle.pt_supervisor.specs.Ending.{is_noproc};
+    ghost use Rattle.pt_children.specs.Hearing.{at_stage, begun, first_heeded, gave_up_at, gone_heard, heard, lost};
+    ghost use Rattle.pt_children.specs.Hearing.{monitor_closed, to_try, tried_again};
+    ghost use Rattle.pt_supervisor.specs.Hearing.{program_of, standing};
+    ghost use Rattle.pt_children.specs.Limits.{moment};
+    ghost use Rattle.pt_children.specs.Hearing.{started_again, stopped};
+    ghost use Rattle.pt_children.specs.Seen.{child_seen, children_counted};
     ghost use Rattle.pt_supervisor.specs.Supervising.{Advances, EndsChild, SupervisorAttends, SupervisorHandles, TellsToEnd};
-    ghost use Rattle.pt_supervisor.specs.Supervising.{CountsBirths, SetsAt, StartsAll, StartsOne, Supervises, TriesAt, WatchesChild};
-    ghost use Rattle.pt_supervisor.specs.Trying.{is_startable};
+    ghost use Rattle.pt_supervisor.specs.Supervising.{CountsBirths, SetsAt, SpawnsChildAt, StartsAll, StartsOne, Supervises, TriesAt};
+    ghost use Rattle.pt_supervisor.specs.Supervising.{WatchesChild};
+    ghost use Rattle.pt_children.specs.Trying.{is_startable};
     ghost use Rattle.pt_supervisor.specs.Supervising.{nursery, supervisor_scene};
     ghost use Rattle.pt_supervisor.specs.Keeping.{BearsFrom, HoldsWhere, Tends};
     ghost use Rattle.pt_supervisor.specs.Changed.{RemembersWhere, next_due};
@@ -145,7 +147,7 @@ impl<S> Supervisor<S> {
     pub fn which_children(&self, alloc: Global) -> Result<Vec<ChildSeen>, AllocError>
         ensures { IfOk result (λ v. v.items ≡ map child_seen (standing self.now).children) }
     {
-        seen(alloc, self.children.as_slice())
+        all_seen(alloc, self.children.as_slice())
     }
 
     /// How many children it has, how many of them are alive, and how many are to be started.
@@ -362,7 +364,7 @@ impl<S> Supervisor<S> {
         if !self.attend(desk, now, me, item) {
             return Next::Proceed;
         }
-        self.advance(desk, births, now, me)
+        self.go_forward(desk, births, now, me)
     }
 
     /// Takes in an exit, or begins to trap exits. Returns whether no call failed.
@@ -460,8 +462,19 @@ impl<S> Supervisor<S> {
         self.hear(desk, now, from, reason);
     }
 
+    /// Puts a child into its place.
+    pub(crate) fn set_child(&mut self, place: usize, child: Child)
+        requires { place < length (standing self.old).children }
+        ensures standing { standing self.new ≡ record (standing self.old) {
+          children = slice_set (standing self.old).children place child;
+        } }
+        ensures start { program_of self.new ≡ program_of self.old }
+    {
+        self.children[place] = child;
+    }
+
     /// Notes which child it ends, and how far it has come.
-    fn set_asked(&mut self, asked: Option<Asked>)
+    pub(crate) fn set_asked(&mut self, asked: Option<Asked>)
         ensures standing { standing self.new ≡ record (standing self.old) { asked = asked } }
         ensures start { program_of self.new ≡ program_of self.old }
     {
@@ -541,9 +554,10 @@ impl<S> Supervisor<S> {
         }
     }
 
-    /// Ends the last of the children that are to end. If none is left, it exits, or starts the missing children.
+    /// Ends the last of the children that are to end. If none is left, it exits, or starts the missing children. None is
+    /// being started on another desk.
     #[tactic(auto, using(pt_workers::proofs::GoingOn::stays))]
-    fn advance<B: Drop>(
+    pub(crate) fn advance<B: Drop>(
         &mut self,
         desk: &mut Desk,
         births: &mut Births<B>,
@@ -656,7 +670,7 @@ impl<S> Supervisor<S> {
             return Next::Proceed;
         }
         self.set_asked(Some(Asked { pid, stage }));
-        stage.waits()
+        waits(stage)
     }
 
     /// Starts the children that are due, in order, up to one for which those behind it have to wait. Returns whether no
@@ -724,7 +738,7 @@ impl<S> Supervisor<S> {
         tried.goes_past(self.strategy)
     }
 
-    /// Starts the child at a place, or notes that it was not started.
+    /// Starts the child at a place, or notes that it was not started. The program is asked for one of another desk.
     fn try_at<B: Drop>(
         &mut self,
         desk: &mut Desk,
@@ -750,6 +764,39 @@ impl<S> Supervisor<S> {
         ensures kept { kept_roles births.new ≡ kept_roles births.old }
         ensures goes_on { GoesOn desk.old desk.new }
     {
+        if !child.home.is_here() {
+            self.children[place] = child.asked_for();
+            return;
+        }
+        self.spawn_at(desk, births, me, place, child);
+    }
+
+    /// Spawns the child at a place, or notes that it was not started.
+    fn spawn_at<B: Drop>(
+        &mut self,
+        desk: &mut Desk,
+        births: &mut Births<B>,
+        me: Pid,
+        place: usize,
+        child: Child,
+    )
+    where
+        S: Start<B>,
+        requires within { place < length (standing self.old).children }
+        requires at { slice_get (standing self.old).children place ≡ Some child }
+        requires due { is_startable child ≡ true }
+        ensures does { SpawnsChildAt S.starts me place child
+            (nursery (supervisor_scene self.old desk.old births.old))
+            (nursery (supervisor_scene self.new desk.new births.new)) }
+        ensures rest { standing self.new ≡ record (standing self.old) {
+          children = (standing self.new).children;
+          started = (standing self.new).started;
+        } }
+        ensures at { SetsAt place (standing self.old).children (standing self.new).children }
+        ensures takes { takes desk.new.shard.journal ≡ takes desk.old.shard.journal }
+        ensures kept { kept_roles births.new ≡ kept_roles births.old }
+        ensures goes_on { GoesOn desk.old desk.new }
+    {
         let (behaviour, first) = match self.start.start(me, place) {
             Ok(begins) => begins,
             Err(fault) => {
@@ -757,7 +804,7 @@ impl<S> Supervisor<S> {
                 return;
             }
         };
-        match spawn_child(desk, births, me, true, behaviour, first) {
+        match spawn_linked(desk, births, me, behaviour, first) {
             Ok(pid) => {
                 self.children[place] = child.started(pid);
                 self.started = self.started.saturating_add(1);
@@ -780,6 +827,26 @@ impl<S> Supervisor<S> {
             None => Next::Proceed,
         }
     }
+}
+
+/// Spawns a child that is linked with its supervisor. It is of the supervisor's desk.
+fn spawn_linked<B: Drop>(
+    desk: &mut Desk,
+    births: &mut Births<B>,
+    me: Pid,
+    behaviour: B,
+    first: Next,
+) -> Result<Pid, Fault>
+    ensures does { Bore me true behaviour first desk.old.shard (born births.old) result desk.new.shard (born births.new) }
+    ensures near { IfOk result (λ p. p.shard ≡ me.shard) }
+    ensures takes { takes desk.new.shard.journal ≡ takes desk.old.shard.journal }
+    ensures kept { kept_roles births.new ≡ kept_roles births.old }
+    ensures goes_on { GoesOn desk.old desk.new }
+{
+    let born = spawn_child(desk, births, me, true, behaviour, first);
+    // read for the proof alone: by a lawful journal a child is of the desk of its parent
+    let _lawful = desk.journal();
+    born
 }
 
 /// What a supervisor does next whose children are not all started: it takes the first item that is there, or goes on

@@ -3,8 +3,8 @@
 use crate::compared::{holds, same};
 use pt_node::{Pid, Reason};
 use pt_supervisor::{
-    Child, ChildCounts, ChildFault, ChildSeen, ChildState, Limit, Restart, Shutdown, Strategy,
-    Supervisor, Trial,
+    Child, ChildCounts, ChildFault, ChildSeen, ChildState, Home, Limit, Restart, Shutdown,
+    Strategy, Supervisor, Trial,
 };
 use std::alloc::Global;
 use std::process::Abort;
@@ -27,6 +27,7 @@ const KILLED: Child = Child {
     wanted: true,
     id: 0,
     trial: Trial::First,
+    home: Home::Here,
 };
 
 #[test]

@@ -317,7 +317,7 @@ impl Listed {
 
     /// What the library knows of it.
     pub(crate) fn spec(&self, tag: u64) -> ChildSpec {
-        ChildSpec { tag, restart: self.restart, shutdown: self.shutdown.into() }
+        ChildSpec { restart: self.restart, shutdown: self.shutdown.into(), ..ChildSpec::new(tag) }
     }
 
     /// It was started: its behaviour is made.

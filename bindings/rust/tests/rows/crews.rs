@@ -95,6 +95,7 @@ fn children(w: &[&str]) -> Vec<ChildSpec> {
             "brutal_kill" => Shutdown::BrutalKill,
             time => Shutdown::After(time.parse().unwrap()),
         },
+        elsewhere: false,
     };
     w.chunks(4).map(child).collect()
 }

@@ -3,7 +3,8 @@ use Rattle.std.proofs.Common.{◌≡◌, Some, ap, ◌∙◌, rules}
 use Rattle.pt_scheduler.specs.Asking.{BossDeletes}
 use Rattle.pt_scheduler.specs.declared.scheduler.Scheduler.{Scheduler}
 use Rattle.pt_c_values.specs.Crossing.{pid_crossed}
-use Rattle.pt_c_crews.specs.Children.{CrewDeletesChild, place_after}
+use Rattle.pt_c_tools.specs.CrossingChildren.{told_after}
+use Rattle.pt_c_crews.specs.Children.{CrewDeletesChild}
 use Rattle.pt_c_crews.proofs.Asking.{asked}
 use Rattle.pt_c_crews.proofs.Through.{calls_through}
 use Rattle.pt_c_crews.proofs.children.delete_child.Goals.{in-Some-crew, in-None}
@@ -19,7 +20,7 @@ returns c =
           (λ (old new : Scheduler). CrewDeletesChild p c.args.tag c.match-deref_mut.code c.args.out.now c.match-deref_mut.out old new)
           (cc (c.in-Some.ensures.value, c.deref_mut.ensures.value, c.behind-held.view_is, w.in-Some-crew.is))
           (c.hold.ensures ∙ ap (λ b. Some b.value) w.held-is)
-          (asked p w.pid_in.result (λ r was is. BossDeletes c.args.tag was r is) (λ r. c.match-deref_mut.out ≡ place_after r c.args.out.now) c.match-deref_mut.code w.in-Some-crew.crew w.delete_child.new.self w.delete_child.result
-          w.pid_in.ensures (w.code-is ∙ w.place_code-code.ensures.code) (w.out-is ∙ w.place_code-code.ensures.wrote) r.asks r.attends r.upholds r.desk)
+          (asked p w.pid_in.result (λ r was is. BossDeletes c.args.tag was r is) (λ r. c.match-deref_mut.out ≡ told_after r c.args.out.now) c.match-deref_mut.code w.in-Some-crew.crew w.delete_child.new.self w.delete_child.result
+          w.pid_in.ensures (w.code-is ∙ w.value_code-code.ensures.code) (w.out-is ∙ w.value_code-code.ensures.wrote) r.asks r.attends r.upholds r.desk)
       | in-None w ↦ search rules
     ]

@@ -3,8 +3,9 @@ use Rattle.std.proofs.Common.{◌≡◌, Some, ap, sym, ◌∙◌, rules}
 use Rattle.pt_scheduler.specs.Asking.{BossStarts}
 use Rattle.pt_scheduler.specs.declared.scheduler.Scheduler.{Scheduler}
 use Rattle.pt_c_values.specs.Crossing.{pid_crossed}
-use Rattle.pt_c_crews.specs.Children.{CrewStartsChild, place_after}
-use Rattle.pt_c_crews.specs.Crossing.{child_in}
+use Rattle.pt_c_tools.specs.CrossingChildren.{told_after}
+use Rattle.pt_c_crews.specs.Children.{CrewStartsChild}
+use Rattle.pt_c_tools.specs.CrossingChildren.{child_in}
 use Rattle.pt_c_crews.proofs.Asking.{asked}
 use Rattle.pt_c_crews.proofs.InCrew.{codes_fit}
 use Rattle.pt_c_crews.proofs.Through.{calls_through}
@@ -23,8 +24,8 @@ returns c =
           (cc (c.in-Some.ensures.value, c.deref_mut.ensures.value, c.crew.view_is, w.in-Some-crew.is))
           (c.hold.ensures ∙ ap (λ b. Some b.value) w.held-is)
           (codes_fit (child_in c.args.child) known c.match-deref_mut.code _ _ (sym w.child_in.ensures ∙ w.in-Some-child_in.is)
-          (asked p w.pid_in.result (λ r was is. BossStarts known was r is) (λ r. c.match-deref_mut.out ≡ place_after r c.args.out.now) c.match-deref_mut.code w.in-Some-crew.crew w.start_child.new.self w.start_child.result
-          w.pid_in.ensures (w.code-is ∙ w.place_code.ensures.code) (w.out-is ∙ w.place_code.ensures.wrote) r.asks r.attends r.upholds r.desk))
+          (asked p w.pid_in.result (λ r was is. BossStarts known was r is) (λ r. c.match-deref_mut.out ≡ told_after r c.args.out.now) c.match-deref_mut.code w.in-Some-crew.crew w.start_child.new.self w.start_child.result
+          w.pid_in.ensures (w.code-is ∙ w.value_code.ensures.code) (w.out-is ∙ w.value_code.ensures.wrote) r.asks r.attends r.upholds r.desk))
       | in-Some-crew+in-None-child_in w ↦ search rules
       | in-None w ↦ search rules
     ]

@@ -2,7 +2,7 @@
 use Rattle.std.proofs.Common.{Some, Err, inr, refl, ap, sym, ◌∙◌, rules}
 use Rattle.pt_shard.specs.declared.fault.Fault.TheVariants.{Memory}
 use Rattle.pt_workers.proofs.GoingOn.{stays}
-use Rattle.pt_c_crews.specs.Crossing.{children_in, spec_in}
+use Rattle.pt_c_tools.specs.CrossingChildren.{children_in, spec_in}
 use Rattle.pt_c_crews.specs.Owning.{is_own}
 use Rattle.pt_c_crews.proofs.InCrew.{children_known, codes_fit, desk_fits, is_itself}
 use Rattle.pt_c_crews.proofs.Through.{calls_both}

@@ -2,7 +2,8 @@
 use Rattle.std.proofs.Common.{List, refl, subst}
 use Rattle.pt_behaviour.specs.declared.births.Role.{Role}
 use Rattle.pt_behaviour.specs.Births.{bore, born, time_told}
-use Rattle.pt_supervisor.specs.Hearing.{Standing, program_of, standing}
+use Rattle.pt_children.specs.Hearing.{Standing}
+use Rattle.pt_supervisor.specs.Hearing.{program_of, standing}
 use Rattle.pt_supervisor.specs.Supervising.{SupervisorHandles}
 use Rattle.pt_supervisor.specs.Keeping.{Tends}
 use Rattle.pt_scheduler.specs.declared.member.Member.{Member}

@@ -1,7 +1,8 @@
 -- `start_child`: its clauses `holds` and `remembers`.
 use Rattle.std.proofs.Common.{sym, subst}
 use Rattle.pt_supervisor.specs.Changed.{RemembersWhere}
-use Rattle.pt_supervisor.specs.Hearing.{Standing, standing}
+use Rattle.pt_children.specs.Hearing.{Standing}
+use Rattle.pt_supervisor.specs.Hearing.{standing}
 use Rattle.pt_supervisor.specs.Keeping.{HoldsWhere}
 use Rattle.pt_scheduler.proofs.plan.start_child.Goals as goal
 

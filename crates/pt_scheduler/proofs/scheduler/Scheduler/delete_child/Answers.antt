@@ -1,7 +1,8 @@
 -- `Scheduler::delete_child`: its clauses `asks`, `attends` and `upholds`.
 use Rattle.pt_supervisor.specs.Hearing.{standing}
 use Rattle.pt_scheduler.specs.Asking.{BossDeletes}
-use Rattle.pt_scheduler.proofs.Asking.{asked_attends, asked_upholds, asks, deletes_err}
+use Rattle.pt_scheduler.proofs.Asking.{asked_attends, asked_upholds, asks}
+use Rattle.pt_children.proofs.Refusing.{deletes_err}
 use Rattle.pt_scheduler.proofs.scheduler.Scheduler.delete_child.Goals as goal
 
 pub returns-clause-asks : goal.returns-clause-asks

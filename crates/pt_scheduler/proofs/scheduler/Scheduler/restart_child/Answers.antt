@@ -1,7 +1,8 @@
 -- `Scheduler::restart_child`: its clauses `asks`, `attends` and `upholds`.
 use Rattle.pt_supervisor.specs.Hearing.{standing}
 use Rattle.pt_scheduler.specs.Asking.{BossRestarts}
-use Rattle.pt_scheduler.proofs.Asking.{asked_attends, asked_upholds, asks, restarts_err}
+use Rattle.pt_scheduler.proofs.Asking.{asked_attends, asked_upholds, asks}
+use Rattle.pt_children.proofs.Refusing.{restarts_err}
 use Rattle.pt_scheduler.proofs.scheduler.Scheduler.restart_child.Goals as goal
 
 pub returns-clause-asks : goal.returns-clause-asks

@@ -9,9 +9,9 @@ use Rattle.pt_supervisor.specs.Keeping.{SupervisorBegins}
 use Rattle.pt_crew.specs.declared.crew.Crew.{Crew}
 use Rattle.pt_crew.specs.Crews.{Enters}
 use Rattle.pt_scheduler.specs.declared.member.Member.{Member}
-use Rattle.pt_scheduler.specs.declared.plan.ChildSpec.{ChildSpec}
+use Rattle.pt_children.specs.declared.spec.ChildSpec.{ChildSpec}
 use Rattle.pt_scheduler.specs.declared.plan.Plan.{Plan}
-use Rattle.pt_scheduler.specs.declared.plan.SupervisorSpec.{SupervisorSpec}
+use Rattle.pt_children.specs.declared.spec.SupervisorSpec.{SupervisorSpec}
 use Rattle.pt_scheduler.specs.Members.{boss_part}
 use Rattle.pt_scheduler.specs.Scheduling.{IsNewBoss, SpawnsBoss, new_member}
 use Rattle.pt_scheduler.proofs.Upheld.{new_begins}

@@ -1,7 +1,8 @@
 -- `Scheduler::terminate_child`: its clauses `asks`, `attends` and `upholds`.
 use Rattle.pt_supervisor.specs.Hearing.{standing}
 use Rattle.pt_scheduler.specs.Asking.{BossTerminates}
-use Rattle.pt_scheduler.proofs.Asking.{asked_attends, asked_upholds, asks, terminates_err}
+use Rattle.pt_scheduler.proofs.Asking.{asked_attends, asked_upholds, asks}
+use Rattle.pt_children.proofs.Refusing.{terminates_err}
 use Rattle.pt_scheduler.proofs.scheduler.Scheduler.terminate_child.Goals as goal
 
 pub returns-clause-asks : goal.returns-clause-asks

@@ -4,14 +4,16 @@ use Rattle.pt_signal.specs.declared.pid.Pid.{Pid}
 use Rattle.pt_signal.specs.declared.reason.Reason.{Reason}
 use Rattle.pt_shard.specs.ShardState.{phase_of}
 use Rattle.pt_behaviour.specs.declared.behaviour.Next.{Next}
-use Rattle.pt_supervisor.specs.declared.children.Child.{Child}
-use Rattle.pt_supervisor.specs.declared.children.Shutdown.{Shutdown}
-use Rattle.pt_supervisor.specs.Children.{PermanentAreWanted, last_alive}
-use Rattle.pt_supervisor.specs.Ending.{stage_of}
-use Rattle.pt_supervisor.specs.Hearing.{Standing, standing}
+use Rattle.pt_children.specs.declared.children.Child.{Child}
+use Rattle.pt_children.specs.declared.children.Shutdown.{Shutdown}
+use Rattle.pt_children.specs.Children.{PermanentAreWanted, last_alive}
+use Rattle.pt_children.specs.Ending.{stage_of}
+use Rattle.pt_children.specs.Hearing.{Standing}
+use Rattle.pt_supervisor.specs.Hearing.{standing}
 use Rattle.pt_supervisor.proofs.Ending.{ends_supervise}
 use Rattle.pt_supervisor.specs.Supervising.{AdvancesAs, SupervisorSettles, Supervises, supervisor_scene}
-use Rattle.pt_supervisor.proofs.Wanting.{first_rest}
+use Rattle.pt_supervisor.proofs.Joining.{settled_waits}
+use Rattle.pt_children.proofs.Wanting.{first_rest}
 use Rattle.pt_supervisor.proofs.Starting.{none_live, none_unwanted, settles, tried_supervises}
 use Rattle.pt_supervisor.proofs.supervisor.Supervisor.advance.Goals as goal
 
@@ -38,7 +40,8 @@ returns-then-start_missing-clause-supervises g c =
     let len : c.len-self.result ≡ length c.args.self.now.children.items = omega arith in
     let items = c.args.self.now.children.items in
     let none : last_alive items c.args.self.now.ending (length items) ≡ None =
-    ap (λ (xs : List Child). last_alive xs c.args.self.now.ending (length xs)) (sym c.as_slice.ensures.value) ∙ (sym c.last_alive.ensures ∙ c.in_default.is) in (
+    ap (λ (xs : List Child). last_alive xs c.args.self.now.ending (length xs)) (sym c.as_slice.ensures.value) ∙ (sym c.last_alive.ensures ∙ c.in_default.is) in
+    settled_waits (standing c.start_missing.new.self) (
       c.if-start_missing.ensures.started refl,
       ap (λ (s : Standing). s.ending) rest ∙ (len ∙ sym c.start_missing.ensures.count),
       ap (λ (s : Standing). s.stopping) rest ∙ c.in_default-stopping.is,

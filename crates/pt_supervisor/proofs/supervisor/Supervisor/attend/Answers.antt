@@ -1,9 +1,10 @@
 -- `Supervisor::attend`: its clause `permanent`.
 use Rattle.std.proofs.Common.{sym, subst}
-use Rattle.pt_supervisor.specs.Children.{PermanentAreWanted}
-use Rattle.pt_supervisor.specs.Hearing.{Standing, monitor_closed, standing}
-use Rattle.pt_supervisor.specs.Limits.{moment}
-use Rattle.pt_supervisor.proofs.Wanting.{heard_keeps}
+use Rattle.pt_children.specs.Children.{PermanentAreWanted}
+use Rattle.pt_children.specs.Hearing.{Standing, monitor_closed}
+use Rattle.pt_supervisor.specs.Hearing.{standing}
+use Rattle.pt_children.specs.Limits.{moment}
+use Rattle.pt_children.proofs.Wanting.{heard_keeps}
 use Rattle.pt_supervisor.proofs.supervisor.Supervisor.attend.Goals as goal
 
 pub returns-in-Some-Exit-clause-permanent : goal.returns-in-Some-Exit-clause-permanent

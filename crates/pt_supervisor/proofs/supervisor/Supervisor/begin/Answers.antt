@@ -1,9 +1,10 @@
 -- `Supervisor::begin`: its clause `permanent`.
 use Rattle.std.proofs.Common.{sym, subst}
-use Rattle.pt_supervisor.specs.Children.{PermanentAreWanted}
-use Rattle.pt_supervisor.specs.Hearing.{Standing, standing}
-use Rattle.pt_supervisor.specs.Limits.{moment}
-use Rattle.pt_supervisor.proofs.Wanting.{again_keeps, found_keeps}
+use Rattle.pt_children.specs.Children.{PermanentAreWanted}
+use Rattle.pt_children.specs.Hearing.{Standing}
+use Rattle.pt_supervisor.specs.Hearing.{standing}
+use Rattle.pt_children.specs.Limits.{moment}
+use Rattle.pt_children.proofs.Wanting.{again_keeps, found_keeps}
 use Rattle.pt_supervisor.proofs.supervisor.Supervisor.begin.Goals as goal
 
 pub returns-clause-permanent : goal.returns-clause-permanent

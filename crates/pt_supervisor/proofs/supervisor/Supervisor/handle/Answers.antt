@@ -1,7 +1,8 @@
 -- `Supervisor::handle`: its clauses `does`, `tends`, `bears` and `counts`.
 use Rattle.std.proofs.Common.{ℕ, true, false, refl, subst}
 use Rattle.pt_supervisor.specs.Hearing.{standing}
-use Rattle.pt_supervisor.specs.Supervising.{Advances, SupervisorAttends, supervisor_scene}
+use Rattle.pt_children.specs.Homes.{place_coming}
+use Rattle.pt_supervisor.specs.Supervising.{GoesForward, SupervisorAttends, supervisor_scene}
 use Rattle.pt_supervisor.proofs.Bearing.{handles_bear}
 use Rattle.pt_supervisor.proofs.Counted.{handles_count}
 use Rattle.pt_supervisor.proofs.Tending.{handles_tend}
@@ -24,8 +25,8 @@ returns-clause-does g c = record {
   attends = subst (λ (t : ℕ). SupervisorAttends c.args.me t c.args.item (standing c.args.self.now) c.args.desk.now true (standing c.attend.new.self) c.attend.new.desk) c.now-now.ensures
       c.if-not-attend.ensures.does;
   same = (c.attend.ensures.start, refl);
-  goes = subst (λ (t : ℕ). Advances g.S.Start.starts c.args.me t (supervisor_scene c.attend.new.self c.attend.new.desk c.args.births.now) c.advance.result
-      (supervisor_scene c.advance.new.self c.advance.new.desk c.advance.new.births)) c.now-now.ensures c.advance.ensures.does;
+  goes = subst (λ (t : ℕ). GoesForward g.S.Start.starts c.args.me t (place_coming (standing c.attend.new.self).children) (supervisor_scene c.attend.new.self c.attend.new.desk c.args.births.now) c.go_forward.result
+      (supervisor_scene c.go_forward.new.self c.go_forward.new.desk c.go_forward.new.births)) c.now-now.ensures c.go_forward.ensures.does;
 }
 
 pub returns-then-not-attend-clause-tends : goal.returns-then-not-attend-clause-tends
@@ -34,7 +35,7 @@ returns-then-not-attend-clause-tends g c =
 
 pub returns-clause-tends : goal.returns-clause-tends
 returns-clause-tends g c =
-    handles_tend g.S.Start.starts c.args.me _ c.args.item _ _ _ (returns-clause-does g c) c.advance.ensures.supervises
+    handles_tend g.S.Start.starts c.args.me _ c.args.item _ _ _ (returns-clause-does g c) c.go_forward.ensures.supervises
 
 pub returns-then-not-attend-clause-bears : goal.returns-then-not-attend-clause-bears
 returns-then-not-attend-clause-bears g c =
@@ -51,4 +52,4 @@ pub returns-clause-counts : goal.returns-clause-counts
 returns-clause-counts g c = handles_count c.args.me g.S.Start.starts _ c.args.item _ _ _ (returns-clause-does g c)
 
 pub returns-clause-permanent : goal.returns-clause-permanent
-returns-clause-permanent g c = λ k. c.advance.ensures.permanent (c.if-not-attend.ensures.permanent k)
+returns-clause-permanent g c = λ k. c.go_forward.ensures.permanent (c.if-not-attend.ensures.permanent k)

@@ -1,6 +1,6 @@
 -- `Supervisor::start_child`: its clauses `holds` and `remembers`.
 use Rattle.std.proofs.Common.{List, ap}
-use Rattle.pt_supervisor.specs.declared.children.Child.{Child}
+use Rattle.pt_children.specs.declared.children.Child.{Child}
 use Rattle.pt_supervisor.specs.Hearing.{standing}
 use Rattle.pt_supervisor.proofs.Changing.{more_holds, more_remembers}
 use Rattle.pt_supervisor.proofs.supervisor.Supervisor.start_child.Goals as goal

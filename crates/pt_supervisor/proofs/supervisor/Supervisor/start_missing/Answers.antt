@@ -2,10 +2,11 @@
 use Rattle.std.proofs.Common.{◌≡◌, true, false, not, refl, ◌∙◌, ap, subst, arith}
 use Rattle.std.specs.List.{list_all}
 use Rattle.pt_desk.proofs.Turning.{goes_on_then}
-use Rattle.pt_supervisor.specs.Hearing.{Standing, standing}
-use Rattle.pt_supervisor.specs.declared.children.Child.{Child}
-use Rattle.pt_supervisor.specs.declared.restart.Strategy.{Strategy}
-use Rattle.pt_supervisor.specs.Children.{is_missing}
+use Rattle.pt_children.specs.Hearing.{Standing}
+use Rattle.pt_supervisor.specs.Hearing.{standing}
+use Rattle.pt_children.specs.declared.children.Child.{Child}
+use Rattle.pt_children.specs.declared.restart.Strategy.{Strategy}
+use Rattle.pt_children.specs.Children.{is_missing}
 use Rattle.pt_supervisor.specs.Supervising.{StartsOne, nursery, supervisor_scene}
 use Rattle.pt_supervisor.proofs.Starting.{all_are_started, first_more}
 use Rattle.pt_supervisor.proofs.supervisor.Supervisor.start_missing.Goals as goal

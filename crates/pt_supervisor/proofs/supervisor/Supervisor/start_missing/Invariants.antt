@@ -3,7 +3,7 @@ use Rattle.std.proofs.Common.{◌≡◌, length}
 use Rattle.pt_desk.specs.DeskState.{GoesOn}
 use Rattle.pt_behaviour.specs.Births.{kept_roles}
 use Rattle.pt_behaviour.specs.Behaving.{takes}
-use Rattle.pt_supervisor.specs.Children.{NoneUnwanted, PermanentAreWanted}
+use Rattle.pt_children.specs.Children.{NoneUnwanted, PermanentAreWanted}
 use Rattle.pt_supervisor.specs.Hearing.{standing}
 use Rattle.pt_supervisor.specs.Supervising.{StartsFirst, nursery, supervisor_scene}
 use Rattle.pt_supervisor.proofs.supervisor.Supervisor.start_missing.Given as goal

@@ -1,7 +1,7 @@
 -- `Supervisor::to_try`: its clause `within`.
 use Rattle.std.proofs.Common.{◌≡◌, List, length, Some, sym, ap, ◌∙◌, arith}
-use Rattle.pt_supervisor.specs.declared.children.Child.{Child}
-use Rattle.pt_supervisor.specs.Trying.{first_failed}
+use Rattle.pt_children.specs.declared.children.Child.{Child}
+use Rattle.pt_children.specs.Trying.{first_failed}
 use Rattle.pt_supervisor.proofs.Starting.{failed_within}
 use Rattle.pt_supervisor.proofs.supervisor.Supervisor.to_try.Goals as goal
 

@@ -1,0 +1,13 @@
+pub mod Text
+pub mod Restarts
+pub mod Limits
+pub mod Ending
+pub mod Children
+pub mod Homes
+pub mod Trying
+pub mod Seen
+pub mod Hearing
+pub mod Specifying
+pub mod Calling
+pub mod Answering
+pub mod Families

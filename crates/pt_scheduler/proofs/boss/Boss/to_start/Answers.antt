@@ -1,0 +1,18 @@
+-- `Boss::to_start`: its clauses `holds` and `remembers`.
+use Rattle.std.proofs.Common.{◌≡◌, subst}
+use Rattle.pt_supervisor.specs.declared.supervisor.Supervisor.{Supervisor}
+use Rattle.pt_supervisor.specs.Changed.{RemembersWhere}
+use Rattle.pt_supervisor.specs.Hearing.{standing}
+use Rattle.pt_supervisor.specs.Keeping.{HoldsWhere}
+use Rattle.pt_scheduler.specs.declared.plan.Plan.{Plan}
+use Rattle.pt_scheduler.proofs.boss.Boss.to_start.Goals as goal
+
+pub returns-clause-holds : goal.returns-clause-holds
+returns-clause-holds c =
+    let is : c.deref_mut.result.now ≡ c.args.self.now = cc (c.deref_mut.ensures.value, c.self.view_is) in
+    subst (λ (b : Supervisor Plan). HoldsWhere (standing b) (standing c.to_start.new.self)) is c.to_start.ensures.holds
+
+pub returns-clause-remembers : goal.returns-clause-remembers
+returns-clause-remembers c =
+    let is : c.deref_mut.result.now ≡ c.args.self.now = cc (c.deref_mut.ensures.value, c.self.view_is) in
+    subst (λ (b : Supervisor Plan). RemembersWhere (standing b) (standing c.to_start.new.self)) is c.to_start.ensures.remembers

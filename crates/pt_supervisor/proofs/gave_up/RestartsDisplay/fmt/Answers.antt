@@ -1,9 +1,0 @@
--- `RestartsDisplay::fmt`: its clause `writes`.
-use Rattle.std.proofs.Common.{append_assoc}
-use Rattle.std.proofs.Output.{has_written_of_eq}
-use Rattle.pt_supervisor.specs.Text.{restarts_text}
-use Rattle.pt_supervisor.proofs.gave_up.RestartsDisplay.fmt.Goals as goal
-
-pub returns-clause-writes : goal.returns-clause-writes
-unfolding restarts_text
-returns-clause-writes g c = λ plain ok. has_written_of_eq _ _ _ _ _ (simp append_assoc) (c.write.ensures.writes plain ok)
