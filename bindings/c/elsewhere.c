@@ -184,7 +184,8 @@ static void not_started(void) {
     steps(&w);
     assert(to_start(&w) == 20 && pt_crew_child_not_started(&w.crews[0], w.boss, 20) == PT_OK);
     steps(&w);
-    assert(same(start(&w, 20, 2), child_at(&w, 0).pid) && same(child_at(&w, 2).pid, pids[2]));
+    const pt_pid again = start(&w, 20, 2);
+    assert(same(child_at(&w, 0).pid, again) && same(child_at(&w, 2).pid, pids[2]));
     end(&w);
 }
 
