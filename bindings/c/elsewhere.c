@@ -202,8 +202,100 @@ static void no_newcomers(void) {
     end(&w);
 }
 
+/* A process that exits before its supervisor has linked with it was not started. */
+static void gone_before_the_link(void) {
+    world w = {0};
+    pt_pid child;
+    pt_pid pids[3];
+    begin_all(&w, pids, PT_ONE_FOR_ONE, 2);
+    assert(pt_exit(&w.desks[2], pids[2], (pt_reason){PT_OTHER, 7}) == PT_OK);
+    steps(&w);
+    assert(to_start(&w) == 40 && pt_crew_spawn(&w.crews[1], &w.desks[1], 40, wait_any, &child) == PT_OK);
+    assert(pt_exit(&w.desks[1], child, (pt_reason){PT_OTHER, 8}) == PT_OK);
+    assert(pt_crew_child_started(&w.crews[0], w.boss, 40, child) == PT_OK);
+    steps(&w);
+    const pt_pid again = start(&w, 40, 1);
+    assert(same(child_at(&w, 2).pid, again) && same(child_at(&w, 0).pid, pids[0]));
+    end(&w);
+}
+
+/* The child behind the one that crashed ends first, and both start again in order. The child in front stays. */
+static void rest_starts_again(void) {
+    world w = {0};
+    pt_pid pids[3];
+    uint64_t tags[MOST];
+    begin_all(&w, pids, PT_REST_FOR_ONE, 2);
+    assert(pt_exit(&w.desks[0], pids[1], (pt_reason){PT_OTHER, 7}) == PT_OK);
+    steps(&w);
+    assert(exits(&w, tags) == 2 && tags[0] == 30 && tags[1] == 40);
+    assert(child_at(&w, 1).has_pid && !child_at(&w, 2).has_pid);
+    start(&w, 40, 1);
+    assert(same(child_at(&w, 0).pid, pids[0]) && child_at(&w, 2).has_pid);
+    end(&w);
+}
+
+/* Children come and go at run time: one elsewhere is added, ended, started again, ended and forgotten. */
+static void come_and_go(void) {
+    world w = {0};
+    pt_pid pids[3];
+    uint64_t tags[MOST];
+    size_t place = 9;
+    const pt_child_spec added = {.tag = 50, .restart = PT_TEMPORARY, .shutdown = PT_BRUTAL_KILL, .elsewhere = true};
+    begin_all(&w, pids, PT_ONE_FOR_ALL, 9);
+    assert(pt_crew_start_child(&w.crews[0], w.boss, added, &place) == PT_OK && place == 3);
+    steps(&w);
+    assert(pt_crew_restart_child(&w.crews[0], w.boss, 50) == PT_CHILD_RESTARTING);
+    start(&w, 50, 2);
+    assert(pt_crew_restart_child(&w.crews[0], w.boss, 50) == PT_CHILD_RUNNING);
+    assert(pt_crew_terminate_child(&w.crews[0], w.boss, 50) == PT_OK);
+    steps(&w);
+    assert(exits(&w, tags) == 1 && tags[0] == 50 && to_start(&w) == 0);
+    assert(pt_crew_restart_child(&w.crews[0], w.boss, 50) == PT_OK);
+    steps(&w);
+    assert(start(&w, 50, 1).shard == 1);
+    assert(pt_crew_terminate_child(&w.crews[0], w.boss, 50) == PT_OK);
+    steps(&w);
+    assert(pt_crew_delete_child(&w.crews[0], w.boss, 50, &place) == PT_OK && place == 3);
+    assert(same(child_at(&w, 0).pid, pids[0]) && same(child_at(&w, 2).pid, pids[2]));
+    end(&w);
+}
+
+/* Two thousand crashes on three desks. Each child is started again, on a desk that changes, and one start in five fails. */
+static void many_crashes(void) {
+    world w = {0};
+    pt_pid pids[3];
+    uint64_t tag;
+    unsigned random = 7;
+    begin_all(&w, pids, PT_ONE_FOR_ONE, 100000);
+    for (int round = 0; round < 2000; round++) {
+        random = random * 1103515245U + 12345U;
+        const size_t crashed = (random >> 16) % 3;
+        const pt_pid victim = child_at(&w, crashed).pid;
+        assert(pt_exit(&w.desks[victim.shard], victim, (pt_reason){PT_OTHER, 7}) == PT_OK);
+        for (steps(&w); (tag = to_start(&w)) != 0; steps(&w)) {
+            const uint16_t place = (uint16_t)(1 + (random >> 20) % 2);
+            pt_pid child;
+            random = random * 1103515245U + 12345U;
+            if ((random >> 16) % 5 == 0) {
+                assert(pt_crew_child_not_started(&w.crews[0], w.boss, tag) == PT_OK);
+                continue;
+            }
+            assert(pt_crew_spawn(&w.crews[place], &w.desks[place], tag, (pt_next){.code = PT_NEXT_PROCEED}, &child) == PT_OK);
+            assert(pt_crew_child_started(&w.crews[0], w.boss, tag, child) == PT_OK);
+        }
+        for (size_t k = 0; k < 3; k++) assert(child_at(&w, k).has_pid);
+        assert(!same(child_at(&w, crashed).pid, victim));
+    }
+    assert(child_at(&w, 1).pid.shard == 0);
+    end(&w);
+}
+
 int main(void) {
     all_start_again();
+    gone_before_the_link();
+    rest_starts_again();
+    come_and_go();
+    many_crashes();
     ends_in_order();
     ends_behind_the_answer();
     not_started();
