@@ -177,8 +177,8 @@ done
 if command -v valgrind >/dev/null; then
     # (fair: four threads that spin would else wait for each other for minutes)
     memory="valgrind -q --fair-sched=try --error-exitcode=9 --leak-check=full --show-leak-kinds=all --errors-for-leak-kinds=all"
-    for program in about asking bad_codes losses "rows $work/table" supervisor resumed tools "ring 20" crew crew_supervisors elsewhere \
-        "crew_load 3000"; do
+    for program in about asking bad_codes losses "rows $work/table" supervisor resumed tools "ring 20" crew crew_supervisors \
+        elsewhere "crew_load 3000"; do
         $memory "$work/"$program >"$work/printed" 2>&1 \
             || { cat "$work/printed"; echo "valgrind: $program is not clean"; exit 1; }
     done
