@@ -471,8 +471,8 @@ fn made_client<'a>(alloc: Global, curtain: &'a Curtain) -> Stage<Actor<'a>> {
 ///
 /// Each call of a client or a worker ends once, by its answer or by the exit of the queue. For any item that a
 /// supervisor handles, each of its children stays one that it wants alive. So if it waits for any item, and for no child
-/// on another desk, each child is alive, as far as it knows. A supervisor of this scene spawns all its children, and no
-/// such supervisor waits for a child on another desk.
+/// on another desk, each child is alive, as far as it knows. A supervisor that spawns all its children waits for no such
+/// child.
 pub fn play<R: Threads + Wait + Sync>(rt: &R, alloc: Global) -> Result<Jobs>
     ensures calls { EndsOnce }
     ensures wanted { StaysWanted }
