@@ -25,12 +25,15 @@ Edits of different functions go into one copy of their crate, and one check prov
 call. In the same check each function that is neither changed nor calls a changed one has to be proved, and at least one
 such function is asked for, so a broken set-up refuses nothing. An edit for which a batch gives no verdict goes into a
 later batch, at last alone. If a hand-written answer of another clause fails there, the prover leaves goals untried. So it
-is checked once more without that answer, and then counts if values break its goal or the tactics do not prove it. If a refusal rests on the words of its clause (deciding.py), then a twin of its function is
-tried too, and the refusal does not count if the twin fails at a goal of the same clause.
+is checked once more without that answer, and then counts if values break its goal or the tactics do not prove it. If a
+refusal rests on the words of its clause (deciding.py), then a twin of its function is tried too, and the refusal does not
+count if the twin fails at a goal of the same clause.
 
 A verdict is kept in verdicts.txt beside the checksum of all that it was made from. A run tries the edits that have none or
-one that is out of date, and a tenth of the others, drawn by the commit. A kept verdict that a trial contradicts fails the run. So does an edit that names no clause. An edit with a line
-`open: REASON` is one that no clause refuses yet. It is counted and printed, and fails if a clause refuses it.
+one that is out of date, and a tenth of the others. The commit draws it, of few crates, since most of a check is the reading of
+libraries; over the commits each edit comes as often as any other (kept.py). A kept verdict that a trial contradicts fails the
+run. So does an edit that names no clause. An edit with a line `open: REASON` is one that no clause refuses yet. It is counted
+and printed, and fails if a clause refuses it.
 
 An edit of something outside of all functions, as a constant, may reach any function, so it is tried alone. A line
 `fn: PATH` names the function whose goal is to refuse it.
@@ -368,7 +371,9 @@ def chosen(edits: list[Edit], given: argparse.Namespace, verdicts: dict[str, kep
     if words:
         return [it for it in edits if {it.label, it.crate} & {*words}]
     commit = subprocess.run(["git", "rev-parse", "HEAD"], cwd=ROOT, capture_output=True, text=True, check=False).stdout.strip()
-    return [it for it in edits if everything or not is_kept(it, verdicts, sums) or kept.is_drawn(it.label, commit)]
+    rest = [it for it in edits if not everything and is_kept(it, verdicts, sums)]
+    left_out = {it.label for it in rest} - {it.label for it in kept.drawn(rest, commit)}
+    return [it for it in edits if it.label not in left_out]
 
 
 def is_kept(edit: Edit, verdicts: dict[str, kept.Verdict], sums: kept.Checksums) -> bool:

@@ -80,9 +80,35 @@ def sources(folder: Path) -> str:
     return found.hexdigest()
 
 
-def is_drawn(label: str, commit: str) -> bool:
-    """Whether this commit draws an edit to be tried again: a tenth of all are drawn."""
-    return int(hashlib.sha256(f"{commit} {label}".encode()).hexdigest(), 16) % 10 == 0
+def drawn(edits: list[Edit], commit: str) -> list[Edit]:
+    """The tenth of these edits that a commit draws to be tried again. Over all commits each edit comes as often as any other.
+
+    Most of a check is the reading of libraries, so the tenth is of few crates and of few batches there. The edits are in a ring:
+    crate by crate, and in a crate batch by batch. The commit draws the order of the crates, and the place at which the tenth
+    begins. Each place is as likely as any other. So each edit has the same chance, whatever the order.
+    """
+    def number(word: str) -> int:
+        return int(hashlib.sha256(f"{commit} {word}".encode()).hexdigest(), 16)
+
+    order = {it: number(it) for it in {edit.crate for edit in edits}}
+    batch = batch_of(edits)
+    ring = sorted(edits, key=lambda it: (order[it.crate], batch[it.label], it.label))
+    tenth = (len(ring) + 9) // 10
+    first = number("begins") % max(1, len(ring))
+    return (ring[first:] + ring[:first])[:tenth]
+
+
+def batch_of(edits: list[Edit]) -> dict[str, int]:
+    """In which batch of its crate each edit goes: the first that changes none of its functions. Edits outside of all are last."""
+    found: dict[str, int] = {}
+    changed: dict[tuple[str, int], set[str]] = {}
+    for edit in edits:
+        at = len(edits) if edit.outside else 0
+        while not edit.outside and changed.setdefault((edit.crate, at), set()) & {*edit.functions}:
+            at += 1
+        found[edit.label] = at
+        changed.setdefault((edit.crate, at), set()).update(edit.functions)
+    return found
 
 
 def listed(crates: str) -> dict[str, list[str]]:

@@ -7,13 +7,17 @@ The last line is 'N passed, M failed', and the status is 0 if nothing failed.
 """
 from __future__ import annotations
 
+import argparse
 import re
 import sys
 import tempfile
 import unittest
+from collections import Counter
 from pathlib import Path
+from unittest import mock
 
 sys.dont_write_bytecode = True
+import batches
 import deciding
 import kept
 import reach
@@ -225,9 +229,69 @@ class Files(unittest.TestCase):
         self.assertEqual([str(it) for it in files if cites.search(it.read_text())], [])
         self.assertTrue(cites.search("use Rattle.pt_a.proofs.lib.run.Answers.{lemma}"))
 
-    def test_a_tenth_is_drawn(self) -> None:
-        drawn = sum(kept.is_drawn(f"crate/edit_{it}", "0123") for it in range(1000))
-        self.assertTrue(60 < drawn < 140, drawn)
+
+class Drawn(unittest.TestCase):
+    """Which of the edits with a kept verdict a commit draws."""
+
+    # (so many functions of each crate, and so many edits of the first one)
+    SIZES = {"one": (1, 1), "low": (3, 4), "middle": (12, 2), "high": (30, 5), "large": (70, 3)}
+    COMMITS = [f"{it:040x}" for it in range(1500)]
+
+    def edits(self) -> list[Edit]:
+        found = [Edit("low", "outside", [], outside=True)]
+        for crate, (functions, of_first) in self.SIZES.items():
+            found += [Edit(crate, f"first_{it}", [], functions=["f0"]) for it in range(1, of_first)]
+            found += [Edit(crate, f"of_{it}", [], functions=[f"f{it}"]) for it in range(functions)]
+        return found
+
+    def test_each_edit_comes_as_often_as_any_other(self) -> None:
+        edits = self.edits()
+        times = Counter(it.label for commit in self.COMMITS for it in kept.drawn(edits, commit))
+        self.assertEqual({*times}, {it.label for it in edits})
+        wanted = len(self.COMMITS) * len(kept.drawn(edits, "a")) / len(edits)
+        # (five times how far a count of so many draws is off on average)
+        self.assertLess(max(abs(it - wanted) for it in times.values()), 5 * (wanted * 0.9) ** 0.5)
+
+    def test_at_least_a_tenth_is_drawn_and_none_twice(self) -> None:
+        for many in (0, 1, 9, 10, 11, 127):
+            edits = self.edits()[:many]
+            for commit in self.COMMITS[:50]:
+                labels = [it.label for it in kept.drawn(edits, commit)]
+                self.assertEqual((len(labels), len({*labels})), (-(-many // 10), -(-many // 10)))
+
+    def test_the_commit_alone_decides(self) -> None:
+        edits = self.edits()
+        draws = [[it.label for it in kept.drawn(edits, commit)] for commit in self.COMMITS[:50]]
+        self.assertEqual(draws, [[it.label for it in kept.drawn(self.edits(), commit)] for commit in self.COMMITS[:50]])
+        self.assertGreater(len({*map(tuple, draws)}), 40)
+        orders = {tuple(dict.fromkeys(it.crate for it in kept.drawn(edits, commit))) for commit in self.COMMITS}
+        self.assertTrue({("low", "middle"), ("middle", "low")} <= {pair for it in orders for pair in zip(it, it[1:])}, orders)
+
+    def test_what_is_drawn_is_of_few_batches(self) -> None:
+        names = [(f"crate_{it // 20}", f"f{it % 20}", nth) for it in range(800) for nth in range(1 + it % 20 // 15)]
+        edits = [Edit(crate, f"{function}_{nth}", [], functions=[function]) for crate, function, nth in names]
+        for commit in self.COMMITS[:100]:
+            found = kept.drawn(edits, commit)
+            batch = kept.batch_of(found)
+            self.assertLessEqual(len({it.crate for it in found}), 5)
+            self.assertLessEqual(len({(it.crate, batch[it.label]) for it in found}), 10)
+
+    def test_the_edits_of_one_function_are_in_different_batches(self) -> None:
+        changed = {"1": "fg", "2": "h", "3": "g", "4": "f", "5": "gh"}
+        batch = kept.batch_of([Edit("a", name, [], functions=[*of]) for name, of in changed.items()])
+        self.assertEqual(batch, {"a/1": 0, "a/2": 0, "a/3": 1, "a/4": 1, "a/5": 2})
+
+    def test_an_edit_without_a_fresh_verdict_is_always_tried(self) -> None:
+        edits = self.edits()
+        stale = {it.label for it in edits[::7]}
+        for everything, names, least in ((False, [], stale), (True, [], {it.label for it in edits}), (False, ["high"], set())):
+            given = argparse.Namespace(all=everything, names=names)
+            with mock.patch.object(batches, "is_kept", lambda it, *_: it.label not in stale):
+                tried = {it.label for it in batches.chosen(edits, given, {}, mock.Mock())}
+            self.assertTrue(least <= tried, least - tried)
+            rest = -(-(len(edits) - len(stale)) // 10)
+            wanted = len(edits) if everything else sum(it.crate == "high" for it in edits) if names else len(stale) + rest
+            self.assertEqual(len(tried), wanted)
 
 
 class Reached(unittest.TestCase):
