@@ -3,7 +3,7 @@
 #
 #   bindings/archive.sh ARCHIVE         over the libraries that `rt ci` left, if it passed the files as they are now: the
 #                                       library itself is checked once more, and nothing below it. Else by `rt lib`, which
-#                                       proves what was not proved on this machine
+#                                       proves what it has not proved yet
 #   bindings/archive.sh --gate ARCHIVE  over the libraries that `rt ci` has just left
 #
 # `.ci/run` notes what `rt ci` passed (bindings/proved.py --note). RT names another 'rt'.

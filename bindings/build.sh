@@ -2,7 +2,7 @@
 # Builds the proved library for C, Rust and Python into a folder, as other packages install theirs.
 #
 #   bindings/build.sh FOLDER              takes what the gate proved and left here, if it is of the same sources. Else it
-#                                         proves what was not proved on this machine
+#                                         proves what `rt lib` has not proved yet
 #   bindings/build.sh --unproved FOLDER   proves nothing: for trying out, in a minute or two, and slower to run
 #
 # PT_C_ARCHIVE names an archive of pt_c that was built before. `pundewo_build`, a text in the library, says whether it was

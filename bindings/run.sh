@@ -4,7 +4,7 @@
 # library says of itself; the C examples run under valgrind. Before that it compares what each has of the interface with the
 # sources (bindings/abi.py).
 #
-#   bindings/run.sh           everything, over an archive of `rt lib`, which proves what was not proved on this machine
+#   bindings/run.sh           everything, over an archive of `rt lib`, which proves what it has not proved yet
 #   bindings/run.sh --gate    everything, over an archive that is built on the libraries which `rt ci` has just proved
 #                             and left in this tree: the library itself is checked once more, and nothing below it. It
 #                             keeps what it built (bindings/proved.py), and tests the packages (bindings/packages.py)

@@ -11,10 +11,11 @@
     --mark-open          gives each edit that no goal of its clause refuses a line `open:` that says so
     --logs FOLDER        keeps what the prover said of each batch there
     --said FOLDER        takes from there what the prover said of the very same files, and keeps it there
-    --libraries FOLDER   takes the proved libraries from another checkout (its folder crates/)
+    --libraries FOLDER   takes the proved libraries that this checkout lacks from another one (its folder crates/)
     --jobs N             so many checks side by side (else one a processor, as memory allows)
 
-The libraries are those that `rt ci` has proved and left in crates/*/out/rlib, so this runs behind it.
+The libraries are those of tools/check.py: what `rt ci` has left, or what `tools/check.py --all` has made, of the sources
+as they are now. So this runs behind one of them.
 
 A wrong body is a file CRATE/NAME.edit in this folder, with lines `file:`, `old:` and `new:` as the toolchain's edits under
 `must-fail` have them, and a line `clause: NAME: what is false of it`. deciding.py says what NAME may be, and when an edit counts as
@@ -60,9 +61,10 @@ from deciding import Broken, Edit, Finding, Said
 
 HERE = Path(__file__).resolve().parent
 ROOT = HERE.parent.parent
+sys.path.insert(0, str(ROOT / "tools"))
+import check  # noqa: E402
+
 VERDICTS = HERE / "verdicts.txt"
-# The least that a check takes of memory, in kilobytes, if several are to run side by side.
-MEMORY = 3_600_000
 
 
 @dataclass
@@ -76,35 +78,14 @@ class Kit:
 
     def words(self, crate: str) -> list[str]:
         """The compiler's words for a check of this crate."""
-        own = [it for it in self.crates[crate] if it in self.crates]
-        is_program = (ROOT / "crates" / crate / "src/main.rt").exists()
-        words = ["--crate-name", crate, "src/main.rt" if is_program else "src/lib.rt"]
-        for name in dict.fromkeys(["std", *(it for it in self.crates[crate] if it not in self.crates)]):
-            words += ["--extern", f"{name}={self.folder}/rlibs/{name}.rlib"]
-        words += ["-L", f"dependency={self.folder}/rlibs"]
-        for name in own:
-            words += ["--extern", f"{name}={self.library(name)}"]
-        for name in self.below(crate):
-            words += ["-L", f"dependency={self.library(name).parent}"]
-        words += ["--antt-project", f"{self.folder}/rattle/logic/antt-project.json"]
-        return [*words, "--logic-built", f"{self.folder}/logic_built", "--links", f"{crate}=", "--jobs", "1"]
-
-    def library(self, name: str) -> Path:
-        """The proved library of a crate, which was made of the sources that this checkout has."""
-        path = self.libraries / name / "out" / "rlib" / f"{name}.rlib"
-        if not path.is_dir():
-            raise Broken(f"no proved library of {name}: `rt ci` proves it, and this runs behind it")
-        if self.libraries != ROOT / "crates" and kept.sources(self.libraries / name) != kept.sources(ROOT / "crates" / name):
-            raise Broken(f"the library of {name} was made of other sources than this checkout has")
-        return path
+        try:
+            return [*check.compiler_words(self.crates, crate, self.libraries), "--jobs", "1"]
+        except check.Fault as fault:
+            raise Broken(str(fault)) from fault
 
     def below(self, crate: str) -> list[str]:
         """The crates of the repository that this one stands on."""
-        seen: list[str] = []
-        for name in self.crates[crate]:
-            if name in self.crates and name not in seen:
-                seen += [it for it in [*self.below(name), name] if it not in seen]
-        return seen
+        return check.below(self.crates, crate)
 
 
 def kit_of(libraries: Path) -> Kit:
@@ -114,7 +95,7 @@ def kit_of(libraries: Path) -> Kit:
         page, version = (subprocess.run([rt, it], capture_output=True, text=True, check=True).stdout.strip() for it in ("doc", "version"))
     except (OSError, subprocess.CalledProcessError) as error:
         raise Broken(f"'{rt}' does not tell where the toolchain is: {error}") from error
-    return Kit(Path(page).parent, version, libraries, kept.listed((ROOT / "crates.txt").read_text()))
+    return Kit(Path(page).parent, version, libraries, check.crates(ROOT))
 
 
 def sources_of(crate: str) -> dict[str, str]:
@@ -155,7 +136,6 @@ class Options:
 
     logs: Path | None
     said: Path | None
-    checksums: kept.Checksums
 
 
 class Trials:
@@ -286,7 +266,8 @@ class Trials:
 
     def check(self, texts: dict[str, str], only: list[str]) -> Said:
         """Checks a copy of the crate with these source files, or of it the functions `only` and what they call."""
-        known = hashlib.sha256(repr((self.options.checksums.of_crate(self.crate), sorted(texts.items()), sorted(only))).encode()).hexdigest()
+        reads = (self.kit.version, self.crate, self.kit.crates[self.crate], check.checksum(self.kit.crates, self.crate))
+        known = hashlib.sha256(repr((*reads, sorted(texts.items()), sorted(only))).encode()).hexdigest()
         kept_file = self.options.said / f"{self.crate}.{known[:20]}" if self.options.said else None
         if kept_file and kept_file.exists():
             text, seconds = kept_file.read_text(), 0.0
@@ -397,13 +378,6 @@ def by_hand(crate: str, texts: dict[str, str]) -> list[str]:
     return [it for it in paths if paths.count(it) == 1 and any(deciding.same(name, it) for name in proved)]
 
 
-def side_by_side() -> int:
-    """How many checks may run at a time."""
-    free = re.search(r"MemAvailable:\s+(\d+)", Path("/proc/meminfo").read_text())
-    by_memory = int(free[1]) // MEMORY if free else 1
-    return max(1, min(len(os.sched_getaffinity(0)), by_memory))
-
-
 def arguments() -> argparse.Namespace:
     """The words of the command line."""
     parser = argparse.ArgumentParser(description="Tries wrong bodies in batches.", allow_abbrev=False)
@@ -414,8 +388,8 @@ def arguments() -> argparse.Namespace:
     parser.add_argument("--mark-open", action="store_true", help="writes a line 'open:' into each edit that no goal of its clause refuses")
     parser.add_argument("--logs", type=Path, help="a folder for what the prover says of each batch")
     parser.add_argument("--said", type=Path, help="a folder with what the prover said of the same files before")
-    parser.add_argument("--libraries", type=Path, default=ROOT / "crates", help="the folder crates/ with the proved libraries")
-    parser.add_argument("--jobs", type=int, default=side_by_side(), help="checks side by side")
+    parser.add_argument("--libraries", type=Path, default=check.OTHER, help="the folder crates/ of another checkout with proved libraries")
+    parser.add_argument("--jobs", type=int, default=check.side_by_side(), help="checks side by side")
     return parser.parse_args()
 
 
@@ -436,7 +410,7 @@ def main() -> int:
         if given.all:
             for crate, own in crates.items():
                 own += twins_of(crate, own)
-        trials = [Trials(kit, crate, own, Options(given.logs, given.said, sums)) for crate, own in crates.items()]
+        trials = [Trials(kit, crate, own, Options(given.logs, given.said)) for crate, own in crates.items()]
         with ThreadPoolExecutor(max(1, given.jobs)) as pool:
             try_all(pool, trials)
     except Broken as error:

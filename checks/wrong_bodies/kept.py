@@ -5,7 +5,6 @@ That is the kit, the edit, the file that decides, and all that the changed funct
 from __future__ import annotations
 
 import hashlib
-import re
 from collections import Counter
 from dataclasses import dataclass
 from pathlib import Path
@@ -48,36 +47,17 @@ def write(file: Path, kept: dict[str, Verdict]) -> None:
 
 
 class Checksums:
-    """The checksums of crates and of edits."""
+    """The checksums of edits."""
 
     def __init__(self, root: Path, crates: dict[str, list[str]], kit: str, deciding_file: Path):
-        self.root, self.crates, self.kit = root, crates, kit
+        self.kit = kit
         self.deciding = deciding_file.read_bytes()
         self.reach = Reach(root, crates)
-        self.known: dict[str, str] = {}
-
-    def of_crate(self, crate: str) -> str:
-        """A checksum of all files of a crate and of the crates below it."""
-        if crate not in self.known:
-            found = hashlib.sha256(f"{self.kit}\0{crate}\0{' '.join(sorted(self.crates[crate]))}\0".encode())
-            for below in sorted(it for it in self.crates[crate] if it in self.crates):
-                found.update(self.of_crate(below).encode())
-            found.update(sources(self.root / "crates" / crate).encode())
-            self.known[crate] = found.hexdigest()
-        return self.known[crate]
 
     def of_edit(self, edit: Edit, text: bytes) -> str:
         """A checksum of all that the verdict of an edit is made from, of which this is the file."""
         reached = self.reach.checksum(edit)
         return hashlib.sha256(b"\0".join([self.kit.encode(), reached.encode(), text, self.deciding])).hexdigest()[:20]
-
-
-def sources(folder: Path) -> str:
-    """A checksum of a crate's own files that a check reads."""
-    found = hashlib.sha256()
-    for path in sorted(it for part in ("src", "specs", "proofs") for it in (folder / part).rglob("*") if it.is_file()):
-        found.update(f"{path.relative_to(folder)}\0".encode() + path.read_bytes() + b"\0")
-    return found.hexdigest()
 
 
 def drawn(edits: list[Edit], commit: str) -> list[Edit]:
@@ -108,14 +88,4 @@ def batch_of(edits: list[Edit]) -> dict[str, int]:
             at += 1
         found[edit.label] = at
         changed.setdefault((edit.crate, at), set()).update(edit.functions)
-    return found
-
-
-def listed(crates: str) -> dict[str, list[str]]:
-    """Each crate of crates.txt, with what it depends on."""
-    found = {}
-    for line in crates.split("\n"):
-        names, colon, below = line.split("#")[0].partition(":")
-        if colon and re.match(r"\w", names):
-            found[names.split()[0]] = below.split()
     return found
