@@ -83,6 +83,10 @@ impl<M> Aside<M> {
         self.held.is_empty()
     }
 
+    pub(crate) fn len(&self) -> usize {
+        self.held.len()
+    }
+
     /// The number of the item that the library has just handed out.
     fn count(&mut self) -> u64 {
         self.last += 1;

@@ -81,6 +81,12 @@ pub trait Behaviour: Sized + Send + 'static {
         false
     }
 
+    /// A text of its state, for those who look at the run: see [`Handle::inspect`](super::Handle::inspect). It is asked between
+    /// two of its handlers, on the thread of its desk, and should be short. Without this it is empty.
+    fn inspect(&self) -> String {
+        String::new()
+    }
+
     /// The process has exited, in whatever way, with this reason: that of [`Next::Stop`], [`PANIC`](super::PANIC), or that
     /// which the exit signal gave that ended it.
     fn ended(self, why: Reason) {

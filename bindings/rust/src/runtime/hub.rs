@@ -145,6 +145,7 @@ impl Hub {
     /// The run is over: nothing comes in any more, and all that is kept for processes is dropped.
     pub(crate) fn close(&self) {
         self.places.iter().for_each(Place::close);
+        self.meeting.book.taps.end();
     }
 
     pub(crate) fn order(&self) -> u8 {

@@ -4,6 +4,7 @@
 use super::archive::{Refusal, Sink};
 use super::hub::Hub;
 use super::inbox::locked;
+use super::observing::Taps;
 use super::promise::Promise;
 use super::report::Report;
 use crate::{Desk, Fault, Gathered, Quiet, gather};
@@ -18,6 +19,8 @@ pub(crate) struct Book {
     sink: Mutex<Option<Box<dyn Sink>>>,
     pub(crate) epochs: AtomicU64,
     pub(crate) archived: AtomicU64,
+    /// Who gets the events as they come.
+    pub(crate) taps: Taps,
 }
 
 /// How far the node is on its way to its next epoch.
@@ -74,11 +77,15 @@ impl Book {
 
     /// Hands the history to the sink, once.
     fn take(&self, node: &Quiet) -> Result<(), Refusal> {
-        if let Some(sink) = &mut *locked(&self.sink) {
+        let mut sink = locked(&self.sink);
+        if sink.is_some() || self.taps.any() {
             let history = node.history()?;
-            let taken = catch_unwind(AssertUnwindSafe(|| sink.take(&history)));
-            taken.unwrap_or_else(|_| Err("the sink panicked".into()))?;
-            self.archived.fetch_add(history.count() as u64, SeqCst);
+            if let Some(sink) = &mut *sink {
+                let taken = catch_unwind(AssertUnwindSafe(|| sink.take(&history)));
+                taken.unwrap_or_else(|_| Err("the sink panicked".into()))?;
+                self.archived.fetch_add(history.count() as u64, SeqCst);
+            }
+            self.taps.close_epoch(&history);
         }
         self.epochs.fetch_add(1, SeqCst);
         Ok(())

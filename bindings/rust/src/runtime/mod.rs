@@ -90,6 +90,7 @@ mod mailbox;
 mod meeting;
 mod name;
 mod numbers;
+mod observing;
 mod payloads;
 mod process;
 mod promise;
@@ -118,6 +119,10 @@ pub use ending::{Halted, StopFault, Summary};
 pub use group::Group;
 pub use mailbox::Mailbox;
 pub use name::Name;
+pub use observing::{
+    DeskView, First, Longest, Look, Observer, Place, ProcessView, SilentDesk, SupervisorView, Tap, Tapped, View,
+    WaitsFor,
+};
 pub use report::Report;
 pub use run::{Handle, Runtime, SpawnFault};
 pub use selection::Selection;

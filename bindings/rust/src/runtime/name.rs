@@ -22,6 +22,27 @@ struct Named<M> {
     given: Condvar,
 }
 
+/// The names that a process has.
+#[derive(Default)]
+pub(crate) struct Names(Mutex<Vec<String>>);
+
+impl Names {
+    pub(crate) fn list(&self) -> Vec<String> {
+        locked(&self.0).clone()
+    }
+
+    fn add(&self, name: &str) {
+        locked(&self.0).push(name.to_owned());
+    }
+
+    fn remove(&self, name: &str) {
+        let mut names = locked(&self.0);
+        if let Some(place) = names.iter().position(|it| it == name) {
+            names.remove(place);
+        }
+    }
+}
+
 impl<M: Send + 'static> Name<M> {
     /// A name that no process has. The text is for those who read the list of children.
     #[must_use]
@@ -93,7 +114,7 @@ impl<M: Send + 'static> Name<M> {
         if is_taken || !process.mailbox.is_open() {
             return false;
         }
-        let before = named.replace(process.clone());
+        let before = self.move_to(&mut named, Some(process.clone()));
         drop(named);
         self.0.given.notify_all();
         drop(before);
@@ -102,13 +123,21 @@ impl<M: Send + 'static> Name<M> {
 
     /// Takes the name from the process that has it: Erlang's `unregister`. It returns `false` if no live process has it.
     pub fn unregister(&self) -> bool {
-        let before = locked(&self.0.process).take();
+        let before = self.move_to(&mut locked(&self.0.process), None);
         before.is_some_and(|address| address.mailbox.is_open())
+    }
+
+    /// The name is another process's, or nobody's. It returns the address of the one that had it.
+    fn move_to(&self, named: &mut Option<Address<M>>, to: Option<Address<M>>) -> Option<Address<M>> {
+        let before = std::mem::replace(named, to);
+        before.iter().for_each(|address| address.mailbox.names.remove(&self.0.text));
+        named.iter().for_each(|address| address.mailbox.names.add(&self.0.text));
+        before
     }
 
     /// Gives a process the name.
     pub(crate) fn give(&self, to: Address<M>) {
-        let before = locked(&self.0.process).replace(to);
+        let before = self.move_to(&mut locked(&self.0.process), Some(to));
         self.0.given.notify_all();
         drop(before);
     }
@@ -116,7 +145,7 @@ impl<M: Send + 'static> Name<M> {
     /// Takes the name from this process, if it has it.
     pub(crate) fn take(&self, from: &Address<M>) {
         let mut process = locked(&self.0.process);
-        let taken = if process.as_ref() == Some(from) { process.take() } else { None };
+        let taken = if process.as_ref() == Some(from) { self.move_to(&mut process, None) } else { None };
         drop(process);
         drop(taken);
     }

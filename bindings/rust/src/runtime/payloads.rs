@@ -7,6 +7,7 @@ use super::asked::{Fails, tell_dropped};
 use super::behaviour::Bound;
 use super::calls::CallFault;
 use super::group::AnyMailbox;
+use super::name::Names;
 use super::numbers::Numbered;
 use super::room::Ticket;
 use super::selection::letter;
@@ -40,6 +41,8 @@ pub(crate) struct Values<M> {
     kept: Mutex<Option<Kept<M>>>,
     /// Whether the process may be in a group.
     pub(crate) is_in_groups: AtomicBool,
+    /// The names that it has.
+    pub(crate) names: Names,
 }
 
 struct Kept<M> {
@@ -77,6 +80,8 @@ pub(crate) trait Slot: Send + Sync {
     fn pid(&self) -> Pid;
     /// The name of the type of the behaviour.
     fn name(&self) -> &'static str;
+    /// The names that the process has.
+    fn names(&self) -> Vec<String>;
     /// Puts the answer of a call. It returns `false`, and the answer is dropped, if the process has exited.
     fn put_answer(&self, call: i64, given: Given) -> bool;
     /// Puts the text of a panic in this epoch beside the news of it.
@@ -112,7 +117,8 @@ impl<M> Values<M> {
             answers: Numbered::default(),
             panics: HashMap::new(),
         };
-        Values { pid, name, bound, kind, kept: Mutex::new(Some(kept)), is_in_groups: AtomicBool::new(false) }
+        let (kept, is_in_groups) = (Mutex::new(Some(kept)), AtomicBool::new(false));
+        Values { pid, name, bound, kind, kept, is_in_groups, names: Names::default() }
     }
 
     /// (nothing of the program's own runs under the lock: values are moved, and dropped outside of it)
@@ -226,6 +232,10 @@ impl<M: Send + 'static> Slot for Values<M> {
 
     fn name(&self) -> &'static str {
         self.name
+    }
+
+    fn names(&self) -> Vec<String> {
+        self.names.list()
     }
 
     fn put_answer(&self, call: i64, given: Given) -> bool {

@@ -6,6 +6,7 @@ use super::behaviour::{Behaviour, Bound, Down, Event, Exit};
 use super::calls::{Answer, CallFault, Calls, number_of};
 use super::context::{Context, demonitor};
 use super::gone::{Gone, gone_monitor};
+use super::observing::Outline;
 use super::payloads::{Slot, quietly};
 use super::selection::Wanted;
 use super::supervisor::is_supervisor;
@@ -27,6 +28,12 @@ pub(crate) trait Actor: Send {
     fn supervises(&self) -> bool;
     /// How many calls of it are open.
     fn owed(&self) -> usize;
+    /// Its mailbox.
+    fn slot(&self) -> &dyn Slot;
+    /// What it waits for.
+    fn outline(&self) -> Outline;
+    /// What its behaviour says of its state, by which it may panic.
+    fn inspect(&self) -> String;
 }
 
 pub(crate) struct Process<B: Behaviour> {
@@ -175,6 +182,7 @@ pub(crate) fn keep_older<M: Send + 'static>(
     for _ in 0..count {
         let taken = worker.desk().receive(pid, Pick::Any);
         let Ok(Some(item)) = worker.noted(taken) else { return };
+        worker.record.took(&item);
         let panic = news_of(item).and_then(|news| me.mailbox.take_panic(news));
         if let Some(item) = gone.name(worker.porter, item) {
             aside.keep(item, panic);
@@ -245,5 +253,17 @@ impl<B: Behaviour> Actor for Process<B> {
 
     fn owed(&self) -> usize {
         self.calls.len()
+    }
+
+    fn slot(&self) -> &dyn Slot {
+        &*self.me.mailbox
+    }
+
+    fn outline(&self) -> Outline {
+        Outline { next: self.next, wanted: self.wanted, aside: self.aside.len(), calls: self.calls.len() }
+    }
+
+    fn inspect(&self) -> String {
+        self.behaviour.inspect()
     }
 }

@@ -3,6 +3,7 @@
 use super::gone::{Gone, number_of_gone};
 use super::{ANSWER, FIRST_KIND, GONE, GONE_LINK, MESSAGE, MORE, OVER};
 use crate::{Item, Pick};
+use std::fmt;
 
 /// A kind from which on a selection takes all kinds as one.
 const LAST: u32 = 63;
@@ -117,6 +118,27 @@ impl Selection {
             (1, kind) if kind < LAST => Pick::Kind(letter(kind)),
             _ => Pick::Any,
         }
+    }
+}
+
+/// What it takes, in words: `all`, or such as `kinds 1 2, downs`.
+impl fmt::Display for Selection {
+    fn fmt(&self, f: &mut fmt::Formatter<'_>) -> fmt::Result {
+        if *self == Selection::ALL {
+            return f.write_str("all");
+        }
+        let (kinds, others): (Vec<_>, Vec<_>) = (0..=LAST).partition(|&kind| self.takes_kind(kind));
+        let texts = |kinds: Vec<u32>| kinds.iter().map(u32::to_string).collect::<Vec<_>>().join(" ");
+        let messages = match (kinds.is_empty(), others.is_empty()) {
+            (true, _) => None,
+            (_, true) => Some("messages".to_owned()),
+            _ if kinds.len() > others.len() => Some(format!("all kinds but {}", texts(others))),
+            _ => Some(format!("kinds {}", texts(kinds))),
+        };
+        let rest = [(self.downs, "downs"), (self.exits, "exits"), (self.answers, "answers")];
+        let rest = rest.iter().filter(|(on, _)| *on).map(|(_, text)| (*text).to_owned());
+        let parts: Vec<String> = messages.into_iter().chain(rest).collect();
+        if parts.is_empty() { f.write_str("nothing") } else { f.write_str(&parts.join(", ")) }
     }
 }
 

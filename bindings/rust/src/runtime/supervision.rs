@@ -6,7 +6,7 @@
 
 use super::PANIC;
 use super::calls::Reply;
-use super::child::{ChildFault, Listed, Post, Restart};
+use super::child::{ChildFault, ChildInfo, Listed, Post, Restart};
 use super::hub::Origin;
 use super::inbox::Task;
 use super::payloads::drop_quietly;
@@ -81,6 +81,20 @@ impl Supervision {
             Held::Behind(_) | Held::Nobody => self.held = Held::Nobody,
         }
         self.children.remove(&place)
+    }
+
+    /// The process that others know as the supervisor.
+    pub(crate) fn front(&self) -> Pid {
+        self.front
+    }
+
+    pub(crate) fn strategy(&self) -> Strategy {
+        self.strategy
+    }
+
+    /// What is known of the children, in the order in which they were added.
+    pub(crate) fn infos(&self) -> impl ExactSizeIterator<Item = ChildInfo> + '_ {
+        self.children.iter().map(|(&place, child)| child.info(place))
     }
 
     fn is_alive(&self, place: u64) -> bool {
@@ -232,6 +246,7 @@ impl Worker {
         let child = self.supervisions.get(&supervisor).and_then(|it| it.children.get(&place));
         if let Some(report) = child.and_then(|child| child.restarted(front, place)) {
             self.hub.report(&report);
+            self.record.restarted();
         }
     }
 
@@ -400,7 +415,7 @@ impl Worker {
         let front = supervision.front;
         match request {
             Request::Which(reply) => {
-                let all = supervision.children.iter().map(|(&place, child)| child.info(place)).collect();
+                let all = supervision.infos().collect();
                 self.reply(front, reply, all);
             }
             Request::Start(child) => self.start_child(supervisor, child),

@@ -6,6 +6,7 @@ use super::asked::tell_dropped;
 use super::behaviour::{Behaviour, Bound};
 use super::hub::{END, GO_ON, Hub, KILL, Origin};
 use super::inbox::{Place, Task};
+use super::observing::Record;
 use super::payloads::{News, Values, drop_quietly, quietly};
 use super::process::{Actor, Process};
 use super::report::Report;
@@ -41,7 +42,7 @@ pub(crate) enum Parent {
 }
 
 impl Parent {
-    fn pid(self) -> Option<Pid> {
+    pub(super) fn pid(self) -> Option<Pid> {
         match self {
             Parent::Outside => None,
             Parent::Process { pid, .. } | Parent::Supervisor(pid) => Some(pid),
@@ -50,15 +51,15 @@ impl Parent {
 }
 
 /// A process of the desk. Its tag is its place among the seats, unless a supervisor has spawned it.
-struct Seat {
-    pid: Pid,
-    parent: Parent,
+pub(super) struct Seat {
+    pub(super) pid: Pid,
+    pub(super) parent: Parent,
     /// The order that it was told.
     told: u8,
     /// Whether its handler has panicked.
     crashed: bool,
     /// `None` while its handler runs.
-    actor: Option<Box<dyn Actor>>,
+    pub(super) actor: Option<Box<dyn Actor>>,
 }
 
 /// What the thread of a desk has.
@@ -73,8 +74,8 @@ pub(crate) struct Worker {
     pub(super) crew: Crew,
     /// How many slots the desk has for those that are known outside.
     slots: usize,
-    seats: Vec<Option<Seat>>,
-    free: Vec<usize>,
+    pub(super) seats: Vec<Option<Seat>>,
+    pub(super) free: Vec<usize>,
     /// The seats of those that supervisors have spawned, by their slots: the last one of each slot.
     by_slot: Vec<usize>,
     /// The supervisors that live.
@@ -92,6 +93,8 @@ pub(crate) struct Worker {
     resumed: bool,
     jobs: Vec<Job>,
     pub(super) answers: Vec<(Pid, Next)>,
+    /// What it counts.
+    pub(super) record: Record,
 }
 
 impl Worker {
@@ -119,6 +122,7 @@ impl Worker {
             resumed: false,
             jobs: Vec::new(),
             answers: Vec::new(),
+            record: Record::default(),
         })
     }
 
@@ -155,6 +159,7 @@ impl Worker {
         let alarms = self.go_off();
         self.tell_order();
         let some = self.step(MOST) || tasks || alarms;
+        self.pass_on();
         if self.supervisions.is_empty() && self.left.is_empty() {
             return some;
         }
@@ -210,7 +215,8 @@ impl Worker {
         let desk = self.desk.as_mut().expect("a desk, outside of a meeting");
         let mut turned = desk.turn(BUDGET);
         let (resumed, mut left) = (std::mem::take(&mut self.resumed), Vec::new());
-        while let Some(Loss { pid, .. }) = self.crew.next_loss(desk).expect("the crew of this desk") {
+        while let Some(Loss { pid, items, .. }) = self.crew.next_loss(desk).expect("the crew of this desk") {
+            self.record.lost(&items);
             if resumed {
                 left.push(pid);
             }
@@ -262,6 +268,7 @@ impl Worker {
     fn handle(&mut self, pid: Pid, place: usize, what: What) {
         let mut actor = self.seats[place].as_mut().and_then(|seat| seat.actor.take()).expect("a process of this desk");
         self.runs(Some(pid));
+        let begun = self.record.begin(&what);
         match catch_unwind(AssertUnwindSafe(|| actor.told(self, what))) {
             Ok(next) => self.answers.push((pid, next)),
             Err(what) => {
@@ -274,6 +281,7 @@ impl Worker {
             }
         }
         self.runs(None);
+        self.record.end(begun, pid, || actor.slot().name());
         if let Some(seat) = &mut self.seats[place] {
             seat.actor = Some(actor);
         }

@@ -1,0 +1,61 @@
+//! What a desk counts of itself: plain numbers, which its own thread alone reads and writes.
+
+use super::tap::Feed;
+use super::view::Longest;
+use crate::crew::What;
+use crate::{Item, Pid};
+use std::time::Instant;
+
+/// What the thread of a desk has counted since the run began.
+#[derive(Default)]
+pub(crate) struct Record {
+    pub(super) messages: u64,
+    pub(super) handlers: u64,
+    pub(super) restarts: u64,
+    pub(super) losses: u64,
+    /// Whether handlers are timed. (each costs two readings of the clock)
+    pub(super) times: bool,
+    pub(super) longest: Option<Longest>,
+    /// Where the events of the desk go as they come.
+    pub(super) feeds: Vec<Feed>,
+}
+
+/// Whether an item is a message, or the answer of a call.
+fn is_message(item: &Item) -> bool {
+    matches!(item, Item::User(..))
+}
+
+impl Record {
+    /// A handler begins. It returns when, if that is asked.
+    #[inline]
+    pub(crate) fn begin(&mut self, what: &What) -> Option<Instant> {
+        self.handlers += 1;
+        self.messages += u64::from(matches!(what, What::Item(item) if is_message(item)));
+        self.times.then(Instant::now)
+    }
+
+    /// A handler that began then has returned.
+    #[inline]
+    pub(crate) fn end(&mut self, begun: Option<Instant>, pid: Pid, behaviour: impl FnOnce() -> &'static str) {
+        let Some(begun) = begun else { return };
+        let time = begun.elapsed();
+        if self.longest.is_none_or(|longest| longest.time < time) {
+            self.longest = Some(Longest { pid, behaviour: behaviour(), time });
+        }
+    }
+
+    /// A process has taken an item by itself, beside the one that its handler is told.
+    pub(crate) fn took(&mut self, item: &Item) {
+        self.messages += u64::from(is_message(item));
+    }
+
+    /// These items are lost.
+    pub(crate) fn lost(&mut self, items: &[Item]) {
+        self.losses += items.iter().filter(|item| is_message(item)).count() as u64;
+    }
+
+    /// A supervisor has started a child again by itself.
+    pub(crate) fn restarted(&mut self) {
+        self.restarts += 1;
+    }
+}
