@@ -237,7 +237,8 @@ def debian(given: Given, room: Path) -> None:
     pc.write_text(pc.read_text().replace("prefix=/\n", "prefix=/usr\n").replace("libdir=/lib", "libdir=${prefix}/lib"))
     modules = staged / "usr/lib/python3/dist-packages/pundewo"
     modules.mkdir(parents=True)
-    for path in (*sorted((BINDINGS / "python/pundewo").glob("*.py")), BINDINGS / "python/pundewo/py.typed"):
+    package = BINDINGS / "python/pundewo"
+    for path in (*sorted(package.glob("*.py")), *package.glob("*.html"), package / "py.typed"):
         if path.exists():
             shutil.copyfile(path, modules / path.name)
     (modules / "py.typed").touch()

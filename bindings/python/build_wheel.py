@@ -104,7 +104,7 @@ def write_wheel(folder: str, modules: dict[str, bytes], where: tuple[str, ...]) 
 
 def module_files() -> dict[str, bytes]:
     """The files of the module, the shared library included."""
-    modules = {f"pundewo/{path.name}": path.read_bytes() for path in sorted(PACKAGE.glob("*.py"))}
+    modules = {f"pundewo/{path.name}": path.read_bytes() for form in ("*.py", "*.html") for path in sorted(PACKAGE.glob(form))}
     return {**modules, "pundewo/py.typed": b"", "pundewo/libpundewo.so": library()}
 
 

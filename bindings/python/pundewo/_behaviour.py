@@ -310,6 +310,11 @@ class Behaviour(ABC):
     def handle(self, cx: Context, event: Event) -> Optional[Next]:
         """It is told this, and returns what it does next."""
 
+    def inspect(self) -> str:
+        """A text of its state, for those who look at the run: see `Runtime.inspect`. It is asked on the thread of the run, and
+        should be short."""
+        return ""
+
     def ended(self, why: Reason) -> None:
         """The process has exited, in whatever way, for this reason."""
 

@@ -21,10 +21,11 @@ from ._abi import CAnswer, CItem, CJob, CPid
 from ._family import StandIn, Supervising
 from ._library import pid_of, reader, reason_of, ref_of
 from ._process import WAITS, Address, Family, Porter, Seat, bytes_of
-from ._sending import HOLDS, Task, answer_key, kind_of, request_key
+from ._sending import Task, answer_key, kind_of, request_key
 from ._report import Crash, report, text_of
 from ._selection import ANSWER, FIRST_KIND, MESSAGE, NEWS, Waits
 from ._supervisor import Supervisor
+from ._tap import Tap
 from .values import ANY, ITEMS, JOBS, KILL, NOPROC, SHUTDOWN, U8, U64, Body, Item, Pick, Pid, Reason, Ref, unchecked
 
 log = logging.getLogger("pundewo")
@@ -64,6 +65,8 @@ class Engine(Supervising):
         self._node: Union[None, list[Desk], Gathered, Quiet] = None
         self._history: Optional[History] = None
         self.crashes = self.epochs = self.archived = 0
+        # who gets the events as they come
+        self.taps: list[Tap] = []
         self.killed: list[Pid] = []
         for number in range(desks):
             self.porters.append(self.spawn(Porter(), number))
@@ -197,6 +200,8 @@ class Engine(Supervising):
             dropped = len(self._dropped)
             for number in range(len(self.desks)):
                 busy |= self._step(number)
+            for tap in self.taps:
+                tap._pass_on(self.desks)
             for _ in range(dropped):
                 self._tell_dropped(self._dropped[0])
                 del self._dropped[0]
@@ -240,6 +245,8 @@ class Engine(Supervising):
             self._leave(seat, KILL)
         for call in list(self._outside):
             self._resolve(Answer(call, None, RunOver()))
+        for tap in self.taps:
+            tap.close()
         self.payloads.clear()
         self._alarms.clear()
         self._timers.close()
@@ -300,6 +307,7 @@ class Engine(Supervising):
             rows = self._rows[number]
             count, posted = crew._step(desk, 0, rows)
             jobs.extend(enumerate(JOB.iter_unpack(memoryview(rows).cast("B")[:count * JOB.size])))
+            self.record.told[number] += count
             some = count > 0 or turned.posted + turned.handled + posted.posted > 0
             # (what supervisors do is in no job. The step has read all events at its end)
             some = some or self.families > 0 and crew.queued() + desk.pending() > 0
@@ -324,6 +332,7 @@ class Engine(Supervising):
         for loss in iter(lambda: crew.next_loss(desk), None):
             for item in loss.items:
                 if item.body is not None:
+                    self.record.losses[number] += 1
                     self.payloads.pop(self._key_of(loss.pid, item.pid, item.body), None)
 
     def _key_of(self, to: Pid, sender: Pid, body: Body) -> int:
@@ -362,6 +371,7 @@ class Engine(Supervising):
             seat.family, seat.cx.me._crossing = Family(obeys or porter.pid), porter._crossing
             self.families += 1
         self.spawned += 1
+        seat.born = self.spawned
         self._untold = True
         return seat
 
@@ -370,6 +380,7 @@ class Engine(Supervising):
         code, tag, item, shard, slot, version, kind, num = job
         seat = self.seats[tag] if code == ITEM else self._seat_of(code, tag, self._rows[number][place])
         if seat is None:
+            self.record.unheard[number] += 1
             return
         self.running, self._place = seat, place
         try:
@@ -397,12 +408,13 @@ class Engine(Supervising):
             # (the next handler begins as this one has returned: so the clock is read once for each)
             self.running = self.event = None
             now = monotonic()
-            if now - self.since > HOLDS:
+            if now - self.since > self.mark:
                 self.note_holder(seat, now)
             self.since = now
 
     def _seat_of(self, code: int, tag: int, job: CJob) -> Optional[Seat]:
         """Who is told anything but an item. One that has exited is not."""
+        self.record.others[job.pid.shard] += 1
         if code == EXITED:
             self._tell_exit(tag, job)
             return None
@@ -417,13 +429,16 @@ class Engine(Supervising):
         if code == START:
             if seat.family is not None and isinstance(seat.behaviour, Supervisor):
                 self.supervise(seat, seat.behaviour, seat.family)
+                self.record.unheard[seat.pid.shard] += 1
                 return b""
             self.event = None
             return self._does(seat, seat.behaviour.started(seat.cx))
         if code == TIMES_OUT:
             event = TIMEOUT
         elif code == ITEM:
+            self.record.others[seat.pid.shard] += job.item.code != USER
             came = self._event_of(seat, job.item)
+            self.record.unheard[seat.pid.shard] += came is None
             if came is None or seat.aside is not None:
                 return seat.does if came is None else self._offer(seat, came)
             self._takes(seat, came)
@@ -449,6 +464,7 @@ class Engine(Supervising):
         if seat.aside is not None and not seat.aside.came(event):
             self.kept += isinstance(event, (Message, Request))
             if not seat.aside.takes_lost():
+                self.record.unheard[seat.pid.shard] += 1
                 return seat.does
             event = LOST
         return self._tells(seat, event)
@@ -483,6 +499,7 @@ class Engine(Supervising):
         waiting = ((item.pid, self._age_of(seat, item)) for item in desk._walk(crossing))
         for _ in range(older(waiting, pid_of(picked.pid), self._age_of_told(event, picked))):
             taken = desk._receive(crossing, ANY)
+            self.record.others[seat.pid.shard] -= taken is not None and taken.code == USER
             came = None if taken is None else self._event_of(seat, taken)
             if came is not None:
                 aside.keep(came)
@@ -713,5 +730,8 @@ class Engine(Supervising):
             if self.sink is not None:
                 self.sink(self._history)
                 self.archived += len(self._history)
+            self.taps = [tap for tap in self.taps if not tap.is_ended()]
+            for tap in self.taps:
+                tap._close_epoch(self._history)
             self._history.close()
             self._history = None

@@ -175,7 +175,7 @@ class Seat:
     """A process with its behaviour."""
 
     __slots__ = ("pid", "tag", "behaviour", "cx", "calls", "texts", "does", "told", "aside", "crossing", "waits", "names",
-                 "family", "gone", "is_in_groups", "picks", "room")
+                 "family", "gone", "is_in_groups", "picks", "room", "born")
 
     def __init__(self, engine: Engine, address: Address, tag: int, behaviour: Behaviour, parent: Optional[Pid]):
         self.pid, self.tag, self.behaviour = address.pid, tag, behaviour
@@ -188,6 +188,8 @@ class Seat:
         self.does = WAITS
         self.told = GO_ON
         self.room = address._room
+        # how many were spawned before it
+        self.born = 0
         # what it was handed and does not take now, if it chooses
         self.aside: Optional[Aside] = None
         # the names that it was given
@@ -256,6 +258,7 @@ class Kid:
         self.address, self.runs = address, True
         self.started += 1
         if self.why is not None:
+            self.above.cx._engine.record.restarts[self.above.pid.shard] += 1
             level = logging.INFO if self.why in (NORMAL, SHUTDOWN) else logging.WARNING
             report(level, Restart(self.above.pid, self.start.name, address.pid, self.why, self.started))
 

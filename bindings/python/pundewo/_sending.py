@@ -18,6 +18,7 @@ from ._bound import DROP_OLDEST, DROPPED, Room
 from ._process import Address, Seat
 from ._report import Holder, report
 from ._selection import ANSWER, MESSAGE, NEWS, REQUEST, letter
+from ._record import Record
 from .asking import AskFault, _ask, _expire, _hear, _reply
 from .tools import Groups, Timers
 from .values import NOPROC, U8, U32, U64, Pid, Ref, of_type
@@ -80,6 +81,8 @@ class Sending:
         self.running: Optional[Seat] = None
         self.since = self._began = monotonic()
         self._held: Optional[tuple[Holder, float]] = None
+        # what the desks count, and the time of a handler beyond which it is noted
+        self.record, self.mark = Record(len(desks)), 0.0
         # the handler of which was warned, by its beginning
         self._warned = 0.0
         # what is sent next, as the library takes it
@@ -480,13 +483,17 @@ class Sending:
     def _returned(self, seat: Seat) -> None:
         """A handler has returned, and the next one begins."""
         self.running, now = None, monotonic()
-        if now - self.since > HOLDS:
+        if now - self.since > self.mark:
             self.note_holder(seat, now)
         self.since = now
 
     def note_holder(self, seat: Seat, now: float) -> None:
-        """A handler has returned that held up the run."""
+        """A handler has returned that ran longer than all before, or held up the run."""
         holder = Holder(seat.pid, seat.cx.me.name, now - self.since)
+        self.record.returned(holder)
+        self.mark = min(HOLDS, max(self.mark, holder.seconds))
+        if holder.seconds <= HOLDS:
+            return
         self._held = holder, now
         if holder.seconds > SLOW:
             report(logging.WARNING, holder, "the run was held up by %s")

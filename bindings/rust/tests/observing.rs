@@ -316,7 +316,7 @@ fn at_rest(runtime: &Runtime) -> View {
 
 /// Has the ring carry numbers for a while, with crashes.
 fn carry(ring: &[Name<u32>]) {
-    for round in 0..40 {
+    for round in 0..10 {
         for (place, name) in (0..).zip(ring) {
             name.send(300 + 7 * place + round);
         }

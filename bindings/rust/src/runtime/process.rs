@@ -224,6 +224,7 @@ impl<B: Behaviour> Actor for Process<B> {
                 }
             }
         };
+        worker.record.handles();
         let Process { me, calls, aside, gone, parent, .. } = self;
         let mut cx = Context { worker, me, calls, aside, told, gone, parent: *parent };
         let next = match event {

@@ -26,15 +26,14 @@ fn is_message(item: &Item) -> bool {
 }
 
 impl Record {
-    /// A handler begins. It returns when, if that is asked.
+    /// A process is told something. It returns when, if that is asked.
     #[inline]
     pub(crate) fn begin(&mut self, what: &What) -> Option<Instant> {
-        self.handlers += 1;
         self.messages += u64::from(matches!(what, What::Item(item) if is_message(item)));
         self.times.then(Instant::now)
     }
 
-    /// A handler that began then has returned.
+    /// The process that was told something then has done with it.
     #[inline]
     pub(crate) fn end(&mut self, begun: Option<Instant>, pid: Pid, behaviour: impl FnOnce() -> &'static str) {
         let Some(begun) = begun else { return };
@@ -42,6 +41,12 @@ impl Record {
         if self.longest.is_none_or(|longest| longest.time < time) {
             self.longest = Some(Longest { pid, behaviour: behaviour(), time });
         }
+    }
+
+    /// A handler runs.
+    #[inline]
+    pub(crate) fn handles(&mut self) {
+        self.handlers += 1;
     }
 
     /// A process has taken an item by itself, beside the one that its handler is told.
