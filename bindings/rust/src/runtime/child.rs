@@ -9,7 +9,7 @@ use super::name::Name;
 use super::payloads::drop_quietly;
 use super::report::Report;
 use super::supervisor::is_supervisor;
-use super::worker::{Parent, Worker, text_of};
+use super::worker::{Parent, Setup, Worker, text_of};
 use crate::supervisors::{self, ChildSpec};
 use crate::{Fault, Pid, Reason};
 use std::any::type_name;
@@ -144,8 +144,11 @@ pub(crate) struct Post {
     pub(crate) pid: Pid,
 }
 
-/// Makes the behaviour of a child, for the process that was spawned. It may panic.
-type Make<M> = Box<dyn FnMut(&mut Worker, &Post) -> Address<M> + Send>;
+/// A behaviour that was made for a child: a process that was spawned gets it.
+type Made<M> = Box<dyn FnOnce(&mut Worker, Pid, Parent) -> Address<M> + Send>;
+
+/// Makes the behaviour of a child. It may panic.
+type Make<M> = Box<dyn FnMut() -> Made<M> + Send>;
 
 /// A child of a supervisor: a child specification of Erlang. Its process takes messages of the type `M`.
 ///
@@ -155,6 +158,7 @@ pub struct Child<M> {
     name: Option<Name<M>>,
     restart: Restart,
     shutdown: Shutdown,
+    desk: Option<u8>,
     behaviour: &'static str,
 }
 
@@ -188,13 +192,14 @@ impl<M: Send + 'static> Child<M> {
 
     fn new<B: Behaviour<Message = M>>(restart: Restart, mut make: impl FnMut() -> B + Send + 'static) -> Child<M> {
         Child {
-            make: Box::new(move |worker, post| {
+            make: Box::new(move || {
                 let behaviour = make();
-                let bound = behaviour.most_waiting();
-                worker.admit(post.pid, Parent::Supervisor(post.supervisor), behaviour, bound)
+                let setup = Setup::of(&behaviour);
+                Box::new(move |worker, pid, parent| worker.admit(pid, parent, behaviour, setup))
             }),
             name: None,
             restart,
+            desk: None,
             shutdown: if is_supervisor::<B>() { Shutdown::Infinity } else { Shutdown::After(PATIENCE) },
             behaviour: type_name::<B>(),
         }
@@ -214,13 +219,49 @@ impl<M: Send + 'static> Child<M> {
         self
     }
 
+    /// The same child, on this desk of the node. Without this it is on the desk of its supervisor.
+    ///
+    /// The closure that makes its behaviour runs on the thread of that desk. Its supervisor starts those behind it once
+    /// [`started`](Behaviour::started) of it has returned, and meanwhile does nothing else. If there is no such desk, the child is
+    /// not started, with [`Fault::BadDesks`].
+    ///
+    /// ```
+    /// use pundewo::runtime::{Behaviour, Child, Context, Event, Name, Next, Runtime, Supervisor};
+    /// use std::time::Duration;
+    ///
+    /// struct Line;
+    ///
+    /// impl Behaviour for Line {
+    ///     type Message = ();
+    ///
+    ///     fn handle(&mut self, _: &mut Context<'_, ()>, _: Event<()>) -> Next {
+    ///         Next::Wait
+    ///     }
+    /// }
+    ///
+    /// let (runtime, lines) = (Runtime::builder().desks(3).start()?, [Name::new("first"), Name::new("second")]);
+    /// let exchange = Supervisor::one_for_all()
+    ///     .child(Child::permanent(|| Line).named(&lines[0]).on(1))
+    ///     .child(Child::permanent(|| Line).named(&lines[1]).on(2));
+    /// runtime.spawn_on(0, exchange)?;
+    /// let desks = lines.map(|line| line.wait(Duration::from_secs(5)).expect("a line").pid().shard);
+    /// assert_eq!(desks, [1, 2]);
+    /// runtime.stop()?;
+    /// # Ok::<(), Box<dyn std::error::Error>>(())
+    /// ```
+    #[must_use]
+    pub fn on(mut self, desk: u8) -> Child<M> {
+        self.desk = Some(desk);
+        self
+    }
+
     /// The same for a supervisor, whatever the messages are. Who waits for its first start is told of it. It is one of
     /// those that a supervisor begins with, if nobody does.
     pub(crate) fn listed(self, reply: Option<StartReply<M>>) -> Listed {
-        let Child { make, name, restart, shutdown, behaviour } = self;
+        let Child { make, name, restart, shutdown, desk, behaviour } = self;
         let is_first = reply.is_none();
-        let starts = Box::new(Starts { make, name, address: None, reply });
-        Listed { starts, restart, shutdown, behaviour, started: 0, pid: None, why: None, is_first }
+        let starts = Box::new(Starts { make, made: None, name, address: None, reply });
+        Listed { starts, restart, shutdown, desk, behaviour, started: 0, pid: None, why: None, is_first }
     }
 }
 
@@ -231,8 +272,14 @@ pub(crate) type Refuses = Box<dyn FnOnce(&mut Worker, Pid, ChildFault)>;
 
 /// How a child is started, whatever its messages are.
 trait Start: Send {
-    /// Its behaviour is made. Who has asked for it is told so by the process in front of its supervisor.
-    fn start(&mut self, worker: &mut Worker, front: Pid, post: &Post) -> Result<(), ChildFault>;
+    /// Its behaviour is made for a process that its supervisor has spawned.
+    fn start(&mut self, worker: &mut Worker, post: &Post) -> Result<(), ChildFault>;
+    /// Its behaviour is made, and then its process is spawned, on another desk than that of its supervisor.
+    fn start_elsewhere(&mut self, worker: &mut Worker, supervisor: Pid, place: u64) -> Result<Pid, ChildFault>;
+    /// That process begins.
+    fn begins(&mut self);
+    /// It was started. Who has asked for it is told so by the process in front of its supervisor.
+    fn started(&mut self, worker: &mut Worker, front: Pid, place: u64);
     /// The process has exited.
     fn gone(&mut self);
     /// It is not started.
@@ -242,32 +289,65 @@ trait Start: Send {
 
 struct Starts<M: Send + 'static> {
     make: Make<M>,
+    /// What was made for the next process, if the desk had no memory or no stamp for that.
+    made: Option<Made<M>>,
     name: Option<Name<M>>,
     address: Option<Address<M>>,
     /// Who waits for the first start.
     reply: Option<StartReply<M>>,
 }
 
+impl<M: Send + 'static> Starts<M> {
+    fn make(&mut self) -> Result<Made<M>, ChildFault> {
+        if let Some(made) = self.made.take() {
+            return Ok(made);
+        }
+        catch_unwind(AssertUnwindSafe(&mut self.make)).map_err(|what| {
+            let text = text_of(&*what).into();
+            drop_quietly(what);
+            tell_dropped();
+            ChildFault::Panicked(text)
+        })
+    }
+}
+
 impl<M: Send + 'static> Start for Starts<M> {
-    fn start(&mut self, worker: &mut Worker, front: Pid, post: &Post) -> Result<(), ChildFault> {
-        let made = catch_unwind(AssertUnwindSafe(|| (self.make)(worker, post)));
-        let address = match made {
-            Ok(address) => address,
-            Err(what) => {
-                let text = text_of(&*what).into();
-                drop_quietly(what);
-                tell_dropped();
-                return Err(ChildFault::Panicked(text));
+    fn start(&mut self, worker: &mut Worker, post: &Post) -> Result<(), ChildFault> {
+        let made = self.make()?;
+        self.address = Some(made(worker, post.pid, Parent::Supervisor(post.supervisor)));
+        self.begins();
+        Ok(())
+    }
+
+    fn start_elsewhere(&mut self, worker: &mut Worker, supervisor: Pid, place: u64) -> Result<Pid, ChildFault> {
+        let (made, parent) = (self.make()?, Parent::Elsewhere { supervisor, place });
+        match worker.spawn_empty(parent) {
+            Ok(pid) => {
+                self.address = Some(made(worker, pid, parent));
+                Ok(pid)
             }
-        };
-        if let Some(name) = &self.name {
+            Err(fault) => {
+                // (without memory or a stamp the run halts, and then it is tried again)
+                if matches!(fault, Fault::Memory | Fault::Worn) {
+                    self.made = Some(made);
+                } else {
+                    drop_quietly(made);
+                }
+                Err(ChildFault::Table(fault))
+            }
+        }
+    }
+
+    fn begins(&mut self) {
+        if let (Some(name), Some(address)) = (&self.name, &self.address) {
             name.give(address.clone());
         }
-        self.address = Some(address.clone());
-        if let Some(reply) = self.reply.take() {
-            worker.reply(front, reply, Ok(Started { place: post.place, address }));
+    }
+
+    fn started(&mut self, worker: &mut Worker, front: Pid, place: u64) {
+        if let (Some(reply), Some(address)) = (self.reply.take(), self.address.clone()) {
+            worker.reply(front, reply, Ok(Started { place, address }));
         }
-        Ok(())
     }
 
     fn gone(&mut self) {
@@ -291,6 +371,8 @@ pub(crate) struct Listed {
     starts: Box<dyn Start>,
     pub(crate) restart: Restart,
     shutdown: Shutdown,
+    /// The desk that it is on, if that is not its supervisor's.
+    pub(crate) desk: Option<u8>,
     behaviour: &'static str,
     started: u64,
     /// Its process, from when its behaviour is made until it has exited.
@@ -317,15 +399,42 @@ impl Listed {
 
     /// What the library knows of it.
     pub(crate) fn spec(&self, tag: u64) -> ChildSpec {
-        ChildSpec { restart: self.restart, shutdown: self.shutdown.into(), ..ChildSpec::new(tag) }
+        let (restart, shutdown) = (self.restart, self.shutdown.into());
+        ChildSpec { restart, shutdown, elsewhere: self.desk.is_some(), ..ChildSpec::new(tag) }
     }
 
-    /// It was started: its behaviour is made.
+    /// Its supervisor is on this desk.
+    pub(crate) fn settle(&mut self, desk: u8) {
+        self.desk = self.desk.filter(|&it| it != desk);
+    }
+
+    /// Its behaviour is made for a process that its supervisor has spawned.
     pub(crate) fn start(&mut self, worker: &mut Worker, front: Pid, post: &Post) -> Result<(), ChildFault> {
-        self.starts.start(worker, front, post)?;
-        self.pid = Some(post.pid);
-        self.started += 1;
+        self.starts.start(worker, post)?;
+        self.started(worker, front, post.place, post.pid);
         Ok(())
+    }
+
+    /// Its behaviour is made, and then its process is spawned, on this desk, which is not that of its supervisor.
+    pub(crate) fn start_elsewhere(
+        &mut self,
+        worker: &mut Worker,
+        supervisor: Pid,
+        place: u64,
+    ) -> Result<Pid, ChildFault> {
+        self.starts.start_elsewhere(worker, supervisor, place)
+    }
+
+    /// Its process on another desk than its supervisor's begins.
+    pub(crate) fn begins(&mut self) {
+        self.starts.begins();
+    }
+
+    /// It was started as this process.
+    pub(crate) fn started(&mut self, worker: &mut Worker, front: Pid, place: u64, pid: Pid) {
+        self.pid = Some(pid);
+        self.started += 1;
+        self.starts.started(worker, front, place);
     }
 
     /// It has exited.

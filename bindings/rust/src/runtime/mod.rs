@@ -81,6 +81,7 @@ mod behaviour;
 mod calls;
 mod child;
 mod context;
+mod elsewhere;
 mod ending;
 mod gone;
 mod group;

@@ -7,6 +7,7 @@
 use super::PANIC;
 use super::calls::Reply;
 use super::child::{ChildFault, ChildInfo, Listed, Post, Restart};
+use super::elsewhere::Away;
 use super::hub::Origin;
 use super::inbox::Task;
 use super::payloads::drop_quietly;
@@ -15,15 +16,15 @@ use super::worker::{CHILD, SUPERVISOR, Worker};
 use crate::crew::Next;
 use crate::supervisors::{self, ChildSpec, Strategy, SupervisorSpec};
 use crate::{Fault, Pick, Pid, Reason};
-use std::collections::{BTreeMap, VecDeque};
+use std::collections::{BTreeMap, BTreeSet, VecDeque};
 use std::mem;
 use std::sync::atomic::Ordering::SeqCst;
 
 /// Which children are not made as they are started, since their supervisor is about to end them.
 enum Held {
     Nobody,
-    /// Those behind one that was not made.
-    Behind(u64),
+    /// Those behind the one in this place, which was not made for this process.
+    Behind(u64, Pid),
     All,
 }
 
@@ -39,18 +40,23 @@ enum Asked {
 /// What is known of a supervisor of the crew.
 pub(crate) struct Supervision {
     /// The process that others know as the supervisor.
-    front: Pid,
+    pub(super) front: Pid,
     strategy: Strategy,
-    /// Its children by their places: the numbers in which they were added.
-    children: BTreeMap<u64, Listed>,
+    /// Its children by their places: the numbers in which they were added. (one that another desk starts is not here)
+    pub(super) children: BTreeMap<u64, Listed>,
     added: u64,
     /// The places of those that the library knows, in its order.
-    listed: Vec<u64>,
+    pub(super) listed: Vec<u64>,
     /// The places of those that it has to forget.
     forgotten: Vec<u64>,
     /// How many of those that it begins with were not made yet.
-    unbegun: usize,
+    pub(super) unbegun: usize,
     held: Held,
+    /// Whether there were children on other desks, and the places of those that have no process now.
+    pub(super) is_abroad: bool,
+    pub(super) absent: BTreeSet<u64>,
+    /// The child that is being started on another desk.
+    pub(super) away: Option<Away>,
     requests: VecDeque<Request>,
     asked: Option<Asked>,
 }
@@ -58,7 +64,7 @@ pub(crate) struct Supervision {
 impl Supervision {
     fn new(front: Pid, strategy: Strategy, children: Vec<Listed>) -> Supervision {
         let (unbegun, added) = (children.len(), children.len() as u64);
-        Supervision {
+        let mut supervision = Supervision {
             front,
             strategy,
             children: (0..).zip(children).collect(),
@@ -67,19 +73,40 @@ impl Supervision {
             forgotten: Vec::new(),
             unbegun,
             held: Held::Nobody,
+            is_abroad: false,
+            absent: BTreeSet::new(),
+            away: None,
             requests: VecDeque::new(),
             asked: None,
+        };
+        (0..added).for_each(|place| supervision.misses(place));
+        supervision
+    }
+
+    /// Whether the child in this place is not made.
+    pub(super) fn holds(&self, place: u64) -> bool {
+        match self.held {
+            Held::All => true,
+            Held::Behind(failed, _) => place > failed,
+            Held::Nobody => false,
+        }
+    }
+
+    /// The place and the process of the child that was not made, behind which others are not made.
+    pub(super) fn failed(&self) -> Option<(u64, Pid)> {
+        match self.held {
+            Held::Behind(failed, pid) => Some((failed, pid)),
+            Held::All | Held::Nobody => None,
         }
     }
 
     /// Takes the child in this place, which is started, so that it is made. `None` if it is not made. One that is not
     /// behind a child that was not made is started again once those behind have exited.
-    fn take_to_make(&mut self, place: u64) -> Option<Listed> {
-        match self.held {
-            Held::All => return None,
-            Held::Behind(failed) if place > failed => return None,
-            Held::Behind(_) | Held::Nobody => self.held = Held::Nobody,
+    pub(super) fn take_to_make(&mut self, place: u64) -> Option<Listed> {
+        if self.holds(place) {
+            return None;
         }
+        self.held = Held::Nobody;
         self.children.remove(&place)
     }
 
@@ -97,7 +124,7 @@ impl Supervision {
         self.children.iter().map(|(&place, child)| child.info(place))
     }
 
-    fn is_alive(&self, place: u64) -> bool {
+    pub(super) fn is_alive(&self, place: u64) -> bool {
         self.children.get(&place).is_some_and(Listed::is_alive)
     }
 
@@ -113,6 +140,7 @@ impl Supervision {
     /// Forgets a child. The library forgets it once it may.
     fn forget(&mut self, place: u64) {
         if let Some(child) = self.children.remove(&place) {
+            self.absent.remove(&place);
             self.forgotten.push(place);
             drop_quietly(child);
         }
@@ -131,6 +159,7 @@ impl Worker {
         spec: SupervisorSpec,
         children: &mut Vec<Listed>,
     ) -> Result<Pid, Fault> {
+        children.iter_mut().for_each(|child| child.settle(self.number));
         let specs: Vec<ChildSpec> = (0..).zip(&*children).map(|(place, child)| child.spec(place | CHILD)).collect();
         let spec = SupervisorSpec { parent: Some(front), ..spec };
         let desk = self.desk.as_mut().expect("a desk, outside of a meeting");
@@ -138,6 +167,7 @@ impl Worker {
         let pid = self.noted(spawned)?;
         self.hub.alive.fetch_add(1, SeqCst);
         self.supervisions.insert(pid, Supervision::new(front, spec.strategy, mem::take(children)));
+        self.may_want(pid);
         Ok(pid)
     }
 
@@ -166,10 +196,15 @@ impl Worker {
     pub(crate) fn front_left(&mut self, front: Pid) {
         let behind = self.supervisions.iter().find(|(_, it)| it.front == front).map(|(&pid, _)| pid);
         let Some(pid) = behind else { return };
+        self.signal_surely(pid, Reason::Kill);
+    }
+
+    /// Sends an exit signal in the desk's own name, also if the run halts meanwhile.
+    pub(super) fn signal_surely(&mut self, to: Pid, reason: Reason) {
         let porter = self.porter;
-        let sent = self.desk().exit_signal(porter, pid, Reason::Kill);
+        let sent = self.desk().exit_signal(porter, to, reason);
         if let Err(Fault::Memory | Fault::Worn) = self.noted(sent) {
-            self.later(move |worker| worker.front_left(front));
+            self.later(move |worker| worker.signal_surely(to, reason));
         }
     }
 
@@ -177,6 +212,7 @@ impl Worker {
     pub(crate) fn supervisor_left(&mut self, pid: Pid, why: Reason) {
         let Some(mut supervision) = self.supervisions.remove(&pid) else { return };
         self.hub.alive.fetch_sub(1, SeqCst);
+        self.lose_children(&supervision);
         supervision.children.values_mut().for_each(|child| child.gone(why));
         self.exit_front(supervision.front, why);
         self.left.push(supervision);
@@ -191,8 +227,13 @@ impl Worker {
         }
     }
 
-    fn later(&self, work: impl FnOnce(&mut Worker) + Send + 'static) {
+    pub(super) fn later(&self, work: impl FnOnce(&mut Worker) + Send + 'static) {
         self.hub.places[usize::from(self.number)].post(Task::Do(Box::new(work)), Origin::Run);
+    }
+
+    /// Whether a child in front of this place was started on another desk, and has not begun.
+    pub(super) fn is_early(&self, supervisor: Pid, place: u64) -> bool {
+        self.supervisions.get(&supervisor).is_some_and(|it| it.is_early(place))
     }
 
     /// A child is started as this process: its behaviour is made. It returns whether it was.
@@ -213,7 +254,7 @@ impl Worker {
                 supervision.held = Held::All;
                 self.end_supervisor(supervisor, Reason::Shutdown);
             }
-            Err(fault) => self.not_made(supervisor, place, pid, fault),
+            Err(fault) => self.not_made(supervisor, place, pid, &fault),
         }
         is_made
     }
@@ -230,7 +271,7 @@ impl Worker {
     }
 
     /// A child was made. Who has asked for it is told. If nobody has, the program is told that it was started again.
-    fn made(&mut self, supervisor: Pid, place: u64, pid: Pid) {
+    pub(super) fn made(&mut self, supervisor: Pid, place: u64, pid: Pid) {
         let supervision = self.supervisions.get_mut(&supervisor).expect("a supervisor of this desk");
         let front = supervision.front;
         match supervision.asked.take() {
@@ -252,24 +293,33 @@ impl Worker {
 
     /// A child was not made. If it was asked for, its supervisor does not want it any more, and ends its process.
     /// Otherwise the process exits, so its supervisor tries again, with those that the strategy names.
-    fn not_made(&mut self, supervisor: Pid, place: u64, pid: Pid, fault: ChildFault) {
+    fn not_made(&mut self, supervisor: Pid, place: u64, pid: Pid, fault: &ChildFault) {
+        if self.has_refused(supervisor, place, fault) {
+            return;
+        }
+        let supervision = self.supervisions.get_mut(&supervisor).expect("a supervisor of this desk");
+        if supervision.strategy != Strategy::OneForOne {
+            supervision.held = Held::Behind(place, pid);
+        }
+        self.answers.push((pid, Next::Stop(PANIC)));
+    }
+
+    /// Tells the one who has asked for a child that it was not started. It returns whether its supervisor does not want it any
+    /// more.
+    pub(super) fn has_refused(&mut self, supervisor: Pid, place: u64, fault: &ChildFault) -> bool {
         let supervision = self.supervisions.get_mut(&supervisor).expect("a supervisor of this desk");
         let front = supervision.front;
         match supervision.asked.take() {
             Some(Asked::Start { place: asked, reply, tried: false }) if asked == place => {
-                self.refuse(supervisor, place, reply, fault);
-                return;
+                self.refuse(supervisor, place, reply, fault.clone());
+                return true;
             }
             Some(Asked::Start { place: asked, reply, tried: true }) if asked == place => {
                 reply.into_iter().for_each(|reply| self.reply(front, reply, Err(fault.clone())));
             }
             asked => supervision.asked = asked,
         }
-        let supervision = self.supervisions.get_mut(&supervisor).expect("a supervisor of this desk");
-        if supervision.strategy != Strategy::OneForOne {
-            supervision.held = Held::Behind(place);
-        }
-        self.answers.push((pid, Next::Stop(PANIC)));
+        false
     }
 
     /// A child that was asked for is not started. A new one is forgotten.
@@ -298,10 +348,12 @@ impl Worker {
         let Some(supervision) = self.supervisions.get_mut(&supervisor) else { return };
         let Some(child) = supervision.children.get_mut(&place).filter(|child| child.pid() == Some(pid)) else { return };
         child.gone(why);
-        if child.restart == Restart::Temporary {
+        supervision.misses(place);
+        if supervision.children[&place].restart == Restart::Temporary {
             supervision.forget(place);
             self.is_asked(supervisor);
         }
+        self.may_want(supervisor);
     }
 
     /// Asks a supervisor.
@@ -353,8 +405,9 @@ impl Worker {
     }
 
     /// Whether a supervisor has begun, and neither ends a child nor is to start one.
-    fn is_settled(&self, supervisor: Pid) -> bool {
-        let has_begun = |it: &Supervision| it.unbegun == 0 && matches!(it.held, Held::Nobody);
+    fn is_settled(&mut self, supervisor: Pid) -> bool {
+        self.ask_for_child(supervisor);
+        let has_begun = |it: &Supervision| it.unbegun == 0 && it.away.is_none() && matches!(it.held, Held::Nobody);
         self.supervisions.get(&supervisor).is_some_and(has_begun)
             && matches!(self.crew.next(supervisor), Some(Next::Wait(Pick::Any) | Next::WaitUntil(Pick::Any, _)))
     }
@@ -403,7 +456,7 @@ impl Worker {
     }
 
     /// What the library knows of a child.
-    fn child(&self, supervisor: Pid, place: u64) -> Option<supervisors::Child> {
+    pub(super) fn child(&self, supervisor: Pid, place: u64) -> Option<supervisors::Child> {
         let listed = self.supervisions.get(&supervisor)?.listed.binary_search(&place).ok()?;
         self.crew.child(supervisor, listed)
     }
@@ -435,11 +488,13 @@ impl Worker {
         None
     }
 
-    fn start_child(&mut self, supervisor: Pid, child: Listed) {
+    fn start_child(&mut self, supervisor: Pid, mut child: Listed) {
+        child.settle(self.number);
         let supervision = self.supervisions.get_mut(&supervisor).expect("a supervisor of this desk");
         let place = supervision.added;
         supervision.children.insert(place, child);
         supervision.added += 1;
+        supervision.misses(place);
         let spec = supervision.children[&place].spec(place | CHILD);
         match self.crew.start_child(supervisor, spec) {
             Ok(_) => {
@@ -448,6 +503,7 @@ impl Worker {
             }
             Err(_) => self.refuse(supervisor, place, None, ChildFault::Table(Fault::Memory)),
         }
+        self.may_want(supervisor);
     }
 
     /// Has a supervisor end a child, alive or not: it is not wanted any more.
@@ -464,11 +520,11 @@ impl Worker {
     }
 
     /// Has a supervisor start a child that is not alive. If it tries so already, the next try counts. The request comes
-    /// back if the supervisor has not heard that the child has exited.
+    /// back if the supervisor has not heard that the child has exited. (one on another desk is known to have)
     fn restart_child(&mut self, supervisor: Pid, place: u64, reply: Reply<Result<Pid, ChildFault>>) -> Option<Request> {
         let tried = self.crew.restart_child(supervisor, place | CHILD).is_err();
         if let Some(pid) = self.child(supervisor, place).and_then(|child| child.pid) {
-            if !self.desk().alive(pid) {
+            if pid.shard != self.number || !self.desk().alive(pid) {
                 return Some(Request::Restart(place, reply));
             }
         }

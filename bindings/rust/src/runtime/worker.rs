@@ -4,6 +4,7 @@ use super::PANIC;
 use super::address::Address;
 use super::asked::tell_dropped;
 use super::behaviour::{Behaviour, Bound};
+use super::elsewhere::Sent;
 use super::hub::{END, GO_ON, Hub, KILL, Origin};
 use super::inbox::{Place, Task};
 use super::observing::Record;
@@ -28,6 +29,8 @@ const MOST: usize = 256;
 pub(crate) const SUPERVISOR: u64 = 1 << 62;
 /// What the tag of a child of a supervisor has beside its place there.
 pub(crate) const CHILD: u64 = 1 << 63;
+/// The tag of a process that stands for a child on another desk than its supervisor's, which was not made.
+pub(crate) const HOLLOW: u64 = SUPERVISOR + 1;
 
 /// Who spawned a process.
 #[derive(Clone, Copy)]
@@ -39,6 +42,11 @@ pub(crate) enum Parent {
     },
     /// A supervisor of the crew.
     Supervisor(Pid),
+    /// A supervisor of the crew of another desk, which lives. It has the process in this place.
+    Elsewhere {
+        supervisor: Pid,
+        place: u64,
+    },
 }
 
 impl Parent {
@@ -46,7 +54,21 @@ impl Parent {
         match self {
             Parent::Outside => None,
             Parent::Process { pid, .. } | Parent::Supervisor(pid) => Some(pid),
+            Parent::Elsewhere { supervisor, .. } => Some(supervisor),
         }
+    }
+}
+
+/// What a behaviour says of its process before it begins.
+pub(crate) struct Setup {
+    bound: Bound,
+    traps_exits: bool,
+}
+
+impl Setup {
+    /// It may panic, as the behaviour does.
+    pub(crate) fn of<B: Behaviour>(behaviour: &B) -> Setup {
+        Setup { bound: behaviour.most_waiting(), traps_exits: behaviour.traps_exits() }
     }
 }
 
@@ -84,6 +106,12 @@ pub(crate) struct Worker {
     pub(super) asked: Vec<Pid>,
     /// Those that have exited.
     pub(super) left: Vec<Supervision>,
+    /// Those that may want a child on another desk.
+    pub(super) wanting: Vec<Pid>,
+    /// What is told to children once one in front of them, which is on another desk, has begun.
+    pub(super) early: Vec<Job>,
+    /// The children of supervisors of other desks that have not begun yet.
+    pub(super) arriving: HashMap<Pid, Sent>,
     /// The order that all processes were told.
     told: u8,
     fault: Option<Fault>,
@@ -116,6 +144,9 @@ impl Worker {
             supervisions: HashMap::new(),
             asked: Vec::new(),
             left: Vec::new(),
+            wanting: Vec::new(),
+            early: Vec::new(),
+            arriving: HashMap::new(),
             told: GO_ON,
             fault: None,
             whole: true,
@@ -159,11 +190,13 @@ impl Worker {
         let alarms = self.go_off();
         self.tell_order();
         let some = self.step(MOST) || tasks || alarms;
+        let some = !self.arriving.is_empty() && self.begin_linked() || some;
         self.pass_on();
         if self.supervisions.is_empty() && self.left.is_empty() {
             return some;
         }
         self.serve();
+        self.send_children();
         // (a supervisor may have something to do of which nobody is told)
         some || self.crew.queued() > 0
     }
@@ -234,13 +267,14 @@ impl Worker {
     }
 
     /// Tells a process of the crew what it is to be told. A child that was not made is told nothing.
-    fn tell(&mut self, job: Job) {
+    pub(super) fn tell(&mut self, job: Job) {
         let Some(place) = (if job.tag < SUPERVISOR { usize::try_from(job.tag).ok() } else { self.supervised(&job) })
         else {
             return;
         };
         match job.what {
             What::Exit(why, _) => self.unseat(job, place, why),
+            What::Start(_) if !self.arriving.is_empty() && self.waits_for_link(job.pid) => {}
             what => self.handle(job.pid, place, what),
         }
     }
@@ -255,17 +289,27 @@ impl Worker {
                 self.supervisor_left(pid, why);
                 return None;
             }
+            What::Exit(..) if !self.early.is_empty() => self.early.retain(|early| early.pid != pid),
+            What::Start(Some(origin)) if self.is_early(origin.supervisor, tag & !CHILD) => {
+                self.early.push(*job);
+                return None;
+            }
             What::Start(Some(origin)) if !self.begin_child(pid, origin.supervisor, tag & !CHILD) => return None,
             _ => {}
         }
         let is_seat = |seat: &Option<Seat>| seat.as_ref().is_some_and(|seat| seat.pid == pid);
         let last = self.by_slot.get(pid.slot as usize).copied();
-        last.filter(|&place| self.seats.get(place).is_some_and(is_seat)).or_else(|| self.seats.iter().position(is_seat))
+        last.filter(|&place| self.seats.get(place).is_some_and(is_seat)).or_else(|| self.seat_of(pid))
+    }
+
+    /// The seat of a process of this desk.
+    pub(super) fn seat_of(&self, pid: Pid) -> Option<usize> {
+        self.seats.iter().position(|seat| seat.as_ref().is_some_and(|seat| seat.pid == pid))
     }
 
     /// Runs the handler of a process.
     #[inline]
-    fn handle(&mut self, pid: Pid, place: usize, what: What) {
+    pub(super) fn handle(&mut self, pid: Pid, place: usize, what: What) {
         let mut actor = self.seats[place].as_mut().and_then(|seat| seat.actor.take()).expect("a process of this desk");
         self.runs(Some(pid));
         let begun = self.record.begin(&what);
@@ -307,6 +351,17 @@ impl Worker {
         self.place().dismiss(pid);
         self.hub.alive.fetch_sub(1, SeqCst);
         actor.ended(self, why);
+        if let Parent::Elsewhere { supervisor, place } = parent {
+            self.left_elsewhere(supervisor, place, pid, why);
+        }
+    }
+
+    /// The supervisor of a process on another desk has exited: it is told by the run when to exit, as the others are.
+    pub(super) fn lose_parent(&mut self, pid: Pid) {
+        if let Some(seat) = self.seat_of(pid).and_then(|place| self.seats[place].as_mut()) {
+            seat.parent = Parent::Outside;
+            self.retell();
+        }
     }
 
     /// Whether this is a process of the desk whose exit was not told.
@@ -314,7 +369,7 @@ impl Worker {
         self.seats.iter().flatten().any(|seat| seat.pid == pid)
     }
 
-    fn answer(&mut self) {
+    pub(super) fn answer(&mut self) {
         let answers = std::mem::take(&mut self.answers);
         self.crew.answer(&answers).expect("each of them was told something");
         self.answers = answers;
@@ -381,7 +436,11 @@ impl Worker {
 
     /// Whether a supervisor lives that ends this process.
     fn is_supervised(&self, seat: &Seat) -> bool {
-        matches!(seat.parent, Parent::Supervisor(pid) if self.supervisions.contains_key(&pid))
+        match seat.parent {
+            Parent::Supervisor(pid) => self.supervisions.contains_key(&pid),
+            Parent::Elsewhere { .. } => true,
+            Parent::Outside | Parent::Process { .. } => false,
+        }
     }
 
     /// All that were not told the order are told it.
@@ -427,16 +486,21 @@ impl Worker {
         if self.is_full() {
             return Err(Fault::Full);
         }
-        let bound = behaviour.most_waiting();
+        let setup = Setup::of(&behaviour);
+        let pid = self.spawn_empty(parent)?;
+        Ok(self.admit(pid, parent, behaviour, setup))
+    }
+
+    /// Spawns a process, which is to be given its behaviour next.
+    pub(super) fn spawn_empty(&mut self, parent: Parent) -> Result<Pid, Fault> {
         let place = self.free.last().copied().unwrap_or(self.seats.len()) as u64;
         let desk = self.desk.as_mut().expect("a desk, outside of a meeting");
         let spawned = match parent {
-            Parent::Outside => self.crew.spawn(desk, place, Next::Proceed),
+            Parent::Outside | Parent::Elsewhere { .. } => self.crew.spawn(desk, place, Next::Proceed),
             Parent::Process { pid, linked } => self.crew.spawn_child(desk, pid, linked, place, Next::Proceed),
             Parent::Supervisor(_) => unreachable!("a supervisor spawns its children itself"),
         };
-        let pid = self.noted(spawned)?;
-        Ok(self.admit(pid, parent, behaviour, bound))
+        self.noted(spawned)
     }
 
     /// Whether no slot is free for one more process. (one that has exited has none, also if its exit was not told)
@@ -453,14 +517,14 @@ impl Worker {
         pid: Pid,
         parent: Parent,
         behaviour: B,
-        bound: Bound,
+        setup: Setup,
     ) -> Address<B::Message> {
-        let values = Values::new(pid, std::any::type_name::<B>(), bound, B::kind);
+        let values = Values::new(pid, std::any::type_name::<B>(), setup.bound, B::kind);
         let address = Address::new(values, &self.hub);
         self.place().admit(address.mailbox.clone());
         self.hub.alive.fetch_add(1, SeqCst);
         self.hub.spawned.fetch_add(1, SeqCst);
-        if behaviour.traps_exits() {
+        if setup.traps_exits {
             let set = self.desk().trap(pid, true).map(drop);
             let _ = self.noted(set);
         }
