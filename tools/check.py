@@ -131,8 +131,9 @@ def check(listed: dict[str, list[str]], crate: str, flags: list[str]) -> int:
     status = subprocess.run(words, cwd=OWN / crate, check=False).returncode
     sources.cache_clear()
     is_whole = is_made or re.fullmatch(r"(--jobs \d+)?", " ".join(flags)) is not None
-    # (what was changed meanwhile may have been read or not)
-    if status == 0 and is_whole and checksum(listed, crate) == before:
+    if status == 0 and is_whole:
+        if checksum(listed, crate) != before:
+            raise Fault(f"the sources of {crate} changed while it was proved: once more")
         (folder / ("stamp" if is_made else "proved")).write_text(before)
     return status
 

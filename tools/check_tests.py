@@ -147,8 +147,9 @@ class Checks(unittest.TestCase):
         self.small.write("low", "changes\n")
         status, lines = self.small.run("--all", "middle")
         self.assertEqual((status, self.small.asked()), (1, ["build low"]))
-        self.assertIn("no library of low as it is now", (self.small.root / "crates/middle/out/check/said").read_text())
-        self.assertIn("failed: middle", lines)
+        self.assertIn("changed while it was proved", (self.small.root / "crates/low/out/check/said").read_text())
+        self.assertIn("failed: low", lines)
+        self.assertIn("no library of low as it is now", self.small.run("middle")[1][-1])
 
     def test_the_libraries_of_another_checkout(self) -> None:
         self.prove_all()
