@@ -188,6 +188,8 @@ fn main() -> Result<(), Box<dyn std::error::Error>> {
     let (callers, tally) = (callers.parse()?, Arc::new(Tally::default()));
     let names: Vec<_> = (0..DESKS as usize * LINES).map(|number| Name::new(format!("line {number}"))).collect();
     let runtime = Runtime::builder().desks(DESKS.into()).going_on_every(1_000).archive(sink).start()?;
+    let observer = runtime.observe(0)?;
+    eprintln!("{observer}");
     let lines = (0..DESKS).zip(names.chunks(LINES));
     let lines = lines.map(|(desk, names)| runtime.spawn_on(desk, exchange(names, &tally)));
     let lines = lines.collect::<Result<Vec<_>, _>>()?;

@@ -203,7 +203,7 @@ impl Served {
         let path = request.path.strip_prefix('/').unwrap_or_default();
         let (first, rest) = path.split_once('/').unwrap_or((path, ""));
         let is_ours = is_same(first, &self.token);
-        if !is_ours && !(path == "metrics" && is_same(&request.bearer, &self.token)) {
+        if !(is_ours || path == "metrics" && is_same(&request.bearer, &self.token)) {
             return Response::refused("404 Not Found");
         }
         match if is_ours { rest } else { path } {
