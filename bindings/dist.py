@@ -237,8 +237,8 @@ def debian(given: Given, room: Path) -> None:
     pc.write_text(pc.read_text().replace("prefix=/\n", "prefix=/usr\n").replace("libdir=/lib", "libdir=${prefix}/lib"))
     modules = staged / "usr/lib/python3/dist-packages/pundewo"
     modules.mkdir(parents=True)
-    package = BINDINGS / "python/pundewo"
-    for path in (*sorted(package.glob("*.py")), *package.glob("*.html"), package / "py.typed"):
+    sources = BINDINGS / "python/pundewo"
+    for path in (*sorted(sources.glob("*.py")), *sources.glob("*.html"), sources / "py.typed"):
         if path.exists():
             shutil.copyfile(path, modules / path.name)
     (modules / "py.typed").touch()

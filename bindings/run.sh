@@ -56,6 +56,9 @@ done
 if ! $has_tokio; then
     echo "bindings: no tokio: the line server of tasks is not tried (apt-get install librust-tokio-dev)"
 fi
+if ! command -v chromium >/dev/null; then
+    echo "bindings: no chromium: the page of a run is not opened (apt-get install chromium)"
+fi
 # (the node of an Erlang cluster is tried where OTP is)
 "$here/erlang/run.sh" --tools
 [ "$mode" != --tools ] || exit 0
@@ -252,6 +255,11 @@ done
 [ -e "$work/exchange.000001.000002" ] || { echo "rust: the history has one file"; exit 1; }
 echo "rust: the telephone exchange passed"
 
+# The same while its page is looked at, by slow and bad clients, too, and in a browser if there is one: nothing is lost
+timeout 300 "$here/observed.py" "$chat/exchange" "$work/observed.history" 8000
+"$here/../bin/pt_audit" "$work/observed.history"
+echo "rust: the exchange that is watched passed"
+
 # Python: tests beside the sources, and the package as pip installs it, without a network
 (
     cd "$here/python"
@@ -261,7 +269,8 @@ echo "rust: the telephone exchange passed"
     PYTHONPATH=. python3 examples/crew_supervisors.py | diff "$here/c/crew_supervisors.out" -
     if command -v mypy >/dev/null; then
         for level in 3.9 "$(python3 -c 'import sys; print("%d.%d" % sys.version_info[:2])')"; do
-            mypy --strict --cache-dir=/dev/null --python-version "$level" pundewo build_wheel.py examples tests ../bad_clients.py
+            mypy --strict --cache-dir=/dev/null --python-version "$level" pundewo build_wheel.py examples tests ../bad_clients.py \
+                ../observed.py
             MYPYPATH=..:../../.ci:../../tools mypy --strict --cache-dir=/dev/null --python-version "$level" ../abi.py \
                 ../abi_tests.py ../proved.py ../proved_tests.py ../dist.py ../packages.py
         done
@@ -279,6 +288,8 @@ echo "python: tests passed"
 "$here/../bin/pt_audit" "$work/chat_python.history"
 (cd "$here/python" && PYTHONPATH=. timeout 300 "$here/bad_clients.py" python3 examples/chat.py)
 echo "python: the chat server passed"
+(cd "$here/python" && PYTHONPATH=. timeout 300 "$here/observed.py" python3 -u examples/watched.py 20)
+echo "python: the run that is watched passed"
 python3 -m venv "$work/venv"
 "$work/venv/bin/pip" install -q --no-index --disable-pip-version-check "$here/python"
 (cd "$work" && env -u PUNDEWO_SO "$work/venv/bin/python" "$here/python/examples/ping_pong.py" >"$work/printed")

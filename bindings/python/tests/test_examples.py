@@ -56,6 +56,12 @@ class Examples(unittest.TestCase):
         self.assertEqual(said[2:], ["call somebody: the run halted: OSError: no space left on device",
                                     "the program is told: the run halted: OSError: no space left on device"])
 
+    def test_a_run_that_shows_itself(self) -> None:
+        said = self.run_it("watched", "1.5").splitlines()
+        self.assertRegex(said[0], r"^http://127\.0\.0\.1:\d+/[0-9a-f]{32}/$")
+        self.assertEqual(said[1:], ["21 processes, some messages, 20 children of one_for_one",
+                                    "Worker waits for any, and is linked with 1"])
+
 
 if __name__ == "__main__":
     unittest.main()

@@ -181,6 +181,7 @@ class Package(unittest.TestCase):
         self.assertRegex(p.__version__, r"^\d+\.\d+\.\d+$")
         self.assertTrue(p.BUILD.startswith(f"pundewo {p.__version__}, "))
         self.assertTrue(Path(p.__file__).with_name("py.typed").exists())
+        self.assertTrue(Path(p.__file__).with_name("observer.html").exists())
         for name in p.__all__:
             self.assertTrue(hasattr(p, name), name)
         self.assertEqual(p.__all__, sorted(p.__all__, key=lambda name: (not name.isupper(), name[0].islower(), name)))

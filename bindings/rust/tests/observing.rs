@@ -245,8 +245,11 @@ fn many_processes_are_seen_by_pages() -> Result<(), Error> {
     Ok(())
 }
 
-/// A sink that keeps the events of all epochs.
-fn keeps() -> (Arc<Mutex<Vec<pundewo::Event>>>, impl FnMut(&History) -> Result<(), Refusal> + Send + 'static) {
+/// The events of all epochs.
+type Kept = Arc<Mutex<Vec<pundewo::Event>>>;
+
+/// A sink that keeps them.
+fn keeps() -> (Kept, impl FnMut(&History) -> Result<(), Refusal> + Send + 'static) {
     let kept = Arc::new(Mutex::new(Vec::new()));
     let keeps = kept.clone();
     let sink = move |history: &History| {
