@@ -18,7 +18,7 @@ from ._behaviour import (
 from ._aside import Aside, older
 from ._bound import DROPPED, Room
 from ._abi import CAnswer, CItem, CJob, CPid
-from ._family import StandIn, Supervising
+from ._family import Supervising
 from ._library import pid_of, reader, reason_of, ref_of
 from ._process import WAITS, Address, Family, Porter, Seat, bytes_of
 from ._sending import Task, answer_key, kind_of, request_key
@@ -248,6 +248,7 @@ class Engine(Supervising):
         for tap in self.taps:
             tap.close()
         self.payloads.clear()
+        self._early.clear()
         self._alarms.clear()
         self._timers.close()
         self._close_groups()
@@ -285,7 +286,7 @@ class Engine(Supervising):
                 continue
             if not self.is_porter(seat.pid):
                 self.exit_signal(self.porters[seat.pid.shard].pid, seat.pid, KILL if self.order == KILLS else SHUTDOWN)
-                if self.order == KILLS and not isinstance(seat.behaviour, StandIn):
+                if self.order == KILLS:
                     self.killed.append(seat.pid)
             seat.told = self.order
         self._untold = False
@@ -319,11 +320,15 @@ class Engine(Supervising):
         while jobs:
             place, job = jobs.popleft()
             self._tell(number, place, job)
+        if self._early:
+            some |= self._begin_held(number)
         answers = self._answers[number]
         while answers:
             # (whose process is not running any more is left out)
             taken = crew._answer((CAnswer * len(answers)).from_buffer_copy(b"".join(answers)))
             del answers[:taken + 1]
+        if self._abroad:
+            some |= self._send_children(number)
         return self._serve(number) or some if self.asked else some
 
     def _take_losses(self, number: int) -> None:
@@ -382,6 +387,13 @@ class Engine(Supervising):
         if seat is None:
             self.record.unheard[number] += 1
             return
+        self._tell_seat(number, place, seat, job)
+
+    def begin(self, seat: Seat) -> None:
+        self._tell_seat(seat.pid.shard, 0, seat, (START, seat.tag, 0, 0, 0, 0, 0, 0))
+
+    def _tell_seat(self, number: int, place: int, seat: Seat, job: Job) -> None:
+        code, tag, item, shard, slot, version, kind, num = job
         self.running, self._place = seat, place
         try:
             if code == ITEM and item == USER and kind == MESSAGE and seat.room is None:
@@ -665,6 +677,7 @@ class Engine(Supervising):
         if kid is not None:
             # (the child may have another process by now)
             seat = self.pids.get(pid_of(job.pid))
+        self._forget_coming(pid_of(job.pid), kid)
         if seat is not None:
             self._leave(seat, why)
         elif kid is not None:

@@ -1,8 +1,9 @@
 """The supervisors of a run: what makes their children, and what they answer.
 
 A supervisor is that of its crew (`Crew.supervise`), which is proved: it starts its children, starts them again and ends them.
-Here is what it cannot do, as it runs no code of Python: the behaviours of its children are made, requests are answered, and a
-child on another desk has a process on its supervisor's.
+Here is what it cannot do, as it runs no code of Python: the behaviours of its children are made, requests are answered, and its
+children on other desks are spawned there as it asks for them. Such a child begins once its supervisor has linked with it, and those
+behind it begin after it.
 """
 
 from __future__ import annotations
@@ -15,16 +16,15 @@ from typing import Any, Generator, Optional, Union
 from . import Code, Crew, Desk, Fault
 from ._abi import CAnswer, CPid
 from ._behaviour import (
-    CRASH, HALTS, TIMEOUT, Answer, Behaviour, Call, CallFault, Down, Event, Exit, Next, Request, ServerDown, Unanswered,
-    behaviour_of,
+    CRASH, HALTS, OVER, Answer, Behaviour, Call, CallFault, Request, ServerDown, Unanswered, behaviour_of,
 )
-from ._process import Context, Family, Kid, Seat, bytes_of
+from ._process import Family, Kid, Seat, bytes_of
 from ._sending import Sending
 from ._supervisor import (
     BRUTAL_KILL, INFINITY, WHICH_CHILDREN, Child, DeleteChild, RestartChild, Shutdown, StartChild, Supervisor, TerminateChild,
 )
 from .supervisors import ChildSpec
-from .values import ANY, KILL, NOPROC, SHUTDOWN, Pick, Pid, Reason, number
+from .values import ANY, KILL, NOPROC, SHUTDOWN, Pid, Reason, number
 
 log = logging.getLogger("pundewo")
 
@@ -44,47 +44,6 @@ def time_of(start: StartChild, behaviour: Behaviour, patience: float) -> Shutdow
     return INFINITY if isinstance(behaviour, Supervisor) else patience
 
 
-class StandIn(Behaviour):
-    """The child of a supervisor whose process is on another desk, where a crew starts none. It exits as that does, and ends
-    that when it gets an exit signal of the supervisor."""
-
-    _ends_children = True
-
-    def __init__(self, kid: Kid, behaviour: Behaviour, desk: int, time: Shutdown):
-        self._kid, self._behaviour, self._desk, self._time = kid, behaviour, desk, time
-        self._is_spawned = False
-        self._gone = ANY
-
-    def started(self, cx: Context) -> Optional[Next]:
-        cx.trap()
-        try:
-            address = cx.spawn_on(self._desk, self._behaviour, linked=True)
-        except Fault:
-            log.exception("%s of %s: its child %s does not start", cx.parent, self._kid.above.cx.me.name, self._kid.start.name)
-            return Next.stop(CRASH)
-        self._is_spawned = True
-        self._kid.begin(address)
-        self._gone = Pick("down-of", cx.monitor(address))
-        return None
-
-    def handle(self, cx: Context, event: Event) -> Optional[Next]:
-        if isinstance(event, Down):
-            return Next.stop(event.reason)
-        if event is not TIMEOUT and not (isinstance(event, Exit) and event.pid == cx.parent):
-            return None
-        if isinstance(event, Exit) and event.reason != SHUTDOWN:
-            # (its supervisor was killed: so the link ends the child)
-            return Next.stop(event.reason)
-        is_killed = event is TIMEOUT or self._time is BRUTAL_KILL
-        assert self._kid.address is not None
-        cx.exit(self._kid.address, KILL if is_killed else SHUTDOWN)
-        return Next.wait(self._time if isinstance(self._time, float) and not is_killed else None, self._gone)
-
-    def ended(self, why: Reason) -> None:
-        if not self._is_spawned:
-            self._behaviour.ended(why)
-
-
 class Supervising(Sending):
     """The supervisors of a run, and their children."""
 
@@ -94,11 +53,18 @@ class Supervising(Sending):
         self.seats: dict[int, Seat] = {}
         # what those who were told something do next, by desk
         self._answers: list[list[bytes]] = [[] for _ in desks]
-        # how many processes were spawned but for stand-ins, and how many supervisors live
+        # how many processes were spawned, and how many supervisors live
         self.spawned = self.families = 0
         # the children of supervisors by their tags, and the supervisors that were asked something
         self.kids: dict[int, Kid] = {}
         self.asked: list[Seat] = []
+        # the supervisors that have children on other desks, and the tags of processes that are to begin and wait for another
+        self._abroad: list[Seat] = []
+        self._early: dict[Pid, int] = {}
+
+    def begin(self, seat: Seat) -> None:
+        """Runs what a process does first."""
+        raise NotImplementedError
 
     def take_in(self, pid: Pid, tag: int, behaviour: Behaviour, parent: Optional[Pid], obeys: Optional[Pid] = None) -> Seat:
         """A process was spawned, which has this behaviour. A supervisor obeys a process, or else those outside."""
@@ -127,21 +93,18 @@ class Supervising(Sending):
         kid = Kid(seat, family, start, tag)
         if self._make(kid):
             self.kids[tag] = family.kids[start.name] = kid
+            if kid.is_elsewhere() and seat not in self._abroad:
+                self._abroad.append(seat)
         return kid.made is not None
 
     def _make(self, kid: Kid) -> bool:
         """Makes the behaviour of the next process of a child, and returns whether that did not fail."""
-        start, here = kid.start, kid.above.pid.shard
+        start = kid.start
         self.running, self.since = kid.above, monotonic()
         try:
             made = behaviour_of(start.make())
-            if start.desk is not None and start.desk != here:
-                place = number("desk", start.desk, 0, len(self.crews) - 1)
-                if self.desks[place].vacant() is None:
-                    raise Fault(Code.FULL, "spawn")
-                supervisor = kid.above.behaviour
-                assert isinstance(supervisor, Supervisor)
-                made = StandIn(kid, made, place, time_of(start, made, supervisor._patience))
+            if kid.is_elsewhere() and self.desks[number("desk", kid.desk, 0, len(self.crews) - 1)].vacant() is None:
+                raise Fault(Code.FULL, "spawn")
             kid.made = made
         except BaseException as error:
             log.exception("%s of %s: its child %s does not start", kid.above.pid, kid.above.cx.me.name, start.name)
@@ -154,13 +117,92 @@ class Supervising(Sending):
     def _spec_of(self, kid: Kid, supervisor: Supervisor) -> ChildSpec:
         """What the crew has to know of a child that was made."""
         assert kid.made is not None
-        time = INFINITY if isinstance(kid.made, StandIn) else time_of(kid.start, kid.made, supervisor._patience)
+        time = time_of(kid.start, kid.made, supervisor._patience)
         word: Union[str, int] = "infinity" if time is INFINITY else "brutal_kill"
-        return ChildSpec(kid.tag, kid.start.restart, int(time * 1e6) if isinstance(time, float) else word)
+        return ChildSpec(kid.tag, kid.start.restart, int(time * 1e6) if isinstance(time, float) else word, kid.is_elsewhere())
+
+    # Children on other desks
+
+    def _want(self, seat: Seat, family: Family) -> None:
+        """Asks a supervisor which child it wants on another desk, unless one is being started there. It tells of each start once."""
+        if family.wanted is None and family.coming is None:
+            tag = self.crews[seat.pid.shard].child_to_start(seat.pid)
+            family.wanted = None if tag is None else self.kids[tag]
+
+    def _send_children(self, shard: int) -> bool:
+        """Starts the children that the supervisors of a desk want on other desks, and returns whether there was something to do."""
+        some = False
+        for seat in [it for it in self._abroad if it.pid.shard == shard]:
+            family = seat.family
+            assert family is not None
+            if family.running < len(family.kids):
+                self._want(seat, family)
+            if family.wanted is not None and self._may_start(seat, family, family.wanted):
+                self._start_elsewhere(seat, family, family.wanted)
+                some = True
+        return some
+
+    def _may_start(self, seat: Seat, family: Family, kid: Kid) -> bool:
+        """Whether all is told of the last process of a child, and those in front of it have begun."""
+        in_front = [it for it in family.kids.values() if it.tag < kid.tag]
+        return not kid.runs and all(self._is_told(seat, place, it) for place, it in enumerate(in_front))
+
+    def _start_elsewhere(self, seat: Seat, family: Family, kid: Kid) -> None:
+        """Spawns the process of a child on another desk, and tells its supervisor so."""
+        crew, pid = self.crews[seat.pid.shard], None
+        if kid.made is not None or self._make(kid):
+            try:
+                pid = self.crews[kid.desk].spawn(self.desks[kid.desk], kid.tag)
+            except Fault as fault:  # without memory or a stamp the run halts, and this is done again
+                if fault.code is not Code.FULL:
+                    raise
+        family.wanted = None
+        try:
+            if pid is None:
+                crew.child_not_started(seat.pid, kid.tag)
+            else:
+                crew.child_started(seat.pid, kid.tag, pid)
+                family.coming = kid, pid
+        except Fault:  # the supervisor has exited
+            if pid is not None:
+                self._kill(pid)
+
+    def _kill(self, pid: Pid) -> None:
+        """Kills a process that has not begun. (if there is no memory for it then, that is done when the run goes on)"""
+        self.post(partial(self.desks[pid.shard].exit_signal, self.porters[pid.shard].pid, pid, KILL))
+
+    def _is_early(self, kid: Kid, pid: Pid) -> bool:
+        """Whether a child may not begin yet: its supervisor has not linked with it, or one in front of it has not begun."""
+        if pid.shard != kid.above.pid.shard:
+            links = self.desks[pid.shard].links(pid) or ()
+            return all(peer != kid.above.pid for peer, _ in links)
+        return kid.family.coming is not None and kid.family.coming[0].tag < kid.tag
+
+    def _begin_held(self, shard: int) -> bool:
+        """The children of a desk begin that had to wait and may now. It returns whether any did."""
+        some = False
+        for pid, tag in [it for it in self._early.items() if it[0].shard == shard]:
+            kid = self.kids.get(tag)
+            if kid is None or not self._is_early(kid, pid):
+                del self._early[pid]
+                seat, some = self.begin_child(tag, pid), True
+                if seat is not None:
+                    self.begin(seat)
+        return some
+
+    def _forget_coming(self, pid: Pid, kid: Optional[Kid]) -> None:
+        """A process begins, or exits before that."""
+        self._early.pop(pid, None)
+        if kid is not None and kid.family.coming == (kid, pid):
+            kid.family.coming = None
 
     def begin_child(self, tag: int, pid: Pid) -> Optional[Seat]:
-        """A supervisor has started a child. If that cannot be made, it exits again."""
+        """A child was spawned, and begins, unless it has to wait. If it cannot be made, it exits again."""
         kid = self.kids.get(tag)
+        if kid is not None and self._is_early(kid, pid):
+            self._early[pid] = tag
+            return None
+        self._forget_coming(pid, kid)
         try:
             if kid is not None and kid.made is None:
                 self._make(kid)
@@ -172,16 +214,18 @@ class Supervising(Sending):
             return None
         seat = kid.seat = self.take_in(pid, tag, kid.made, kid.above.pid, kid.above.pid)
         kid.pid = pid
-        if isinstance(kid.made, StandIn):
-            self.spawned -= 1
-        else:
-            kid.begin(seat.cx.me)
+        kid.begin(seat.cx.me)
         kid.made = None
         return seat
 
     def end_family(self, seat: Seat, family: Family, why: Reason) -> None:
         """A supervisor has exited. Its children hear of it by their links, and who asks it by an answer."""
         self.families -= 1
+        if seat in self._abroad:
+            self._abroad.remove(seat)
+        if family.coming is not None and self.order != OVER:
+            self._kill(family.coming[1])
+        family.wanted = family.coming = None
         for kid in family.kids.values():
             del self.kids[kid.tag]
             kid.made = None
@@ -269,6 +313,10 @@ class Supervising(Sending):
     def _is_settled(self, seat: Seat, family: Family) -> bool:
         """Whether a supervisor waits for whatever comes, and all that it has heard and done of its children was told."""
         crew = self.crews[seat.pid.shard]
+        if seat in self._abroad:
+            self._want(seat, family)
+            if family.wanted is not None or family.coming is not None:
+                return False
         does, counts = crew.next(seat.pid), crew.count_children(seat.pid)
         if does is None or does[:2] != SETTLED or counts is None:
             return False

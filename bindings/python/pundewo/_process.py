@@ -252,6 +252,15 @@ class Kid:
         # how often it was started
         self.started = 0
 
+    @property
+    def desk(self) -> int:
+        """The desk that it is on."""
+        return self.above.pid.shard if self.start.desk is None else self.start.desk
+
+    def is_elsewhere(self) -> bool:
+        """Whether it is on another desk than its supervisor."""
+        return self.desk != self.above.pid.shard
+
     def begin(self, address: Address) -> None:
         """Its process has begun."""
         self.family.running += not self.runs
@@ -276,7 +285,7 @@ class Kid:
 class Family:
     """What a supervisor has: the process that it obeys, its children by name, and those that run."""
 
-    __slots__ = ("obeys", "kids", "running", "gone", "requests", "work")
+    __slots__ = ("obeys", "kids", "running", "gone", "requests", "work", "wanted", "coming")
 
     def __init__(self, obeys: Pid):
         self.obeys = obeys
@@ -287,6 +296,9 @@ class Family:
         # what it was asked, and how far that is done
         self.requests: Deque[Request] = deque()
         self.work: Optional[Generator[bool, None, object]] = None
+        # the child that it waits for and another desk has not started, and the one that was started there and has not begun
+        self.wanted: Optional[Kid] = None
+        self.coming: Optional[tuple[Kid, Pid]] = None
 
 
 class Porter(Behaviour):

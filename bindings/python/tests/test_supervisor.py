@@ -14,7 +14,6 @@ from typing import Any, Awaitable, Callable, Optional
 
 import pundewo as p
 from pundewo import runtime as r
-from pundewo._family import StandIn
 
 from behaviours import Doing, audit, is_watched, run_and_stop, until
 
@@ -539,8 +538,7 @@ class Elsewhere(Case):
         supervisor.transient(self.worker("b"), "b", desk=1)
         address = await self.started_on(supervisor.permanent(self.worker("c"), "c"), 3)
         await self.crash(address, "a")
-        # (on another desk a child begins later)
-        await self.noted(f"-a {CRASHED}", "-c shutdown", "-b shutdown", "+c", "+a", "+b")
+        await self.noted(f"-a {CRASHED}", "-c shutdown", "-b shutdown", "+a", "+b", "+c")
         await self.crash(address, "b", p.NORMAL)
         await self.noted("-b normal")
         self.assertEqual(await self.names(address), [("a", True), ("b", False), ("c", True)])
@@ -698,7 +696,7 @@ class Crashes(Case):
                         break
                 self.assertEqual(sorted(set(alive.values())), [1])
                 seats = run._engine.pids.values()
-                self.assertEqual(sum(not isinstance(it.behaviour, StandIn) for it in seats), 24 + 4 + 1 + desks)
+                self.assertEqual(len(seats), 24 + 4 + 1 + desks)
                 self.assertEqual(len(run._engine.kids), 24 + 4)
                 self.assertEqual((len(run._engine.payloads), len(run._engine._alarms)), (0, 0))
             return run.summary()
