@@ -111,12 +111,14 @@ class Supervisor(Behaviour):
     - If there are more restarts in some time than the limit, it ends its children, from the last to the first, and exits
       for SHUTDOWN. So it does if a child does not start at first: `make` raises, or no slot is free. If it does not start
       again, that counts as one restart more. A child that raises in `started` has crashed, as in any handler.
+    - A child may be on another desk. It begins in its turn, once it is linked with its supervisor, and ends in its turn.
     - It ends its children and exits if its parent exits or tells it to, for the same reason; for SHUTDOWN, if the run is
       stopped; and for SHUTDOWN from any process if it has no parent. Other exit signals are nothing to it, but KILL.
     - It answers WHICH_CHILDREN, `StartChild`, `TerminateChild`, `RestartChild` and `DeleteChild`.
 
     Its strategy, its limit, whom it starts again and whom it ends, in which order and when, are those of the proved supervisor
-    of its crew (`pundewo.Crew`). Not proved, but tested: what makes its children, its answers, and children on other desks.
+    of its crew (`pundewo.Crew`). Not proved, but tested: what makes its children, spawns those of other desks as the crew asks for
+    them, and answers.
     """
 
     _ends_children = True

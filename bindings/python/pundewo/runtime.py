@@ -28,8 +28,8 @@ crashed its process, and no other.
 
 Proved is what is below: the table; the crew that says which process is told what, and has the supervisors (`pundewo.Crew`);
 timers; that a call ends once; how a node goes on; and what a desk tells of its losses. Not proved, since nothing checks Python,
-but tested: this module, with the values beside the table, names, what comes from outside, what a process does not take now, what
-makes a child, and children on another desk than their supervisor's.
+but tested: this module, with the values beside the table, names, what comes from outside, what a process does not take now, and
+what makes a child.
 """
 
 from __future__ import annotations

@@ -588,6 +588,84 @@ class Elsewhere(Case):
             await self.started_on(supervisor, 2)
         self.assertEqual(run.summary().spawned, 8)
 
+    @supervised
+    async def test_children_of_three_desks_start_in_order_and_end_from_the_last_to_the_first(self) -> None:
+        async with r.Runtime(3, going_on_every=20) as run:
+            self.runtime, supervisor = run, r.Supervisor.one_for_all().limit(100, 60)
+            for name, desk in zip("abcde", (1, 0, 2, 1, None)):
+                supervisor.permanent(self.worker(name), name, desk=desk)
+            address = run.spawn(supervisor, 0)
+            await self.noted(*(f"+{it}" for it in "abcde"))
+            for _ in range(20):
+                await self.crash(address, "c")
+                await self.noted(f"-c {CRASHED}", *(f"-{it} shutdown" for it in "edba"), *(f"+{it}" for it in "abcde"))
+            children = await address.call(r.WHICH_CHILDREN)
+            self.assertEqual([it.address.pid.shard for it in children], [1, 0, 2, 1, 0])
+        await self.noted(*(f"-{it} shutdown" for it in "edcba"))
+        self.assertEqual(run.summary().spawned, 1 + 21 * 5)
+
+    @supervised
+    async def test_one_that_is_not_made_is_tried_again_and_counts(self) -> None:
+        for strategy in ("one_for_one", "one_for_all", "rest_for_one"):
+            tried = 0
+
+            def make() -> r.Behaviour:
+                nonlocal tried
+                tried += 1
+                if tried in (2, 3, 4, 6):
+                    raise ValueError("not made")
+                return Worker("a", self.notes)
+
+            supervisor = r.Supervisor(strategy).limit(5, 60).permanent(make, "a", desk=1)
+            address = await self.started_on(supervisor, 1)
+            # (an exit, and three starts that fail: one restart is left)
+            await self.crash(address, "a")
+            await self.noted(f"-a {CRASHED}", "+a")
+            await self.ends(address, p.SHUTDOWN, lambda: self.post(address, "crash"))
+            self.assertEqual((self.notes, tried), ([f"-a {CRASHED}"], 6))
+            self.notes.clear()
+
+    @supervised
+    async def test_one_that_is_done_as_it_begins_has_started(self) -> None:
+        class Done(r.Behaviour):
+            def started(_, cx: r.Context) -> r.Next:
+                self.notes.append("+done")
+                return r.Next.stop(p.NORMAL)
+
+            def handle(self, cx: r.Context, event: r.Event) -> None:
+                pass
+
+        supervisor = r.Supervisor.one_for_all().transient(Done, "done", desk=1).permanent(self.worker("a"), "a")
+        address = self.runtime.spawn(supervisor, 0)
+        await self.noted("+done", "+a")
+        for _ in range(20):
+            self.assertTrue(await address.call(r.RestartChild("done")))
+            await self.noted("+done")
+        self.assertEqual(await self.names(address), [("done", False), ("a", True)])
+        self.notes.clear()
+
+    @supervised
+    async def test_a_tree_over_desks_ends_from_its_leaves(self) -> None:
+        def branch() -> r.Supervisor:
+            supervisor = r.Supervisor.one_for_one().permanent(self.worker("b"), "b", desk=0)
+            return supervisor.permanent(self.worker("c"), "c", desk=2).permanent(self.worker("d"), "d")
+
+        async with r.Runtime(3) as run:
+            self.runtime, root = run, r.Supervisor.one_for_one().limit(1000, 60).permanent(self.worker("a"), "a", desk=2)
+            address = run.spawn(root.permanent(branch, "branch", desk=1), 0)
+            await self.noted("+a", "+b", "+c", "+d")
+            for _ in range(20):
+                self.tells(await self.child(address, "branch"), p.KILL)
+                await until(lambda: len(self.notes) == 6)
+                self.assertEqual(sorted(self.notes), [*(f"+{it}" for it in "bcd"), *(f"-{it} killed" for it in "bcd")])
+                self.notes.clear()
+        await self.noted("-d shutdown", "-c shutdown", "-b shutdown", "-a shutdown")
+
+    def post(self, supervisor: r.Address, value: object) -> None:
+        """Sends the only child of a supervisor this."""
+        kid, = self.runtime._engine.pids[supervisor.pid].family.kids.values()
+        kid.address.send(value)
+
     async def started_on(self, supervisor: r.Supervisor, count: int) -> r.Address:
         """The address of the supervisor on the first desk, once so many children have begun."""
         address = self.runtime.spawn(supervisor, 0)

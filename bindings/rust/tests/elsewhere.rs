@@ -471,7 +471,7 @@ fn a_tree_grows_over_all_desks() -> Result<(), Error> {
 fn a_child_elsewhere_is_killed_when_its_time_is_over() -> Result<(), Error> {
     let scene = Scene::new();
     let stays = || Child::permanent(scene.make("s", Manner::Stays));
-    let short = stays().on(1).shutdown(Shutdown::After(Duration::from_millis(20)));
+    let short = stays().on(1).shutdown(Shutdown::After(Duration::from_millis(500)));
     let supervisor =
         scene.spawn(Supervisor::one_for_one().child(short).child(stays().on(2).shutdown(Shutdown::BrutalKill)));
     scene.hears(&["+s", "+s"]);

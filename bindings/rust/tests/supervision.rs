@@ -85,6 +85,37 @@ fn a_supervisor_has_many_children() -> Result<(), Error> {
     Ok(())
 }
 
+/// What panics before its process begins.
+struct Nervous;
+
+impl Behaviour for Nervous {
+    type Message = ();
+
+    fn handle(&mut self, _: &mut Context<'_, ()>, _: Event<()>) -> Next {
+        Next::Wait
+    }
+
+    fn traps_exits(&self) -> bool {
+        panic!("it is nervous")
+    }
+}
+
+#[test]
+fn a_behaviour_that_panics_before_it_begins_leaves_nothing_behind() -> Result<(), Error> {
+    let (runtime, (notes, heard)) = (Runtime::builder().desks(2).start()?, channel());
+    assert!(runtime.spawn_on(0, Nervous).is_err());
+    let supervisor = runtime.spawn_on(0, Supervisor::one_for_one().permanent(worker(1, &notes)))?;
+    hears(&heard, [1]);
+    for desk in [0, 1] {
+        let refused =
+            runtime.call(&supervisor, LONG, ToSupervisor::start_child(Child::permanent(|| Nervous).on(desk)))?;
+        assert_eq!(refused.expect_err("a panic"), ChildFault::Panicked("it is nervous".into()));
+    }
+    assert_eq!(children(&runtime, &supervisor).len(), 1);
+    assert_eq!(runtime.stop()?.spawned, 2);
+    Ok(())
+}
+
 /// The second process of a supervisor takes none of the slots.
 #[test]
 fn a_full_desk_refuses_children_by_its_slots() -> Result<(), Error> {

@@ -59,8 +59,8 @@ const MANY: usize = 64;
 /// # Ok::<(), Box<dyn std::error::Error>>(())
 /// ```
 ///
-/// Its children are on its own desk. If it is killed, they exit, too, but for those that trap exits. A supervisor may
-/// be a child of another.
+/// Its children are on its own desk, or on others ([`Child::on`]). If it is killed, they exit, too, but for those that
+/// trap exits. A supervisor may be a child of another.
 ///
 /// Behind it is a process of the library, one of [`supervisors`](crate::supervisors), whose functions are proved. That
 /// one starts and ends the children, and is linked with them: so an exit signal that ends a child comes from that
@@ -80,11 +80,11 @@ const MANY: usize = 64;
 ///
 /// # When a child is not made
 ///
-/// The process of a child is spawned first, and then the closure makes its behaviour. A start fails if the closure
-/// panics, or no slot of the desk is free:
+/// The process of a child is spawned first, and then the closure makes its behaviour. On another desk the behaviour is made
+/// first. A start fails if the closure panics, or no slot of the desk is free:
 /// - **As the supervisor begins**: it ends those that it has started, and exits with `shutdown`.
 /// - **As a child is started again**: the process that was spawned exits, and the child is tried again, as after any
-///   exit.
+///   exit. On another desk there is no process, and it is tried again, too.
 ///   Each try counts for the limit, and the strategy holds for it.
 /// - **At the request of [`ToSupervisor::start_child`]** or `restart_child`: the one who asked is told, and it is not
 ///   tried again.
@@ -102,7 +102,8 @@ const MANY: usize = 64;
 /// # What is proved, and what is not
 ///
 /// The library decides who is ended and started again, in which order, how often, and by when a child is killed. That
-/// is proved. How a child is made, and how what is asked is passed on and answered, is tested.
+/// is proved, also of children on other desks. How a child is made, also on another desk, and how what is asked is passed
+/// on and answered, is tested.
 pub struct Supervisor {
     spec: SupervisorSpec,
     /// The children that it begins with, in the order in which they were added.
