@@ -63,6 +63,10 @@ struct Readme;
 #[doc = include_str!("../../../docs/RUNTIME_RUST.md")]
 struct Page;
 
+#[cfg(doctest)]
+#[doc = include_str!("../../../docs/TRIALS.md")]
+struct Trials;
+
 mod asking;
 mod crew;
 mod iterators;
@@ -73,6 +77,8 @@ mod reading;
 pub mod runtime;
 pub mod supervisors;
 mod tools;
+#[forbid(unsafe_code)]
+pub mod trial;
 mod values;
 
 pub use asking::{AskFault, Call, Door, Heard, Post, PostError, Request, WayIn, way_in};

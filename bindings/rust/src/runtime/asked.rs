@@ -3,6 +3,7 @@
 use super::address::Address;
 use super::calls::{CallFault, fresh_number};
 use super::hub::{Hub, Origin};
+use super::paces::is_trial;
 use super::payloads::Slot;
 use super::promise::Promise;
 use super::sending::{SendFault, Sending};
@@ -179,6 +180,9 @@ impl<R: Send + 'static> Asking<R> {
     /// [`CallFault::Down`], if the server exits or had exited; [`CallFault::Dropped`], if it drops the request;
     /// [`CallFault::Over`], if the run is over or halts; [`CallFault::OtherRun`].
     pub fn wait(mut self, limit: Duration) -> Result<R, CallFault> {
+        if is_trial() {
+            return self.asked.outcome.give_up().unwrap_or(Err(CallFault::Trial));
+        }
         let until = Instant::now().checked_add(limit);
         if let Some(mut entering) = self.entering.take() {
             if !entering.wait(until) {
@@ -189,6 +193,11 @@ impl<R: Send + 'static> Asking<R> {
             Some(outcome) => outcome,
             None => Err(self.late()),
         }
+    }
+
+    /// How the call has ended, if it has.
+    pub(crate) fn ended(&self) -> Option<Result<R, CallFault>> {
+        if self.asked.outcome.is_open() { None } else { self.asked.outcome.give_up() }
     }
 
     /// Gives the call up, since its time is over. It is [`CallFault::Timeout`], with the process whose handler is running on

@@ -30,6 +30,9 @@ pub enum CallFault {
     Over,
     /// The address is of another run than the one that was to call. Nothing was asked.
     OtherRun,
+    /// A trial would wait, which has one thread: it takes `World::ask`, whose answer is read once the run is at rest
+    /// ([`trial`](crate::trial)).
+    Trial,
 }
 
 impl fmt::Display for CallFault {
@@ -44,6 +47,7 @@ impl fmt::Display for CallFault {
             CallFault::Dropped => f.write_str("the request was dropped unanswered"),
             CallFault::Over => f.write_str("the run is over, or has halted"),
             CallFault::OtherRun => Fault::OtherRun.fmt(f),
+            CallFault::Trial => f.write_str("a trial takes World::ask, whose answer is read once the run is at rest"),
         }
     }
 }

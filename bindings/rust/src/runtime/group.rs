@@ -4,6 +4,7 @@
 use super::address::Address;
 use super::hub::Hub;
 use super::inbox::{Place, locked};
+use super::paces::{NAMES, touch};
 use super::payloads::Values;
 use super::run::Handle;
 use super::target::Target;
@@ -11,8 +12,8 @@ use crate::{Fault, Groups, Left, Pid, Ref};
 use std::any::Any;
 use std::fmt;
 use std::marker::PhantomData;
-use std::sync::Arc;
 use std::sync::atomic::{AtomicU64, Ordering::SeqCst};
+use std::sync::{Arc, MutexGuard};
 
 /// The monitor that each join passes. (the thread of a desk hears of all exits by itself)
 const NO_MONITOR: Ref = Ref { desk: 0, number: 0 };
@@ -90,7 +91,7 @@ impl<M: Send + 'static> Group<M> {
     /// [`Fault::OtherRun`]; [`Fault::NoProc`] if the process has exited; [`Fault::Memory`]; [`Fault::Full`] after 2^64 - 1 times.
     pub fn join(&self, process: &Address<M>) -> Result<(), Fault> {
         let pid = Target::from(process).pid_in(&self.hub)?;
-        let mut table = locked(&self.hub.place(pid).groups);
+        let mut table = self.hub.place(pid).table();
         // (first, so that one that exits meanwhile leaves)
         process.mailbox.is_in_groups.store(true, SeqCst);
         if !process.mailbox.is_open() {
@@ -102,7 +103,7 @@ impl<M: Send + 'static> Group<M> {
     /// Takes a process out, once: `pg:leave`. It returns `false` if the process was not in the group.
     pub fn leave(&self, process: &Address<M>) -> bool {
         let Ok(pid) = Target::from(process).pid_in(&self.hub) else { return false };
-        let mut table = locked(&self.hub.place(pid).groups);
+        let mut table = self.hub.place(pid).table();
         table.0.as_mut().is_some_and(|groups| groups.leave(self.number, pid) != Left::NotThere)
     }
 
@@ -110,7 +111,7 @@ impl<M: Send + 'static> Group<M> {
     #[must_use]
     pub fn times(&self, process: &Address<M>) -> u64 {
         let Ok(pid) = Target::from(process).pid_in(&self.hub) else { return 0 };
-        locked(&self.hub.place(pid).groups).0.as_ref().map_or(0, |groups| groups.times(self.number, pid))
+        self.hub.place(pid).table().0.as_ref().map_or(0, |groups| groups.times(self.number, pid))
     }
 
     /// The processes that are in the group, each once, in no order: `pg:get_members`.
@@ -126,7 +127,7 @@ impl<M: Send + 'static> Group<M> {
     }
 
     fn members_of(&self, place: &Place) -> Vec<Address<M>> {
-        let table = locked(&place.groups);
+        let table = place.table();
         let pids: Vec<Pid> = table.0.iter().flat_map(|groups| groups.members(self.number)).collect();
         drop(table);
         // (one that has exited since is none)
@@ -138,7 +139,7 @@ impl<M: Send + 'static> Group<M> {
     /// How many processes are in the group, each counted once.
     #[must_use]
     pub fn len(&self) -> usize {
-        let table = |place: &Place| locked(&place.groups).0.as_ref().map_or(0, |groups| groups.len(self.number));
+        let table = |place: &Place| place.table().0.as_ref().map_or(0, |groups| groups.len(self.number));
         self.hub.places.iter().map(table).sum()
     }
 
@@ -156,9 +157,14 @@ impl<M: Send + 'static> Group<M> {
 }
 
 impl Place {
+    fn table(&self) -> MutexGuard<'_, Table> {
+        touch(NAMES);
+        locked(&self.groups)
+    }
+
     /// A process has exited: it leaves all its groups.
     pub(crate) fn leave_groups(&self, pid: Pid) {
-        let mut table = locked(&self.groups);
+        let mut table = self.table();
         table.0.as_mut().map(|groups| groups.forget(pid));
     }
 }

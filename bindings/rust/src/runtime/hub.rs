@@ -41,6 +41,8 @@ pub(crate) struct Hub {
     /// The number of the run among all of the program.
     pub(crate) run: u64,
     begun: Instant,
+    /// The time of a trial, whose clock stands still until the trial lets time go on.
+    pub(crate) trial: Option<AtomicU64>,
     pub(crate) places: Vec<Place>,
     pub(crate) meeting: Meeting,
     order: AtomicU8,
@@ -67,6 +69,7 @@ impl Hub {
         Hub {
             run: RUNS.fetch_add(1, SeqCst),
             begun: Instant::now(),
+            trial: None,
             places: (0..desks).map(|_| Place::default()).collect(),
             meeting,
             order: AtomicU8::new(GO_ON),
@@ -89,7 +92,10 @@ impl Hub {
 
     /// The time since the run began, in microseconds.
     pub(crate) fn now(&self) -> u64 {
-        micros(self.begun.elapsed())
+        match &self.trial {
+            Some(time) => time.load(SeqCst),
+            None => micros(self.begun.elapsed()),
+        }
     }
 
     /// The time when so much has gone by, at the earliest.

@@ -112,6 +112,11 @@ impl Place {
         std::mem::take(&mut inbox.tasks)
     }
 
+    /// How many tasks wait.
+    pub(crate) fn tasks(&self) -> usize {
+        locked(&self.inbox).tasks.len()
+    }
+
     /// Puts tasks back, before all others.
     pub(crate) fn put_back(&self, mut tasks: VecDeque<Task>) {
         let mut inbox = locked(&self.inbox);

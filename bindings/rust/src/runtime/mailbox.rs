@@ -8,6 +8,7 @@ use super::context::Context;
 use super::gone::gone_monitor;
 use super::hub::Origin;
 use super::inbox::{Task, locked};
+use super::paces::{is_trial, no_wait};
 use super::payloads::drop_quietly;
 use super::promise::Waiting;
 use super::target::Target;
@@ -185,6 +186,10 @@ impl<M: Send + 'static> Mailbox<M> {
             if !state.events.is_empty() || state.ended {
                 drop(state);
                 return self.try_recv();
+            }
+            if is_trial() {
+                drop(state);
+                no_wait("Mailbox::recv_within", "Mailbox::try_recv");
             }
             let before = std::mem::replace(&mut state.waiting, Waiting::Thread(thread::current()));
             drop(state);

@@ -63,6 +63,10 @@
 //!
 //! A [`Supervisor`] starts its children, and starts them again when they exit. A [`Name`] leads to the child that runs now.
 //!
+//! # Trials
+//!
+//! [`trial`](crate::trial) runs the same behaviours under every schedule, on one thread.
+//!
 //! # What is proved, and what is not
 //!
 //! Proved is what is below: the table, and the crew that says which process is told what ([`Crew`](crate::Crew)), with its
@@ -85,14 +89,15 @@ mod elsewhere;
 mod ending;
 mod gone;
 mod group;
-mod hub;
-mod inbox;
-mod mailbox;
-mod meeting;
+pub(crate) mod hub;
+pub(crate) mod inbox;
+pub(crate) mod mailbox;
+pub(crate) mod meeting;
 mod name;
 mod numbers;
 mod observing;
-mod payloads;
+pub(crate) mod paces;
+pub(crate) mod payloads;
 mod process;
 mod promise;
 mod report;
@@ -100,13 +105,13 @@ mod room;
 mod run;
 mod selection;
 mod sending;
-mod spawning;
-mod start;
+pub(crate) mod spawning;
+pub(crate) mod start;
 mod supervision;
 mod supervisor;
 mod target;
 mod timing;
-mod worker;
+pub(crate) mod worker;
 
 pub use crate::{Pick, Pid, Reason, Ref};
 pub use address::Address;

@@ -2,8 +2,9 @@
 
 use super::address::Address;
 use super::inbox::locked;
+use super::paces::{NAMES, is_trial, no_wait, touch};
 use std::fmt;
-use std::sync::{Arc, Condvar, Mutex, PoisonError};
+use std::sync::{Arc, Condvar, Mutex, MutexGuard, PoisonError};
 use std::time::Duration;
 
 /// A name for a process, as for a child of a supervisor, which leads to the one that runs now: a registered name of Erlang,
@@ -59,7 +60,7 @@ impl<M: Send + 'static> Name<M> {
     /// The process that has the name: Erlang's `whereis`. `None` if it has exited, and its successor is not there yet.
     #[must_use]
     pub fn whereis(&self) -> Option<Address<M>> {
-        let found = locked(&self.0.process).clone();
+        let found = self.process().clone();
         found.filter(|address| address.mailbox.is_open())
     }
 
@@ -67,8 +68,11 @@ impl<M: Send + 'static> Name<M> {
     /// its desk, and with it perhaps the supervisor.
     #[must_use]
     pub fn wait(&self, limit: Duration) -> Option<Address<M>> {
+        if is_trial() {
+            return Some(self.whereis().unwrap_or_else(|| no_wait("Name::wait", "Name::whereis")));
+        }
         let vacant = |process: &mut Option<Address<M>>| !process.as_ref().is_some_and(|it| it.mailbox.is_open());
-        let waited = self.0.given.wait_timeout_while(locked(&self.0.process), limit, vacant);
+        let waited = self.0.given.wait_timeout_while(self.process(), limit, vacant);
         let (process, waited) = waited.unwrap_or_else(PoisonError::into_inner);
         // (the process may exit at any time: it had not as it was found)
         if waited.timed_out() { None } else { process.clone() }
@@ -109,7 +113,7 @@ impl<M: Send + 'static> Name<M> {
     /// # Ok::<(), Box<dyn std::error::Error>>(())
     /// ```
     pub fn register(&self, process: &Address<M>) -> bool {
-        let mut named = locked(&self.0.process);
+        let mut named = self.process();
         let is_taken = named.as_ref().is_some_and(|it| it.mailbox.is_open());
         if is_taken || !process.mailbox.is_open() {
             return false;
@@ -123,7 +127,7 @@ impl<M: Send + 'static> Name<M> {
 
     /// Takes the name from the process that has it: Erlang's `unregister`. It returns `false` if no live process has it.
     pub fn unregister(&self) -> bool {
-        let before = self.move_to(&mut locked(&self.0.process), None);
+        let before = self.move_to(&mut self.process(), None);
         before.is_some_and(|address| address.mailbox.is_open())
     }
 
@@ -135,16 +139,21 @@ impl<M: Send + 'static> Name<M> {
         before
     }
 
+    fn process(&self) -> MutexGuard<'_, Option<Address<M>>> {
+        touch(NAMES);
+        locked(&self.0.process)
+    }
+
     /// Gives a process the name.
     pub(crate) fn give(&self, to: Address<M>) {
-        let before = self.move_to(&mut locked(&self.0.process), Some(to));
+        let before = self.move_to(&mut self.process(), Some(to));
         self.0.given.notify_all();
         drop(before);
     }
 
     /// Takes the name from this process, if it has it.
     pub(crate) fn take(&self, from: &Address<M>) {
-        let mut process = locked(&self.0.process);
+        let mut process = self.process();
         let taken = if process.as_ref() == Some(from) { self.move_to(&mut process, None) } else { None };
         drop(process);
         drop(taken);

@@ -9,6 +9,7 @@ use super::calls::CallFault;
 use super::group::AnyMailbox;
 use super::name::Names;
 use super::numbers::Numbered;
+use super::paces::touch;
 use super::room::Ticket;
 use super::selection::letter;
 use super::sending::SendFault;
@@ -123,6 +124,7 @@ impl<M> Values<M> {
 
     /// (nothing of the program's own runs under the lock: values are moved, and dropped outside of it)
     fn lock(&self) -> MutexGuard<'_, Option<Kept<M>>> {
+        touch(1 << self.pid.shard);
         self.kept.lock().unwrap_or_else(PoisonError::into_inner)
     }
 

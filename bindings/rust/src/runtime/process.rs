@@ -14,6 +14,7 @@ use super::worker::{Worker, news_of};
 use super::{ANSWER, GONE, GONE_LINK, MORE, OVER};
 use crate::crew::{Next, What};
 use crate::{Body, Item, Pick, Pid, Reason};
+use std::any::Any;
 use std::mem;
 use std::sync::Arc;
 use std::sync::atomic::Ordering::SeqCst;
@@ -34,6 +35,8 @@ pub(crate) trait Actor: Send {
     fn outline(&self) -> Outline;
     /// What its behaviour says of its state, by which it may panic.
     fn inspect(&self) -> String;
+    /// Its behaviour, as a value whose type is not known.
+    fn behaviour(&self) -> &dyn Any;
 }
 
 pub(crate) struct Process<B: Behaviour> {
@@ -266,5 +269,9 @@ impl<B: Behaviour> Actor for Process<B> {
 
     fn inspect(&self) -> String {
         self.behaviour.inspect()
+    }
+
+    fn behaviour(&self) -> &dyn Any {
+        &self.behaviour
     }
 }

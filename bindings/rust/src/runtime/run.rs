@@ -9,6 +9,7 @@ use super::hub::{END, Hub, KILL, Origin, STOP};
 use super::inbox::Task;
 use super::mailbox::{Mailbox, Reader};
 use super::meeting::{Outcome, Stuck};
+use super::paces::{is_trial, no_wait};
 use super::spawning::Spawning;
 use super::start::{Builder, Closing, Threads, is_inside};
 use super::target::Target;
@@ -218,6 +219,10 @@ impl Runtime {
 }
 
 impl Handle {
+    pub(crate) fn of(hub: &Arc<Hub>) -> Handle {
+        Handle(hub.clone())
+    }
+
     pub(crate) fn hub(&self) -> &Arc<Hub> {
         &self.0
     }
@@ -262,6 +267,9 @@ impl Handle {
         limit: Option<Duration>,
         behaviour: B,
     ) -> Result<Address<B::Message>, SpawnFault> {
+        if is_trial() {
+            return Err(SpawnFault::Trial);
+        }
         // (a handler would wait for a desk that may wait for it)
         if is_inside(&self.0) {
             return Err(SpawnFault::Inside);
@@ -392,6 +400,9 @@ impl Handle {
     /// Waits until the run is over, for so long at most, and returns whether it is: by [`stop`](Handle::stop), since it has
     /// halted, or since all processes have exited and somebody waits for that. A handler should not wait.
     pub fn wait(&self, limit: Duration) -> bool {
+        if is_trial() {
+            no_wait("Handle::wait", "what the run does at rest");
+        }
         self.0.meeting.wait(Some(limit))
     }
 
@@ -421,6 +432,8 @@ pub enum SpawnFault {
     /// A handler of this run asked, and would wait for itself: it takes [`Context::spawn`](super::Context::spawn) or
     /// [`Context::spawn_on`](super::Context::spawn_on).
     Inside,
+    /// A trial asked, which has one thread: it takes `World::spawn` or `World::spawn_on` ([`trial`](crate::trial)).
+    Trial,
 }
 
 impl fmt::Display for SpawnFault {
@@ -432,6 +445,9 @@ impl fmt::Display for SpawnFault {
                 write!(f, "the process is not spawned in time: the desk is held up by {pid}, a {behaviour}")
             }
             SpawnFault::Timeout(None) => f.write_str("the process is not spawned in time"),
+            SpawnFault::Trial => {
+                f.write_str("the process is not spawned: a trial takes World::spawn or World::spawn_on")
+            }
             SpawnFault::Inside => f.write_str("the process is not spawned: a handler takes a call of its context"),
         }
     }

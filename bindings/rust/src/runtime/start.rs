@@ -168,6 +168,11 @@ pub(crate) fn is_inside(hub: &Arc<Hub>) -> bool {
     INSIDE.get() == Arc::as_ptr(hub)
 }
 
+/// Has this thread run the handlers of this run from here on, or of none, while a trial does so.
+pub(crate) fn go_inside(hub: Option<&Arc<Hub>>) {
+    INSIDE.set(hub.map_or(std::ptr::null(), Arc::as_ptr));
+}
+
 /// Whether this thread runs the handlers of some run.
 pub(crate) fn is_worker() -> bool {
     !INSIDE.get().is_null()

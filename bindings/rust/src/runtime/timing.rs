@@ -100,13 +100,19 @@ impl Worker {
     pub(crate) fn go_off(&mut self) -> bool {
         let now = self.hub.now();
         let mut some = false;
-        while let Some(alarm) = self.alarms.pop_due(now) {
+        while self.go_off_one(now) {
             some = true;
-            match alarm {
-                Alarm::Over(pid, number) => self.tell_process(pid, OVER, number),
-                Alarm::Do(work) => _ = quietly(|| work(self)),
-            }
         }
         some
+    }
+
+    /// Does the earliest of what was to be done by this time, if there is some.
+    pub(super) fn go_off_one(&mut self, now: u64) -> bool {
+        match self.alarms.pop_due(now) {
+            Some(Alarm::Over(pid, number)) => self.tell_process(pid, OVER, number),
+            Some(Alarm::Do(work)) => _ = quietly(|| work(self)),
+            None => return false,
+        }
+        true
     }
 }

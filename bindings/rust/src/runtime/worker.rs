@@ -23,7 +23,7 @@ use std::sync::atomic::Ordering::SeqCst;
 
 /// How many letters a turn handles at most, and how many jobs a step has.
 const BUDGET: u32 = 256;
-const MOST: usize = 256;
+pub(super) const MOST: usize = 256;
 
 /// The tag of a supervisor that the library runs.
 pub(crate) const SUPERVISOR: u64 = 1 << 62;
@@ -113,13 +113,13 @@ pub(crate) struct Worker {
     /// The children of supervisors of other desks that have not begun yet.
     pub(super) arriving: HashMap<Pid, Sent>,
     /// The order that all processes were told.
-    told: u8,
-    fault: Option<Fault>,
+    pub(super) told: u8,
+    pub(super) fault: Option<Fault>,
     /// Whether the last step came to all who had something to do.
     whole: bool,
     /// Whether the desk is that of a node that has just gone on.
     resumed: bool,
-    jobs: Vec<Job>,
+    pub(super) jobs: Vec<Job>,
     pub(super) answers: Vec<(Pid, Next)>,
     /// What it counts.
     pub(super) record: Record,
@@ -165,7 +165,7 @@ impl Worker {
         self.desk.take()
     }
 
-    fn place(&self) -> &Place {
+    pub(super) fn place(&self) -> &Place {
         &self.hub.places[usize::from(self.number)]
     }
 
@@ -192,13 +192,18 @@ impl Worker {
         let some = self.step(MOST) || tasks || alarms;
         let some = !self.arriving.is_empty() && self.begin_linked() || some;
         self.pass_on();
-        if self.supervisions.is_empty() && self.left.is_empty() {
-            return some;
-        }
-        self.serve();
-        self.send_children();
         // (a supervisor may have something to do of which nobody is told)
-        some || self.crew.queued() > 0
+        self.serve_all() && self.crew.queued() > 0 || some
+    }
+
+    /// Serves the supervisors, and returns whether there is one.
+    pub(super) fn serve_all(&mut self) -> bool {
+        let some = !(self.supervisions.is_empty() && self.left.is_empty());
+        if some {
+            self.serve();
+            self.send_children();
+        }
+        some
     }
 
     /// Does what those outside want. What the desk had no memory or no stamp for stays in the inbox.
@@ -206,18 +211,25 @@ impl Worker {
         let mut tasks = self.place().take();
         let some = !tasks.is_empty();
         while self.fault.is_none() {
-            match tasks.pop_front() {
-                Some(Task::Do(work) | Task::Ask(work)) => drop(quietly(|| work(self))),
-                Some(Task::Send { to, kind, num }) => {
-                    if !self.say(self.porter, to, kind, num) && self.fault.is_some() {
-                        tasks.push_front(Task::Send { to, kind, num });
-                    }
-                }
-                None => return some,
+            let Some(task) = tasks.pop_front() else { return some };
+            if let Some(task) = self.perform_one(task) {
+                tasks.push_front(task);
             }
         }
         self.place().put_back(tasks);
         some
+    }
+
+    /// Does what one of those outside wants. It comes back if the desk had no memory or no stamp for it.
+    pub(super) fn perform_one(&mut self, task: Task) -> Option<Task> {
+        match task {
+            Task::Do(work) | Task::Ask(work) => drop(quietly(|| work(self))),
+            Task::Send { to, kind, num } => {
+                let refused = !self.say(self.porter, to, kind, num) && self.fault.is_some();
+                return refused.then_some(Task::Send { to, kind, num });
+            }
+        }
+        None
     }
 
     /// A step of the crew: a turn, and then the handlers of those who have something to do.
@@ -245,8 +257,13 @@ impl Worker {
     /// exit is told with its reason.
     fn turn(&mut self, most: usize) -> Turned {
         self.crew.set_time(self.hub.now());
+        let turned = self.desk().turn(BUDGET);
+        self.hand_out(most, turned)
+    }
+
+    /// Has the crew say who has something to do, after a turn.
+    pub(super) fn hand_out(&mut self, most: usize, mut turned: Turned) -> Turned {
         let desk = self.desk.as_mut().expect("a desk, outside of a meeting");
-        let mut turned = desk.turn(BUDGET);
         let (resumed, mut left) = (std::mem::take(&mut self.resumed), Vec::new());
         while let Some(Loss { pid, items, .. }) = self.crew.next_loss(desk).expect("the crew of this desk") {
             self.record.lost(&items);
@@ -418,7 +435,7 @@ impl Worker {
     }
 
     /// Tells each process that was not told yet what those outside want.
-    fn tell_order(&mut self) {
+    pub(super) fn tell_order(&mut self) {
         let order = self.hub.order();
         if order <= self.told || order <= END {
             return;
