@@ -12,7 +12,7 @@ ghost use Rattle.std.specs.Prelude.{◌≡◌};
 ghost use Rattle.pt_desk.specs.DeskState.{GoesOn};
 ghost use Rattle.pt_pending.specs.Ending.{EndsOnce};
 ghost use Rattle.pt_behaviour.specs.Behaving.{takes};
-ghost use Rattle.pt_supervisor.specs.Supervising.{HereAwaitsNobody, PermanentLive, StaysWanted};
+ghost use Rattle.pt_supervisor.specs.Supervising.{PermanentLive, StaysWanted};
 
 use crate::stage;
 use crate::stage::{Curtain, DESKS, Stage, first_of};
@@ -471,13 +471,11 @@ fn made_client<'a>(alloc: Global, curtain: &'a Curtain) -> Stage<Actor<'a>> {
 ///
 /// Each call of a client or a worker ends once, by its answer or by the exit of the queue. For any item that a
 /// supervisor handles, each of its children stays one that it wants alive. So if it waits for any item, and for no child
-/// on another desk, each child is alive, as far as it knows. A supervisor that spawns all its children waits for no such
-/// child.
+/// on another desk, each child is alive, as far as it knows.
 pub fn play<R: Threads + Wait + Sync>(rt: &R, alloc: Global) -> Result<Jobs>
     ensures calls { EndsOnce }
     ensures wanted { StaysWanted }
     ensures live { PermanentLive }
-    ensures here { HereAwaitsNobody }
 {
     calls_end_once();
     permanent_children_live();
