@@ -14,7 +14,7 @@ from ._library import item_of, lib, pid_of
 from ._report import Holder
 from ._selection import Selection
 from ._supervisor import Supervisor
-from .values import ANY, Item, Pick, Pid
+from .values import ANY, Item, Pick, Pid, of_type
 
 if TYPE_CHECKING:
     from ._engine import Engine
@@ -138,10 +138,12 @@ class View(NamedTuple):
 
     def process(self, pid: Pid) -> Optional[ProcessView]:
         """The process with this pid, if the page has it."""
+        of_type("pid", pid, Pid)
         return next((it for it in self.processes if it.pid == pid), None)
 
     def supervisor(self, pid: Pid) -> Optional[SupervisorView]:
         """The supervisor with this pid."""
+        of_type("pid", pid, Pid)
         return next((it for it in self.supervisors if it.pid == pid), None)
 
 

@@ -63,7 +63,7 @@ from ._tap import Behind, Tap
 from ._view import (
     ChildView, DeskView, First, Look, ProcessView, SilentDesk, SupervisorView, View, outside,
 )
-from .values import NOPROC, NORMAL, SHUTDOWN, U8, U64, Pid, Reason, flag, number, of_type, shown
+from .values import NOPROC, NORMAL, SHUTDOWN, U8, U32, U64, Pid, Reason, flag, number, of_type, shown
 
 __all__ = [
     "ANSWER", "BRUTAL_KILL", "CRASH", "FIRST_KIND", "INFINITY", "LOST", "MESSAGE", "PROCEED", "REQUEST", "TIMEOUT",
@@ -335,7 +335,7 @@ class Runtime:
         """
         engine, limit, began = self._engine, seconds("limit", limit), monotonic()
         after = None if after is None else number("after", after, 0, U64)
-        look = Look(engine, after, number("processes", processes, 0, U64), number("first", first, 0, U64))
+        look = Look(engine, after, number("processes", processes, 0, U32), number("first", first, 0, U32))
         return self._looked(lambda: look.view(began), limit) or outside(engine, began)
 
     def _looked(self, work: Callable[[], T], limit: float) -> Optional[T]:

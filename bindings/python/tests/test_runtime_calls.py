@@ -18,7 +18,7 @@ from pundewo import runtime as r
 from pundewo.values import shown
 
 from behaviours import Doing, Echo, in_asyncio, until
-from domains import PICK, REASON, REF, WORD, Domain, Flag, Ints, Only, Small
+from domains import PICK, PID, REASON, REF, WORD, Domain, Flag, Ints, Only, Small
 
 # What is no value of a type of the run.
 OTHERS: tuple[Any, ...] = (None, 0, 1, -1, 2**70, True, 1.5, float("nan"), "", "x", b"x", (), (1, 2), [], {}, object(), int, p.ANY)
@@ -129,7 +129,12 @@ CALLS: dict[str, dict[str, dict[str, Domain]]] = {
         "exit": {"process": ADDRESS, "reason": REASON}, "register": {"name": NAME, "process": ADDRESS},
         "whereis": {"name": NAME}, "unregister": {"name": NAME}, "with_archive": {"archive": SINK},
         "group": {"name": NAME},
+        "view": {"after": Option(Ints(0, 2**64 - 1)), "processes": WORD, "first": WORD, "limit": SECONDS},
+        "inspect": {"process": ADDRESS, "limit": SECONDS}, "tap": {"process": MAYBE_ADDRESS, "most": Ints(1, 2**64 - 1)},
+        "observe": {"port": Ints(0, 65_535), "host": NAME},
     },
+    "View": {"process": {"pid": PID}, "supervisor": {"pid": PID}},
+    "Tap": {"get": {"limit": SECONDS}, "is_ended": {}, "close": {}}, "Observer": {"close": {}},
     "Group": {"join": {"process": ADDRESS}, "leave": {"process": ADDRESS}, "times": {"process": ADDRESS}, "members": {},
               "send_all": {"value": VALUE}},
     "Address": {
@@ -167,7 +172,7 @@ CALLS: dict[str, dict[str, dict[str, Domain]]] = {
     "Request": {"reply": {"value": VALUE}}, "Answer": {"result": {}},
 }
 # What the run makes and a program reads, and what a program writes itself.
-READ = {"Call", "CallFault", "CallTimeout", "Child", "Crash", "Down", "Exit", "Halt", "Halted", "Holder",
+READ = {"Behind", "ChildView", "DeskView", "First", "ProcessView", "SilentDesk", "SupervisorView", "Call", "CallFault", "CallTimeout", "Child", "Crash", "Down", "Exit", "Halt", "Halted", "Holder",
         "InboxFull", "Message", "NotEnded", "Restart", "RunOver", "ServerDown", "SpawnTimeout", "Summary", "Tick", "Timer", "Unanswered"}
 WRITTEN = {"Behaviour"}
 
@@ -184,7 +189,7 @@ class Case:
 
     def __init__(self, run: r.Runtime) -> None:
         self.run, self.notes, self.ready = run, list[Any](), False
-        self.group = run.group("group")
+        self.group, self.tap = run.group("group"), run.tap()
         self.file = r.HistoryFile(Path(tempfile.mkdtemp()) / "history")
 
         def start(cx: r.Context) -> None:
@@ -210,7 +215,7 @@ class Case:
         at: dict[str, Any] = {
             "Runtime": self.run, "Address": self.child, "Context": self.cx, "Mailbox": self.mailbox, "Next": r.Next,
             "Selection": r.Selection(1), "Bound": r.Bound, "HistoryFile": r.HistoryFile,
-            "Supervisor": r.Supervisor.one_for_one(), "Group": self.group}
+            "Supervisor": r.Supervisor.one_for_one(), "Group": self.group, "View": self.run.view(), "Tap": self.tap}
         call: Callable[..., Any] = getattr(at[where], name)
         return self.begun(call) if inspect.iscoroutinefunction(call) else call
 

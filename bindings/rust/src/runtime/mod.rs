@@ -67,6 +67,11 @@
 //!
 //! [`trial`](crate::trial) runs the same behaviours under every schedule, on one thread.
 //!
+//! # Watching
+//!
+//! [`Handle::view`] is what a run is at a moment, [`Handle::tap`] has its events as they come, and [`Handle::observe`] serves a
+//! page of it.
+//!
 //! # What is proved, and what is not
 //!
 //! Proved is what is below: the table, and the crew that says which process is told what ([`Crew`](crate::Crew)), with its
