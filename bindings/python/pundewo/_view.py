@@ -44,8 +44,8 @@ class First(Generic[T]):
 class DeskView(NamedTuple):
     """A desk between two of its steps, and what it has done since the run began: how many messages its processes have taken,
     with requests and answers; how many handlers ran; how many restarts its supervisors have made; how many messages were lost,
-    since their process had exited; the handler that ran longest of all in the run, if it was here. And what it has now: processes that may have something to do,
-    signals that wait for room in a lane, and events in its journal."""
+    since their process had exited; the handler that ran longest of all in the run, if it was here. And what it has now:
+    processes that may have something to do, signals that wait for room in a lane, and events in its journal."""
 
     desk: int
     processes: int
