@@ -124,13 +124,13 @@ class Supervising(Sending):
     # Children on other desks
 
     def _want(self, seat: Seat, family: Family) -> None:
-        """Asks a supervisor which child it wants on another desk, unless one is being started there. It tells of each start once."""
+        """Asks a supervisor which child it wants on another desk, unless one is being started there. It tells of each once."""
         if family.wanted is None and family.coming is None:
             tag = self.crews[seat.pid.shard].child_to_start(seat.pid)
             family.wanted = None if tag is None else self.kids[tag]
 
     def _send_children(self, shard: int) -> bool:
-        """Starts the children that the supervisors of a desk want on other desks, and returns whether there was something to do."""
+        """Starts the children that the supervisors of a desk want on other desks, and returns whether there was one."""
         some = False
         for seat in [it for it in self._abroad if it.pid.shard == shard]:
             family = seat.family

@@ -663,8 +663,9 @@ class Elsewhere(Case):
 
     def post(self, supervisor: r.Address, value: object) -> None:
         """Sends the only child of a supervisor this."""
-        kid, = self.runtime._engine.pids[supervisor.pid].family.kids.values()
-        kid.address.send(value)
+        child, = (kid for kid in self.runtime._engine.kids.values() if kid.above.pid == supervisor.pid)
+        assert child.address is not None
+        child.address.send(value)
 
     async def started_on(self, supervisor: r.Supervisor, count: int) -> r.Address:
         """The address of the supervisor on the first desk, once so many children have begun."""
