@@ -169,7 +169,7 @@ class Supervising(Sending):
 
     def _kill(self, pid: Pid) -> None:
         """Kills a process that has not begun. (if there is no memory for it then, that is done when the run goes on)"""
-        self.post(partial(self.desks[pid.shard].exit_signal, self.porters[pid.shard].pid, pid, KILL))
+        self.post(lambda: self.desks[pid.shard].exit_signal(self.porters[pid.shard].pid, pid, KILL))
 
     def _is_early(self, kid: Kid, pid: Pid) -> bool:
         """Whether a child may not begin yet: its supervisor has not linked with it, or one in front of it has not begun."""

@@ -7,7 +7,7 @@ use pundewo::runtime::{
     Shutdown, Supervisor, ToSupervisor,
 };
 use std::sync::atomic::{AtomicBool, AtomicI64, AtomicU64, Ordering::SeqCst};
-use std::sync::mpsc::{Receiver, Sender, channel};
+use std::sync::mpsc::{Receiver, RecvTimeoutError, Sender, channel};
 use std::sync::{Arc, Mutex, Once};
 use std::time::{Duration, Instant};
 
@@ -423,13 +423,14 @@ fn a_supervisor_that_waits_for_a_start_is_told_to_end() -> Result<(), Error> {
             scene.hears(&["-a"]);
             assert!(asked.wait(LONG).is_err());
             drop(go);
-            scene.stops(&[]);
         } else {
             drop(go);
             scene.hears(&["+b", "-b", "-a"]);
             assert!(asked.wait(LONG).is_err());
-            scene.stops(&[]);
         }
+        // (the closure is dropped, while the run goes on)
+        assert_eq!(is_here.recv_timeout(LONG), Err(RecvTimeoutError::Disconnected));
+        scene.stops(&[]);
     }
     Ok(())
 }

@@ -214,9 +214,10 @@ impl Worker {
     /// A process on another desk has no supervisor any more. It is killed if it has not begun.
     fn lose_child(&self, pid: Pid, is_hollow: bool) {
         self.tell_desk_of(pid, move |worker| {
-            worker.lose_parent(pid);
             if is_hollow || worker.arriving.contains_key(&pid) {
                 worker.signal_surely(pid, Reason::Kill);
+            } else {
+                worker.lose_parent(pid);
             }
         });
     }
