@@ -157,6 +157,8 @@ CALLS: dict[str, dict[str, dict[str, Domain]]] = {
         "supervise": {"p": PID, "spec": SPEC, "children": KIDS}, "children": {"p": PID}, "child": {"p": PID, "place": LONG},
         "start_child": {"p": PID, "child": KID}, "terminate_child": {"p": PID, "tag": LONG},
         "restart_child": {"p": PID, "tag": LONG}, "delete_child": {"p": PID, "tag": LONG}, "count_children": {"p": PID},
+        "child_to_start": {"p": PID}, "child_started": {"p": PID, "tag": LONG, "pid": PID},
+        "child_not_started": {"p": PID, "tag": LONG},
         "gave_up": {"p": PID},
         "step": {"desk": DESK, "budget": WORD, "most": SHORT}, "answer": {"p": PID, "does": NEXT},
         "answer_all": {"answers": ANSWERS}, "set_time": {"now": LONG}, "begin_again": {"desk": DESK},
