@@ -630,7 +630,7 @@ fn thousands_of_crashes_elsewhere_lose_nothing() -> Result<(), Error> {
     noted.dedup_by_key(|it| it.3);
     assert_eq!(noted.len(), count);
     let summary = runtime.stop()?;
-    assert!(summary.epochs > 20 && summary.panics > 500, "{summary:?}");
+    assert!(summary.epochs > 20 && summary.panics > 200, "{summary:?}");
     assert!(names.iter().all(|name| name.whereis().is_none()));
     assert_eq!(storm.values.load(SeqCst), 0);
     Ok(())
