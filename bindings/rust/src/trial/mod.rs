@@ -217,10 +217,11 @@ impl<S: 'static> Trial<S> {
     /// Leaves out schedules that differ from one that is run only by the order of moves that do not meet (sleep sets). So each
     /// outcome is found by fewer moves, and the numbers of runs are those that were made.
     ///
-    /// It is right if behaviours share nothing but what the runtime shares for them: messages, calls, names, groups, exits. Two
-    /// moves meet if they are of one desk; if one of them sends to a process of the other's desk, looks whether it lives, or puts
-    /// something there; if both put something into mailboxes or the inbox of the same desk; or if both touch names or groups. A scenario whose behaviours share
-    /// a lock or an atomic does without this. [`Trial::always`] looks between all moves: with it nothing is left out.
+    /// It is right if behaviours share nothing but what the runtime shares for them: messages, calls, names, groups, exits.
+    /// Two moves meet if they are of one desk; if one of them sends to a process of the other's desk, looks whether it lives, or
+    /// puts something there; if both put something into mailboxes or the inbox of the same desk; or if both touch names or
+    /// groups. A scenario whose behaviours share a lock or an atomic does without this. [`Trial::always`] looks between all
+    /// moves: with it nothing is left out.
     #[must_use]
     pub fn reduced(self) -> Trial<S> {
         self.with(|it| it.reduced = true)

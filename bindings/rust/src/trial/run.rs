@@ -19,7 +19,14 @@ pub(crate) struct Point<'a> {
     pub(crate) goes_on: Option<u8>,
 }
 
-impl Point<'_> {
+impl<'a> Point<'a> {
+    /// What may come next, behind a move of this desk.
+    fn of(ready: &'a [(Move, Option<Pace>)], last: Option<u8>) -> Point<'a> {
+        let is_of_last = |(it, _): &(Move, Option<Pace>)| matches!(it, Move::Desk(desk, _) if Some(*desk) == last);
+        let usual = ready.iter().position(is_of_last);
+        Point { ready, usual: usual.unwrap_or(0), goes_on: usual.and(last) }
+    }
+
     pub(crate) fn place_of(&self, it: Move) -> Option<usize> {
         self.ready.iter().position(|(ready, _)| *ready == it)
     }
@@ -106,6 +113,12 @@ pub(crate) struct Ended {
 }
 
 impl Ended {
+    fn note(&mut self, it: Move, step: Step, is_usual: bool) {
+        self.moves.push(it);
+        self.prints.push(step.print);
+        self.said = if is_usual { self.said } else { self.moves.len() };
+    }
+
     pub(crate) fn schedule(&self) -> Schedule {
         Schedule(self.moves[..self.said].to_vec())
     }
@@ -208,19 +221,13 @@ impl<S: 'static> Trial<S> {
                 ended.was_cut = true;
                 break;
             }
-            let goes_on =
-                last.filter(|&last| ready.iter().any(|(it, _)| matches!(it, Move::Desk(desk, _) if *desk == last)));
-            let usual = ready.iter().position(|(it, _)| matches!(it, Move::Desk(desk, _) if Some(*desk) == goes_on));
-            let point = Point { ready: &ready, usual: usual.unwrap_or(0), goes_on };
+            let point = Point::of(&ready, last);
             let Some(at) = chooser.choose(&point) else { return };
             let is_usual = at == point.usual;
-            let it = ready[at].0;
             let step = world.take(ready[at]);
-            chooser.took(it, step);
-            ended.moves.push(it);
-            ended.prints.push(step.print);
-            ended.said = if is_usual { ended.said } else { ended.moves.len() };
-            if let Move::Desk(desk, _) = it {
+            chooser.took(ready[at].0, step);
+            ended.note(ready[at].0, step, is_usual);
+            if let Move::Desk(desk, _) = ready[at].0 {
                 last = Some(desk);
             }
             if let Some(wrong) = self.wrong_now(world, state) {
