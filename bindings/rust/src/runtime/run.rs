@@ -401,7 +401,7 @@ impl Handle {
     /// halted, or since all processes have exited and somebody waits for that. A handler should not wait.
     pub fn wait(&self, limit: Duration) -> bool {
         if is_trial() {
-            no_wait("Handle::wait", "what the run does at rest");
+            no_wait("Handle::wait", "Trial::at_rest");
         }
         self.0.meeting.wait(Some(limit))
     }

@@ -150,10 +150,10 @@ impl<S: 'static> Trial<S> {
         self
     }
 
-    /// How many desks there are: 1 to 60. Without this 2.
+    /// How many desks there are: 1 to 60. Without this 2. With another number each run is wrong, as no node is opened.
     #[must_use]
     pub fn desks(self, desks: usize) -> Trial<S> {
-        self.with(|it| it.desks = desks.min(60))
+        self.with(|it| it.desks = desks)
     }
 
     /// How many processes each desk has at most at a time, less one of its own. Without this 32.

@@ -19,6 +19,9 @@ use std::sync::atomic::{AtomicU64, Ordering::SeqCst};
 use std::sync::{Arc, Mutex};
 use std::time::Duration;
 
+/// How many desks a trial has at most.
+const MOST_DESKS: usize = 60;
+
 /// A panic of a behaviour.
 #[derive(Clone, Debug, PartialEq, Eq, Hash)]
 pub struct Panic {
@@ -95,7 +98,8 @@ impl World {
         };
         let config =
             Config { slots: settings.slots.saturating_mul(2).min(65_536), lane: settings.lane, ..Config::default() };
-        let desks = open(settings.desks, config)?;
+        // (each desk has a bit beside those of what all share)
+        let desks = open(if settings.desks > MOST_DESKS { 0 } else { settings.desks }, config)?;
         let meeting = Meeting::new(desks.len(), None);
         let mut hub = Hub::new(desks.len(), usize::MAX, usize::MAX, meeting, Some(Box::new(reporter)));
         hub.trial = Some(AtomicU64::new(0));
