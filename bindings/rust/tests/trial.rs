@@ -131,6 +131,16 @@ fn time_and_kills_are_choices() {
     assert!(schedule.contains("k<0.1.1>"), "{schedule}");
 }
 
+#[test]
+fn the_reduction_has_the_same_outcomes() {
+    for trial in [patient().coarse(), patient().coarse().time_goes_on(1), patient().coarse().kills(1)] {
+        let (every, reduced) = (trial.every(), trial.clone().reduced().every());
+        assert!(every.is_whole() && reduced.is_whole() && reduced.runs() <= every.runs());
+        let texts = |found: &Found| found.outcomes().into_iter().map(|(text, _)| text.to_string()).collect::<Vec<_>>();
+        assert_eq!(texts(&every), texts(&reduced));
+    }
+}
+
 /// Sends many, or counts what comes.
 enum Many {
     To(Address<u32>),
