@@ -1,13 +1,14 @@
 #!/usr/bin/env python3
 """Compiles the library for C without proofs, for trying it out: in minutes, while `rt lib` proves all below it first.
 
-    .ci/unproved_archive.py ARCHIVE        writes the archive of pt_c
+    .ci/unproved_archive.py ARCHIVE              writes the archive of pt_c
+    .ci/unproved_archive.py --as-proved ARCHIVE  without any checks, and compiled as if it were proved: to count what it takes
 
 The toolchain builds a library only from proved sources, but `rt try` compiles a program without proofs. So this makes a
 program of pt_c's sources that calls each export in a branch that never runs, and has `rt try`'s compiler write it, with
 a `clang` before the toolchain's own that keeps the module. Then it makes the exports external, adds for each a function
-in C that has its name and C's calling convention, and compiles both. The checks that `rt try` adds stay: an overflow, an
-index out of bounds or a bad access stops the program. The archive has the symbol `pt_c_is_not_proved`.
+in C that has its name and C's calling convention, and compiles both. Without `--as-proved` the checks that `rt try` adds
+stay: an overflow, an index out of bounds or a bad access stops the program. The archive has the symbol `pt_c_is_not_proved`.
 
 It leans on the toolchain's inside: how a module names functions, and how it passes structs (two words as two words, more
 by a pointer). If another toolchain does that in another way, this says so and makes nothing.
@@ -24,6 +25,7 @@ from dataclasses import dataclass
 from pathlib import Path
 
 sys.dont_write_bytecode = True
+from as_proved import FLAGS, as_proved  # noqa: E402
 from unproved import Fault, clang, kit, module  # noqa: E402
 
 ROOT = Path(__file__).resolve().parent.parent
@@ -174,15 +176,18 @@ def shim(all_exports: list[Export]) -> str:
     return text
 
 
-def build(archive: Path, folder: Path) -> None:
+def build(archive: Path, folder: Path, is_as_proved: bool) -> None:
     """Compiles the module and the functions over it into the archive."""
     tools = kit()
     all_exports = exports()
     program(all_exports, folder)
-    (folder / "inner.ll").write_text(with_external(module(folder, PROGRAM, folder), all_exports))
+    text = module(folder, PROGRAM, folder)
+    text = as_proved(text, folder, tools) if is_as_proved else text
+    (folder / "inner.ll").write_text(with_external(text, all_exports))
     (folder / "outer.c").write_text(shim(all_exports))
     flags = ["-O2", "-fPIC", "-ffunction-sections", "-fdata-sections", "-c"]
-    clang(tools, ["-x", "ir", str(folder / "inner.ll"), *flags, "-o", str(folder / "inner.o")])
+    inner = [*FLAGS, "-c"] if is_as_proved else flags
+    clang(tools, ["-x", "ir", str(folder / "inner.ll"), *inner, "-o", str(folder / "inner.o")])
     ran = subprocess.run(["cc", "-std=c11", "-Wall", "-Wextra", "-Werror", *flags, str(folder / "outer.c"), "-o",
                           str(folder / "outer.o")], capture_output=True, text=True, check=False)
     if ran.returncode:
@@ -192,11 +197,13 @@ def build(archive: Path, folder: Path) -> None:
 
 
 def main(words: list[str]) -> None:
+    is_as_proved = words[:1] == ["--as-proved"]
+    words = words[is_as_proved:]
     if len(words) != 1 or words[0].startswith("-"):
-        raise Fault("wanted: .ci/unproved_archive.py ARCHIVE")
+        raise Fault("wanted: .ci/unproved_archive.py [--as-proved] ARCHIVE")
     folder = Path(tempfile.mkdtemp(prefix="unproved-"))
     try:
-        build(Path(words[0]).absolute(), folder)
+        build(Path(words[0]).absolute(), folder, is_as_proved)
     finally:
         shutil.rmtree(folder)
 

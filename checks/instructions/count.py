@@ -8,6 +8,11 @@ It builds bench/rattle/pt_bench_counts without proofs, as a proved program is co
 callgrind twice: each workload 1,024 times, and 2,048 times. A row is what a workload's function takes more in the second
 run, divided by 1,024. So it is the same whatever else the machine does.
 
+The rows of Rust's runtime are of checks/instructions/runtime, over a library that is compiled in the same way. It does one
+workload in a run, and the row is what all its threads take. On one desk that differs by less than a thousandth from run to
+run. Another rustc makes other code, so these rows are compared if the rustc is that of the table. Without cargo they are
+left out.
+
 A row that is more than 2 % above the table is a loss, and fails. One that is more than 2 % below it fails too, until the table
 is written anew: a later loss would not be seen otherwise. The last line is 'N passed, M failed', and the status is 0 if nothing
 failed.
@@ -15,6 +20,8 @@ failed.
 from __future__ import annotations
 
 import argparse
+import hashlib
+import os
 import re
 import shutil
 import subprocess
@@ -23,7 +30,13 @@ import tempfile
 from pathlib import Path
 
 ROOT = Path(__file__).resolve().parent.parent.parent
+sys.dont_write_bytecode = True
+sys.path.insert(0, str(ROOT / "tools"))
+import check  # noqa: E402
+
 BENCH = ROOT / "bench" / "rattle"
+KEPT = ROOT / "bin" / "counted"
+RUNTIME = ROOT / "checks" / "instructions" / "runtime"
 TABLE = ROOT / "docs" / "instructions.txt"
 PROGRAM = "pt_bench_counts"
 TIMES = 1_024
@@ -53,10 +66,17 @@ ROWS = {
     "kept::name": "a name that is registered, looked up and given up",
     "kept::timer": "a timer that fires and one that is cancelled, beside 1,000",
 }
+# The workloads of Rust's runtime, and what one of each is.
+RUNTIME_ROWS = {
+    "message": "Rust's runtime: a message between two processes",
+    "call": "Rust's runtime: a call between two processes, and its answer",
+    "spawn": "Rust's runtime: a spawn, a monitor, the exit and its DOWN",
+}
 HEAD = """\
 # The instructions that one of each takes, in a program that is not proved and is compiled as a proved one.
 # `checks/instructions/count.py --write` writes this file, and `./test instructions` compares it.
 """
+BY_RUSTC = "# The rows of Rust's runtime are by "
 LINE = re.compile(r"(\S.*?) +([\d,]+)$")
 NAMED = re.compile(r"(c?)fn=\((\d+)\)(?: (.*))?$")
 
@@ -65,18 +85,19 @@ class Fault(Exception):
     """What the command says before it stops."""
 
 
-def run(words: list[str]) -> None:
-    """Runs a command that has to succeed."""
-    ran = subprocess.run(words, cwd=ROOT, stdin=subprocess.DEVNULL, capture_output=True, text=True, check=False)
+def run(words: list[str], **variables: str) -> str:
+    """Runs a command that has to succeed, and returns what it printed."""
+    ran = subprocess.run(words, cwd=ROOT, env={**os.environ, **variables}, stdin=subprocess.DEVNULL, capture_output=True, text=True,
+                         check=False)
     if ran.returncode:
         raise Fault(f"failed: {' '.join(words)}\n{ran.stdout}{ran.stderr}")
+    return ran.stdout
 
 
 def lay_out(place: Path) -> None:
     """Lays out the repository's crates as links, with the program beside them. Programs that are built stay in bin/counted."""
-    kept = ROOT / "bin" / "counted"
-    kept.mkdir(parents=True, exist_ok=True)
-    (place / "bin").symlink_to(kept)
+    KEPT.mkdir(parents=True, exist_ok=True)
+    (place / "bin").symlink_to(KEPT)
     sources = place / "crates" / PROGRAM / "src"
     sources.mkdir(parents=True)
     for crate in (ROOT / "crates").iterdir():
@@ -94,7 +115,25 @@ def built() -> Path:
     with tempfile.TemporaryDirectory(prefix="counted-") as folder:
         lay_out(Path(folder))
         run([str(ROOT / ".ci" / "build"), "--in", folder, "--as-proved", PROGRAM])
-    return ROOT / "bin" / "counted" / PROGRAM
+    return KEPT / PROGRAM
+
+
+def built_runtime() -> Path:
+    """The program over Rust's runtime. The library below it is built anew if a source has changed."""
+    files = [check.kit() / "KIT-ID", *(ROOT / ".ci" / it for it in ("unproved_archive.py", "unproved.py", "as_proved.py"))]
+    files += [ROOT / "bindings" / "build.sh", *sorted((ROOT / "bindings" / "c").glob("*.[ch]"))]
+    made_of = check.checksum(check.crates(ROOT), "pt_c") + hashlib.sha256(b"".join(it.read_bytes() for it in files)).hexdigest()
+    library, note = KEPT / "library", KEPT / "library.made-of"
+    if not check.is_noted(note, made_of):
+        note.unlink(missing_ok=True)
+        KEPT.mkdir(parents=True, exist_ok=True)
+        archive = KEPT / "libpt_c.a"
+        run([str(ROOT / ".ci" / "unproved_archive.py"), "--as-proved", str(archive)])
+        run([str(ROOT / "bindings" / "build.sh"), str(library)], PT_C_ARCHIVE=str(archive))
+        note.write_text(made_of)
+    run(["cargo", "build", "-q", "--release", "--offline", "--manifest-path", str(RUNTIME / "Cargo.toml")],
+        PUNDEWO_LIB=f"{library}/lib", CARGO_TARGET_DIR=str(KEPT / "target"))
+    return KEPT / "target" / "release" / "runtime_counts"
 
 
 def inclusive(said: str) -> dict[str, int]:
@@ -114,12 +153,30 @@ def inclusive(said: str) -> dict[str, int]:
     return sums
 
 
-def counted(program: Path, times: int) -> dict[str, int]:
-    """What each function takes in a run of a program that does each workload so many times."""
+def profile(words: list[str]) -> str:
+    """What callgrind writes of a run."""
     with tempfile.TemporaryDirectory(prefix="counted-") as folder:
         out = Path(folder) / "out"
-        run(["valgrind", "--tool=callgrind", f"--callgrind-out-file={out}", str(program), str(times)])
-        return inclusive(out.read_text())
+        run(["valgrind", "--tool=callgrind", f"--callgrind-out-file={out}", *words])
+        return out.read_text()
+
+
+def counted(program: Path, times: int) -> dict[str, int]:
+    """What each function takes in a run of a program that does each workload so many times."""
+    return inclusive(profile([str(program), str(times)]))
+
+
+def whole(program: Path, workload: str, times: int) -> int:
+    """What a run of a program takes that does this workload so many times."""
+    found = re.search(r"^summary: (\d+)$", profile([str(program), workload, str(times)]), re.M)
+    if not found:
+        raise Fault(f"callgrind wrote no sum of {program.name} {workload}")
+    return int(found[1])
+
+
+def count_runs(program: Path, workloads: dict[str, str]) -> dict[str, int]:
+    """The instructions of one of each workload, of which a run does one, by its row."""
+    return {row: round((whole(program, name, 2 * TIMES) - whole(program, name, TIMES)) / TIMES) for name, row in workloads.items()}
 
 
 def count(program: Path, functions: dict[str, str]) -> dict[str, int]:
@@ -138,10 +195,17 @@ def read(table: Path) -> dict[str, int]:
     return {it[1]: int(it[2].replace(",", "")) for it in found if it}
 
 
-def write(table: Path, counts: dict[str, int]) -> None:
+def write(table: Path, counts: dict[str, int], rustc: str = "") -> None:
     """Writes a table."""
     width = max(map(len, counts))
-    table.write_text(HEAD + "".join(f"{row:{width}} {number:6,}\n" for row, number in counts.items()))
+    head = HEAD + (f"{BY_RUSTC}{rustc}\n" if rustc else "")
+    table.write_text(head + "".join(f"{row:{width}} {number:6,}\n" for row, number in counts.items()))
+
+
+def rustc_of(table: Path) -> str:
+    """The rustc by which the rows of Rust's runtime are in a table."""
+    lines = table.read_text().splitlines() if table.exists() else []
+    return next((it.removeprefix(BY_RUSTC) for it in lines if it.startswith(BY_RUSTC)), "")
 
 
 def fault(row: str, number: int, known: dict[str, int]) -> str | None:
@@ -171,11 +235,20 @@ def main(words: list[str]) -> int:
     if not shutil.which("valgrind"):
         print("instructions: skipped: no valgrind, which counts them (apt-get install valgrind)")
         return 0
+    known, rustc = read(TABLE), run(["rustc", "--version"]).strip() if shutil.which("cargo") else ""
+    if asked.write and not rustc:
+        raise Fault("no cargo, and the table has rows of Rust's runtime, too")
     counts = count(built(), {f"{PROGRAM}::{name}": row for name, row in ROWS.items()})
+    if asked.write or rustc == rustc_of(TABLE):
+        counts.update(count_runs(built_runtime(), RUNTIME_ROWS))
+    else:
+        print(f"instructions: no rows of Rust's runtime: the table has them by {rustc_of(TABLE)}; here is {rustc or 'no cargo'}")
+        known = {row: number for row, number in known.items() if row not in RUNTIME_ROWS.values()}
     if asked.write:
-        write(TABLE, counts)
+        write(TABLE, counts, rustc)
         run([str(ROOT / "tools" / "quotes.py"), "--write", str(TABLE.relative_to(ROOT))])
-    wrong = faults(counts, read(TABLE))
+        known = read(TABLE)
+    wrong = faults(counts, known)
     print("".join(f"WRONG: {it}\n" for it in wrong), end="")
     print(f"instructions: {len(counts) - len(wrong)} passed, {len(wrong)} failed")
     return 1 if wrong else 0

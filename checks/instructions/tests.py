@@ -20,6 +20,7 @@ import count  # noqa: E402
 # A program with two workloads. PLANTED is how often the second one goes through a loop besides.
 PROGRAM = """\
 #include <stdlib.h>
+#include <string.h>
 static volatile unsigned sum;
 __attribute__((noinline)) void add(long times) { while (times-- > 0) sum += 3; }
 __attribute__((noinline)) static void step(void) {
@@ -28,9 +29,9 @@ __attribute__((noinline)) static void step(void) {
 }
 __attribute__((noinline)) void walk(long times) { while (times-- > 0) step(); }
 int main(int argc, char **argv) {
-    long times = argc > 1 ? atol(argv[1]) : 0;
-    add(times);
-    walk(times);
+    long times = argc > 1 ? atol(argv[argc - 1]) : 0;
+    if (argc < 3 || !strcmp(argv[1], "add")) add(times);
+    if (argc < 3 || !strcmp(argv[1], "walk")) walk(times);
     return 0;
 }
 """
@@ -60,6 +61,9 @@ def planted_loops(folder: Path) -> None:
     plain = program(folder, 10)
     count.write(table, plain)
     known = count.read(table)
+    holds("a table without Rust's runtime names no rustc", count.rustc_of(table) == "")
+    count.write(table, plain, "rustc 1.2.3 (of today)")
+    holds("a table names the rustc of its rows", count.rustc_of(table) == "rustc 1.2.3 (of today)" and count.read(table) == plain)
     holds("a table that is written is read again", known == plain and len(known) == len(FUNCTIONS))
     holds("the same program counted again is as it was", program(folder, 10) == plain)
     slower = program(folder, 20)
@@ -68,6 +72,8 @@ def planted_loops(folder: Path) -> None:
     holds("a loop that is planted fails, and its workload alone", len(told) == 1 and told[0].startswith("a walk: "))
     both = [f"{it['a walk']:,}" for it in (slower, plain)]
     holds("both numbers are named", len(told) == 1 and all(number in told[0] for number in both) and "more" in told[0])
+    runs = count.count_runs(folder / "program_20", FUNCTIONS)
+    holds("a run of one workload takes what its function takes", all(abs(runs[it] - slower[it]) <= 1 for it in slower))
     told = count.faults(program(folder, 0), known)
     holds("a workload that takes less asks for the table", len(told) == 1 and "--write" in told[0] and "less" in told[0])
 
