@@ -5,12 +5,15 @@
 """
 from __future__ import annotations
 
+import contextlib
+import io
 import os
 import shutil
 import subprocess
 import sys
 import tempfile
 from pathlib import Path
+from unittest import mock
 
 sys.dont_write_bytecode = True
 HERE = Path(__file__).resolve().parent
@@ -98,8 +101,31 @@ def without_valgrind(folder: Path) -> None:
     holds("without valgrind it says so", ran.returncode == 0 and ran.stdout.startswith("instructions: skipped: no valgrind"))
 
 
+def by_another_rustc() -> None:
+    """Without cargo, or by another rustc, the rows of Rust's runtime are left out. They are compared by that of the table."""
+    known = count.read(count.TABLE)
+    rows = {row: known[row] for row in count.ROWS.values()}
+    runtime = {row: known[row] for row in count.RUNTIME_ROWS.values()}
+    here = count.rustc_of(count.TABLE)
+    for cargo, rustc, counted, status in (
+        (None, "", {}, 0), ("cargo", "rustc 0.0.1", {}, 0), ("cargo", here, runtime, 0),
+        ("cargo", here, {row: number * 2 for row, number in runtime.items()}, 1),
+    ):
+        with (
+            mock.patch.object(count.shutil, "which", lambda name: cargo if name == "cargo" else "/"),
+            mock.patch.multiple(count, run=lambda *_: rustc, built=Path, built_runtime=Path, count=lambda *_: dict(rows),
+                                count_runs=lambda *_: counted),
+            contextlib.redirect_stdout(io.StringIO()) as said,
+        ):
+            ended = count.main([])
+        wanted = f"instructions: {len(rows) + (0 if status else len(counted))} passed, {len(counted) if status else 0} failed"
+        holds(f"rows by '{rustc}': {said.getvalue()}", ended == status and said.getvalue().splitlines()[-1] == wanted)
+        holds(f"'{rustc}' is told", ("no rows of Rust's runtime" in said.getvalue()) == (not counted))
+
+
 def main() -> int:
     tables()
+    by_another_rustc()
     with tempfile.TemporaryDirectory(prefix="instructions-") as folder:
         without_valgrind(Path(folder))
         if shutil.which("valgrind"):
