@@ -1,10 +1,12 @@
 """The verdicts that the repository keeps: each in a line of verdicts.txt, beside a checksum of all that it was made from.
 
-That is the kit, the edit, the file that decides, and all that the changed function reaches by names (reach.py).
+That is the program logic, the edit, the file that decides, and all that the changed function reaches by names (reach.py). Kits
+of one logic share verdicts, though their tactics may differ: the tenth that each commit draws tries that.
 """
 from __future__ import annotations
 
 import hashlib
+import re
 from collections import Counter
 from dataclasses import dataclass
 from pathlib import Path
@@ -50,14 +52,16 @@ class Checksums:
     """The checksums of edits."""
 
     def __init__(self, root: Path, crates: dict[str, list[str]], kit: str, deciding_file: Path):
-        self.kit = kit
+        # (`rt version` prints `NAME logic SUM`)
+        logic = re.search(r" logic (\w+)$", kit)
+        self.logic = logic[1] if logic else kit
         self.deciding = deciding_file.read_bytes()
         self.reach = Reach(root, crates)
 
     def of_edit(self, edit: Edit, text: bytes) -> str:
         """A checksum of all that the verdict of an edit is made from, of which this is the file."""
         reached = self.reach.checksum(edit)
-        return hashlib.sha256(b"\0".join([self.kit.encode(), reached.encode(), text, self.deciding])).hexdigest()[:20]
+        return hashlib.sha256(b"\0".join([self.logic.encode(), reached.encode(), text, self.deciding])).hexdigest()[:20]
 
 
 def drawn(edits: list[Edit], commit: str) -> list[Edit]:

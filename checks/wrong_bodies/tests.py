@@ -340,8 +340,10 @@ class Reached(unittest.TestCase):
         ):
             self.assertNotEqual(self.checksum(), self.checksum(file, old, new), f"{file}: {new}")
 
-    def test_the_kit_and_the_edit_count(self) -> None:
+    def test_the_logic_and_the_edit_count(self) -> None:
         self.assertNotEqual(self.checksum(), self.checksum(kit="other"))
+        self.assertNotEqual(self.checksum(kit="kit-1 logic 0a"), self.checksum(kit="kit-1 logic 0b"))
+        self.assertEqual(self.checksum(kit="kit-1 logic 0a"), self.checksum(kit="kit-2 logic 0a"))
         self.assertNotEqual(self.checksum(), self.checksum(edit=b"other"))
 
     def test_what_is_not_reached_does_not_count(self) -> None:
