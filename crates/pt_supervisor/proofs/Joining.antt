@@ -1,5 +1,5 @@
 -- A supervisor links with a child that was started on another desk.
-use Rattle.std.proofs.Common.{◌≡◌, ◌⊎◌, inl, inr, ℕ, ◌==◌, Bool, true, false, cond, ◌||◌, ◌&&◌, not, List, [], ◌∷◌, slice_get, slice_set, get_or, Option, Some, None, Result, Ok, Err, is_some, refl, sym, ap, subst, ◌∙◌}
+use Rattle.std.proofs.Common.{◌≡◌, ◌⊎◌, inl, inr, ℕ, ◌==◌, Bool, true, false, cond, ◌||◌, ◌&&◌, not, List, slice_get, slice_set, get_or, Option, Some, None, Result, Ok, Err, is_some, refl, sym, ap, subst, ◌∙◌}
 use Rattle.std.specs.Prelude.{MatchBool, MatchOption, position}
 use Rattle.std.specs.Result.{IsErrAnd}
 use Rattle.std.proofs.lemmas.Bool.{eq-eqb}
@@ -35,7 +35,7 @@ use Rattle.pt_children.specs.declared.home.Home.{Home}
 use Rattle.pt_children.specs.declared.home.Home.TheVariants.{Here, Elsewhere, Awaited, Told, Arrived, Missed}
 use Rattle.pt_children.specs.Children.{IsWanted, PermanentAreWanted}
 use Rattle.pt_children.specs.Hearing.{Standing}
-use Rattle.pt_children.specs.Homes.{AllHere, is_abroad, is_coming, is_waiting, place_coming}
+use Rattle.pt_children.specs.Homes.{is_abroad, is_coming, is_waiting, place_coming}
 use Rattle.pt_children.specs.Trying.{is_accident, joined_child, missed_child, refused_child}
 use Rattle.pt_supervisor.specs.Joining.{JoinsChild, LinksTo, MeetsAs, MeetsIn, Misses, is_no_newcomer, joined_as}
 use Rattle.pt_supervisor.specs.Supervising.{HasNothingToDo, Supervises}
@@ -173,10 +173,6 @@ refused_keeps children place clock f c at k =
 and_left : (a b : Bool) → (a && b) ≡ true → a ≡ true
 and_left true b h = refl
 and_left false b h = absurd (cc)
-
-and_right : (a b : Bool) → (a && b) ≡ true → b ≡ true
-and_right true b h = h
-and_right false b h = absurd (cc)
 
 bare_pid : (pid : Option Pid) → not (is_some pid) ≡ true → pid ≡ None
 bare_pid None h = refl
@@ -348,18 +344,3 @@ settled_waits s h = settled_in (is_waiting s.children) s h
 -- where no child is being started on another desk
 pub waits_settled : (s : Standing) → Supervises (Wait Pick.Any) s → is_waiting s.children ≡ false → HasNothingToDo s
 waits_settled s h none = subst (λ (b : Bool). MatchBool b (Unit {0}) (HasNothingToDo s)) none h
-
-here_none : (children : List Child) (place : ℕ) → AllHere children → place_coming children ≡ Some place → ⊥
-here_none [] place here is = let bad : None ≡ Some place = is in absurd (cc)
-here_none (x ∷ xs) place here is =
-    let y = position-Some is_coming (x ∷ xs) place x is in
-    let c = get_or (x ∷ xs) place x in
-    let abroad : is_abroad c.home ≡ true = and_right (not (is_some c.pid)) (is_abroad c.home) y.1 in
-    let bad : false ≡ true = sym (ap is_abroad (here place c (slice_get-get_or (x ∷ xs) place x y.0))) ∙ abroad in absurd (cc)
-
-here_in : (o : Option ℕ) (children : List Child) → AllHere children → place_coming children ≡ o → is_some o ≡ false
-here_in None children here is = refl
-here_in (Some place) children here is = absurd (here_none children place here is)
-
-pub here_awaits_nobody : (children : List Child) → AllHere children → is_waiting children ≡ false
-here_awaits_nobody children here = here_in (place_coming children) children here refl

@@ -10,3 +10,4 @@ pub mod Joining
 pub mod Tending
 pub mod Bearing
 pub mod Counted
+pub mod Staying

@@ -4,3 +4,4 @@ pub mod Joining
 pub mod Supervising
 pub mod Keeping
 pub mod Changed
+pub mod Staying

@@ -19,6 +19,8 @@
 //!   (`SupervisorHandles`)
 //! - **Children on other desks.** While a child is started on another desk, a supervisor starts and ends no other. It links
 //!   with the process that the program has started, and takes no other one in. (`GoesForward`, `JoinsChild`)
+//! - **Children of its own desk.** A supervisor that spawns all its children waits for no child on another desk, after any
+//!   item and any call. (`children_stay_here`, `HereAwaitsNobody`)
 //! - **Children are counted.** A supervisor counts each child that it spawns. (`CountsBirths`)
 //! - **Permanent children.** A supervisor always wants its permanent children alive, as long as no call ends one or asks for
 //!   the next start of one. (`permanent_children_live`)
@@ -41,7 +43,7 @@ mod laws;
 mod supervised;
 mod supervisor;
 
-pub use laws::{changed_supervisors_tend, permanent_children_live};
+pub use laws::{changed_supervisors_tend, children_stay_here, permanent_children_live};
 pub use pt_children::{
     Asked, Child, ChildCounts, ChildFault, ChildSeen, ChildState, GaveUp, Home, Limit, Restart,
     Shutdown, Stage, Strategy, Trial,

@@ -1,6 +1,7 @@
 -- `permanent_children_live`: its clauses `stays`, `live` and `here`.
 use Rattle.std.proofs.lemmas.Option.{slice_get_within}
-use Rattle.pt_supervisor.proofs.Joining.{here_awaits_nobody, waits_settled}
+use Rattle.pt_supervisor.proofs.Joining.{waits_settled}
+use Rattle.pt_supervisor.proofs.Staying.{here_awaits_nobody}
 use Rattle.pt_children.proofs.Wanting.{heard_keeps, lives_when_wanted}
 use Rattle.pt_supervisor.proofs.laws.permanent_children_live.Goals as goal
 
