@@ -213,16 +213,18 @@ impl Behaviour for Tells {
     }
 }
 
-fn family(supervisor: fn() -> Supervisor, told: Vec<(usize, bool)>) -> Trial<Family> {
+/// Some of the children may be on other desks than their supervisor.
+fn family(supervisor: fn() -> Supervisor, desks: [Option<u8>; 3], told: Vec<(usize, bool)>) -> Trial<Family> {
+    let on = |child: Child<bool>, desk: Option<u8>| if let Some(desk) = desk { child.on(desk) } else { child };
     let scenario = move |world: &mut World| {
         let made: [Arc<AtomicU32>; 3] = Default::default();
         let names = ["permanent", "transient", "temporary"].map(Name::new);
         let [one, two, three] = made.clone();
         let all = supervisor()
             .limit(9, Duration::from_secs(1))
-            .child(Child::permanent(move || Part::new(&one)).named(&names[0]))
-            .child(Child::transient(move || Part::new(&two)).named(&names[1]))
-            .child(Child::temporary(move || Part::new(&three)).named(&names[2]));
+            .child(on(Child::permanent(move || Part::new(&one)).named(&names[0]), desks[0]))
+            .child(on(Child::transient(move || Part::new(&two)).named(&names[1]), desks[1]))
+            .child(on(Child::temporary(move || Part::new(&three)).named(&names[2]), desks[2]));
         world.spawn_on(0, all);
         let tells = told.iter().rev().map(|&(child, crashes)| (names[child].clone(), crashes)).collect();
         world.spawn_on(1, Tells(tells));
@@ -242,16 +244,28 @@ fn family(supervisor: fn() -> Supervisor, told: Vec<(usize, bool)>) -> Trial<Fam
     })
 }
 
-#[test]
-fn each_child_is_started_again_as_its_strategy_says() {
+/// Each child is started again as its strategy says, on these desks.
+fn starts_again(desks: [Option<u8>; 3]) {
     for (supervisor, told, expected) in [
         (Supervisor::one_for_one as fn() -> Supervisor, vec![(0, true), (1, true), (2, true)], "2+ 2+ 1-"),
         (Supervisor::one_for_one, vec![(0, false), (1, false), (2, false)], "2+ 1- 1-"),
         (Supervisor::one_for_all, vec![(1, true)], "2+ 2+ 1-"),
         (Supervisor::rest_for_one, vec![(1, true)], "1+ 2+ 1-"),
     ] {
-        tried(&family(supervisor, told)).iter().for_each(|found| _ = found.expect([expected]));
+        let trial = family(supervisor, desks, told).desks(3);
+        tried(&trial).iter().for_each(|found| _ = found.expect([expected]));
     }
+}
+
+#[test]
+fn each_child_is_started_again_as_its_strategy_says() {
+    starts_again([None; 3]);
+}
+
+#[test]
+fn children_on_other_desks_are_started_again_as_well() {
+    starts_again([Some(1), None, Some(2)]);
+    starts_again([Some(2), Some(1), None]);
 }
 
 /// Monitors a process, and another one whose monitor it takes back, and notes what it hears.

@@ -264,7 +264,9 @@ impl Worker {
     /// The children begin whose supervisors have linked with them. It returns whether any did.
     pub(super) fn begin_linked(&mut self) -> bool {
         let is_linked = |(pid, sent): &(&Pid, &Sent)| self.has_link(**pid, sent.supervisor);
-        let linked: Vec<Pid> = self.arriving.iter().filter(is_linked).map(|(&pid, _)| pid).collect();
+        let mut linked: Vec<Pid> = self.arriving.iter().filter(is_linked).map(|(&pid, _)| pid).collect();
+        // (in one order, so that a run can be made again)
+        linked.sort_unstable();
         for &pid in &linked {
             let (Some(mut sent), Some(place)) = (self.arriving.remove(&pid), self.seat_of(pid)) else { continue };
             sent.child.iter_mut().for_each(Listed::begins);

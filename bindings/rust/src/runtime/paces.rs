@@ -128,12 +128,13 @@ impl Paces {
         }
     }
 
-    /// Whether the crew may have something to do, or a supervisor was asked.
+    /// Whether the crew may have something to do, a supervisor was asked, or a child waits for its link.
     fn has_to_deal(&mut self, now: u64) -> bool {
         let worker = &mut self.worker;
         let is_idle = worker.desk.as_ref().is_none_or(|desk| worker.crew.is_idle(desk).expect("the crew of this desk"));
         let is_due = worker.crew.next_time().is_some_and(|at| at <= now);
-        !is_idle || is_due || self.did && !(worker.supervisions.is_empty() && worker.left.is_empty())
+        let has_family = !(worker.supervisions.is_empty() && worker.left.is_empty() && worker.arriving.is_empty());
+        !is_idle || is_due || self.did && has_family
     }
 
     /// The paces that the thread may take now, wherever it is. Of what it passes over nothing is there.
@@ -239,6 +240,7 @@ impl Paces {
         self.may = bit(Pace::Job);
         if self.jobs.is_empty() {
             self.worker.answer();
+            self.worker.begin_linked();
             self.worker.serve_all();
             (self.may, self.did) = (bit(Pace::Task), false);
             self.rounds += 1;
