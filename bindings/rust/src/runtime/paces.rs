@@ -47,8 +47,13 @@ pub(crate) fn set_trial(on: bool) -> bool {
 #[inline]
 pub(crate) fn touch(what: u64) {
     if TRIALS.load(Relaxed) {
-        TOUCHED.set(TOUCHED.get() | what);
+        note_touched(what);
     }
+}
+
+#[cold]
+fn note_touched(what: u64) {
+    TOUCHED.set(TOUCHED.get() | what);
 }
 
 /// What a thread does next, in the order in which it does it.

@@ -227,12 +227,18 @@ impl<B: Behaviour> Actor for Process<B> {
                 }
             }
         };
-        worker.record.handles();
         let Process { me, calls, aside, gone, parent, .. } = self;
         let mut cx = Context { worker, me, calls, aside, told, gone, parent: *parent };
         let next = match event {
-            Some(event) => self.behaviour.handle(&mut cx, event),
-            None => self.behaviour.started(&mut cx),
+            // (each counts by itself: before the two part, the event would be copied once more)
+            Some(event) => {
+                cx.worker.record.handles();
+                self.behaviour.handle(&mut cx, event)
+            }
+            None => {
+                cx.worker.record.handles();
+                self.behaviour.started(&mut cx)
+            }
         };
         self.wanted = next.wanted();
         self.next = next.for_crew(&self.me.hub, &self.gone);

@@ -107,6 +107,7 @@ impl Worker {
     }
 
     /// Does the earliest of what was to be done by this time, if there is some.
+    #[inline]
     pub(super) fn go_off_one(&mut self, now: u64) -> bool {
         match self.alarms.pop_due(now) {
             Some(Alarm::Over(pid, number)) => self.tell_process(pid, OVER, number),

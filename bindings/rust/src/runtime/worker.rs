@@ -197,6 +197,7 @@ impl Worker {
     }
 
     /// Serves the supervisors, and returns whether there is one.
+    #[inline]
     pub(super) fn serve_all(&mut self) -> bool {
         let some = !(self.supervisions.is_empty() && self.left.is_empty());
         if some {
@@ -262,6 +263,7 @@ impl Worker {
     }
 
     /// Has the crew say who has something to do, after a turn.
+    #[inline]
     pub(super) fn hand_out(&mut self, most: usize, mut turned: Turned) -> Turned {
         let desk = self.desk.as_mut().expect("a desk, outside of a meeting");
         let (resumed, mut left) = (std::mem::take(&mut self.resumed), Vec::new());
@@ -273,17 +275,23 @@ impl Worker {
         }
         let stepped = self.crew.step(desk, 0, most, &mut self.jobs).expect("the crew of this desk");
         if resumed {
-            // (a crew that begins again comes to its processes in another order: those that have exited are told first)
-            let order: HashMap<Pid, usize> = left.into_iter().zip(0..).collect();
-            let first = |job: &Job| matches!(job.what, What::Exit(..)).then(|| order.get(&job.pid).copied());
-            self.jobs.sort_by_key(|job| first(job).flatten().unwrap_or(usize::MAX));
+            self.tell_first(left);
         }
         turned.posted += stepped.posted;
         turned.stopped = turned.stopped.or(stepped.stopped);
         turned
     }
 
+    /// Those that have exited are told first, in this order. (a crew that begins again comes to its processes in another)
+    #[cold]
+    fn tell_first(&mut self, left: Vec<Pid>) {
+        let order: HashMap<Pid, usize> = left.into_iter().zip(0..).collect();
+        let first = |job: &Job| matches!(job.what, What::Exit(..)).then(|| order.get(&job.pid).copied());
+        self.jobs.sort_by_key(|job| first(job).flatten().unwrap_or(usize::MAX));
+    }
+
     /// Tells a process of the crew what it is to be told. A child that was not made is told nothing.
+    #[inline(always)]
     pub(super) fn tell(&mut self, job: Job) {
         let Some(place) = (if job.tag < SUPERVISOR { usize::try_from(job.tag).ok() } else { self.supervised(&job) })
         else {
@@ -324,28 +332,32 @@ impl Worker {
         self.seats.iter().position(|seat| seat.as_ref().is_some_and(|seat| seat.pid == pid))
     }
 
-    /// Runs the handler of a process.
-    #[inline]
+    /// Runs the handler of a process. (one call of it is in each step, so there it is inlined)
+    #[inline(always)]
     pub(super) fn handle(&mut self, pid: Pid, place: usize, what: What) {
         let mut actor = self.seats[place].as_mut().and_then(|seat| seat.actor.take()).expect("a process of this desk");
         self.runs(Some(pid));
         let begun = self.record.begin(&what);
         match catch_unwind(AssertUnwindSafe(|| actor.told(self, what))) {
             Ok(next) => self.answers.push((pid, next)),
-            Err(what) => {
-                let text = text_of(&*what).into();
-                if self.crash(pid, place, text).is_err() {
-                    self.answers.push((pid, Next::Stop(PANIC)));
-                }
-                drop_quietly(what);
-                tell_dropped();
-            }
+            Err(what) => self.panicked(pid, place, what),
         }
         self.runs(None);
         self.record.end(begun, pid, || actor.slot().name());
         if let Some(seat) = &mut self.seats[place] {
             seat.actor = Some(actor);
         }
+    }
+
+    /// The handler of a process has panicked with this value.
+    #[cold]
+    fn panicked(&mut self, pid: Pid, place: usize, what: Box<dyn Any + Send>) {
+        let text = text_of(&*what).into();
+        if self.crash(pid, place, text).is_err() {
+            self.answers.push((pid, Next::Stop(PANIC)));
+        }
+        drop_quietly(what);
+        tell_dropped();
     }
 
     /// Notes whose handler runs.
@@ -386,6 +398,7 @@ impl Worker {
         self.seats.iter().flatten().any(|seat| seat.pid == pid)
     }
 
+    #[inline(always)]
     pub(super) fn answer(&mut self) {
         let answers = std::mem::take(&mut self.answers);
         self.crew.answer(&answers).expect("each of them was told something");
@@ -435,11 +448,17 @@ impl Worker {
     }
 
     /// Tells each process that was not told yet what those outside want.
+    #[inline]
     pub(super) fn tell_order(&mut self) {
         let order = self.hub.order();
-        if order <= self.told || order <= END {
-            return;
+        if order > self.told && order > END {
+            self.tell_all(order);
         }
+    }
+
+    /// Tells each process that was not told yet this order.
+    #[inline(never)]
+    fn tell_all(&mut self, order: u8) {
         let reason = if order == KILL { Reason::Kill } else { Reason::Shutdown };
         for place in 0..self.seats.len() {
             let ends = |seat: &&Seat| seat.told < order && (order == KILL || !self.is_supervised(seat));

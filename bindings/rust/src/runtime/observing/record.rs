@@ -36,10 +36,16 @@ impl Record {
     /// The process that was told something then has done with it.
     #[inline]
     pub(crate) fn end(&mut self, begun: Option<Instant>, pid: Pid, behaviour: impl FnOnce() -> &'static str) {
-        let Some(begun) = begun else { return };
+        if let Some(begun) = begun {
+            self.took_since(begun, pid, behaviour());
+        }
+    }
+
+    #[cold]
+    fn took_since(&mut self, begun: Instant, pid: Pid, behaviour: &'static str) {
         let time = begun.elapsed();
         if self.longest.is_none_or(|longest| longest.time < time) {
-            self.longest = Some(Longest { pid, behaviour: behaviour(), time });
+            self.longest = Some(Longest { pid, behaviour, time });
         }
     }
 
@@ -50,6 +56,7 @@ impl Record {
     }
 
     /// A process has taken an item by itself, beside the one that its handler is told.
+    #[inline]
     pub(crate) fn took(&mut self, item: &Item) {
         self.messages += u64::from(is_message(item));
     }
