@@ -108,8 +108,9 @@ fn a_process_is_seen_with_what_it_has() -> Result<(), Error> {
         assert!(picky.send(number) && selective.send(number));
     }
     let view = until(&runtime, "all has come", |view| {
-        let waits = |pid| view.process(pid).is_some_and(|it| it.mailbox.count + it.aside == 3);
-        waits(picky.pid()) && waits(selective.pid()) && view.process(picky.pid()).is_some_and(|it| it.links.count == 1)
+        let is_picky = |it: &ProcessView| it.mailbox.count == 3 && it.links.count == 1;
+        let is_selective = |it: &ProcessView| it.aside == 3 && it.watchers.count == 1;
+        view.process(picky.pid()).is_some_and(is_picky) && view.process(selective.pid()).is_some_and(is_selective)
     });
     let it = seen(&view, &picky);
     assert_eq!((&it.names[..], it.parent, it.traps_exits), (&["one".to_owned(), "other".to_owned()][..], None, false));
