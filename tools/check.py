@@ -33,6 +33,9 @@ ROOT = Path(__file__).resolve().parent.parent
 sys.path.insert(0, str(ROOT / ".ci"))
 from unproved import Fault, below, crates, kit, main_file  # noqa: E402
 
+# What the other tools take from here.
+__all__ = ["OTHER", "Fault", "below", "checksum", "compiler_words", "crates", "kit", "library", "side_by_side"]
+
 OWN = ROOT / "crates"
 OTHER = Path(os.environ.get("PT_LIBRARIES") or OWN).resolve()
 COSTS = ROOT / "docs" / "proof-cost.txt"

@@ -21,7 +21,7 @@ from ._behaviour import (
 from ._process import Family, Kid, Seat, bytes_of
 from ._sending import Sending
 from ._supervisor import (
-    BRUTAL_KILL, INFINITY, WHICH_CHILDREN, Child, DeleteChild, RestartChild, Shutdown, StartChild, Supervisor, TerminateChild,
+    INFINITY, WHICH_CHILDREN, Child, DeleteChild, RestartChild, Shutdown, StartChild, Supervisor, TerminateChild,
 )
 from .supervisors import ChildSpec
 from .values import ANY, KILL, NOPROC, SHUTDOWN, Pid, Reason, number

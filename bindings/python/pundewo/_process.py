@@ -227,8 +227,8 @@ class Gone:
     def unlink(self, pid: Pid) -> list[int]:
         """The link with this one is taken away. It returns the numbers of the messages that are nothing to the process now."""
         numbers = [number for number, of in self.told.items() if of == pid]
-        for number in numbers:
-            del self.told[number]
+        for told in numbers:
+            del self.told[told]
         self.signals = deque(None if of == pid else of for of in self.signals)
         return numbers
 

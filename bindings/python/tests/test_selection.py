@@ -7,7 +7,6 @@ import itertools
 import random
 import tempfile
 import threading
-import time
 import unittest
 from pathlib import Path
 from typing import Any, Callable, NamedTuple, Optional
@@ -15,7 +14,7 @@ from typing import Any, Callable, NamedTuple, Optional
 import pundewo as p
 from pundewo import runtime as r
 
-from behaviours import Counted, Doing, Echo, audit, in_asyncio, noted, quiet, run_and_stop, until
+from behaviours import Counted, Doing, Echo, audit, in_asyncio, quiet, run_and_stop, until
 
 
 class Ring(NamedTuple):
