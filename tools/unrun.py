@@ -8,8 +8,8 @@ in no program of bin/ (./test builds them) and no test, and no program that ./te
 of it that always refuses would pass then. A law, which is a function with an empty body or one that calls laws alone,
 needs no caller.
 
-With PT_PROVED=1 the programs are those that the last `rt ci` proved and Rattle's own compiler built. (LLVM leaves out
-functions that it copies into their callers.)
+LLVM leaves out functions that it copies into their callers, so `.ci/build` lists those that a program had before. With
+PT_PROVED=1 the programs are those that the last `rt ci` proved and Rattle's own compiler built.
 
 Each line of tools/unrun.txt is a function, or a crate, module or type with `::*` behind it, and why nothing here runs
 it. A line that is not needed is told too.
@@ -46,6 +46,13 @@ class Fault(Exception):
 
 def functions_in(program: Path) -> set[str]:
     """The functions of this repository that a program has, without their type arguments."""
+    listed = program.parent / ".sums" / f"{program.name}.functions"
+    names = listed.read_text().splitlines() if listed.exists() else symbols_of(program)
+    return {plain(name) for name in names if name.startswith("pt_")}
+
+
+def symbols_of(program: Path) -> list[str]:
+    """The functions that are in a program. The optimiser leaves out those that it copies into all their callers."""
     words = ["nm", str(program)]
     try:
         ran = subprocess.run(words, stdout=subprocess.PIPE, stderr=subprocess.DEVNULL, text=True, check=False)
@@ -53,8 +60,7 @@ def functions_in(program: Path) -> set[str]:
         raise Fault(f"'nm', which lists the functions of a program, does not run: {error}") from error
     if ran.returncode:
         raise Fault(f"{program} is no program that nm reads")
-    names = (line.split(" ", 2)[2] for line in ran.stdout.splitlines() if line.count(" ") >= 2)
-    return {plain(name) for name in names if name.startswith("pt_")}
+    return [line.split(" ", 2)[2] for line in ran.stdout.splitlines() if line.count(" ") >= 2]
 
 
 def plain(name: str) -> str:
