@@ -181,7 +181,11 @@ class Package(unittest.TestCase):
         self.assertRegex(p.__version__, r"^\d+\.\d+\.\d+$")
         self.assertTrue(p.BUILD.startswith(f"pundewo {p.__version__}, "))
         self.assertTrue(Path(p.__file__).with_name("py.typed").exists())
-        self.assertTrue(Path(p.__file__).with_name("observer.html").exists())
+        page = Path(p.__file__).with_name("observer.html")
+        self.assertFalse(page.is_symlink())
+        # (both packages have the page, and a checkout has both packages)
+        of_rust = Path(__file__).resolve().parents[2] / "rust/src/runtime/observing/observer.html"
+        self.assertEqual(page.read_bytes(), of_rust.read_bytes())
         for name in p.__all__:
             self.assertTrue(hasattr(p, name), name)
         self.assertEqual(p.__all__, sorted(p.__all__, key=lambda name: (not name.isupper(), name[0].islower(), name)))
