@@ -3,9 +3,9 @@
 
     checks/explore/moves.py PROGRAM [--seed S] [--scripts N]
 
-Each script has two to four processes on one to three desks, with spawns, links, monitors, asks and exit signals. The number of
-states, the number of schedules, and how many schedules end in which way have to be the same. Scripts of more than 30,000 states
-are passed over.
+Each script has two to four processes on one to three desks, with spawns, links, monitors, asks and exit signals. In one of
+three the desks have few slots, so a spawn may fail. The number of states, the number of schedules, and how many schedules end
+in which way have to be the same. Scripts of more than 30,000 states are passed over.
 """
 from __future__ import annotations
 
@@ -42,7 +42,14 @@ class Writer:
         desks = self.chance.randint(1, 3)
         processes = [{"name": name, "desk": self.chance.randrange(desks), "trap": self.chance.random() < .25,
                       "ops": self.operations(name, [*self.tops, "self"])} for name in self.tops]
-        return {"format": 2, "desks": desks, "processes": processes}
+        return {"format": 2, "desks": desks, **self.room(processes), "processes": processes}
+
+    def room(self, processes: list[dict[str, Any]]) -> dict[str, int]:
+        """In one script of three its desks have few slots, and these a last version that may be low."""
+        if self.chance.random() < 2 / 3:
+            return {}
+        fewest = max(sum(it["desk"] == other["desk"] for it in processes) for other in processes)
+        return {"slots": fewest + self.chance.randint(0, 1), "top": self.chance.choice([1, 2, 4294967295])}
 
     def operations(self, me: str, scope: list[str]) -> list[dict[str, Any]]:
         """The list of a process that may name those in scope."""
