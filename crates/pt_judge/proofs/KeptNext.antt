@@ -1,5 +1,8 @@
 -- The table and the signals on their way, after one event more.
-use Rattle.std.proofs.Common.{◌≡◌, Bool, true, false, cond, not, ◌||◌, Option, Some, None, [], ◌∷◌, ◌++◌, refl, ap, ap₂, sym, ◌∙◌, subst₂}
+use Rattle.std.proofs.Common.{◌≡◌, Bool, true, false, cond, not, ◌||◌, Option, Some, None, is_some, List, [], ◌∷◌, ◌++◌, refl, ap, ap₂, sym, ◌∙◌, subst₂}
+use Rattle.std.specs.List.{list_any}
+use Rattle.std.specs.Map.{lookup, keys_of}
+use Rattle.std.proofs.lemmas.Map.Made.{is_some-lookup}
 use Rattle.pt_signal.specs.declared.pid.Pid.{Pid}
 use Rattle.pt_signal.specs.declared.reason.Reason.{Reason}
 use Rattle.pt_signal.specs.declared.signal.Signal.{Signal}
@@ -53,6 +56,11 @@ left_sent p r (living s) = rw (same_pid_refl p) refl
 pub lists_next : (lives lives' : Start) (e : Event) → ListsBorn lives → IsObserved lives lives' e → ListsBorn lives'
 lists_next lives lives' e k o p =
     o.known p ∙ ap (λ b. b || is_birth p e) (k p) ∙ born_after p e (at_start lives p) ∙ ap (λ f. not (is_unborn f)) (sym (o.lives p))
+
+-- the keys of a map are among what was made, after the event too
+pub listed_next : {K : Type 0} (test : K → Bool) (made : Bool) (old new : List (K × Unit {0})) → is_some (lookup test new) ≡ made || is_some (lookup test old)
+    → list_any test (keys_of new) ≡ made || list_any test (keys_of old)
+listed_next test made old new h = sym (is_some-lookup test new) ∙ h ∙ ap (λ b. made || b) (is_some-lookup test old)
 
 unborn_first : (b : Bool) (o : Option Cause) → cond b o (Some BornTwice) ≡ None → b ≡ true
 unborn_first true o h = refl

@@ -15,7 +15,8 @@ use Rattle.pt_events.specs.History.{Start, Phase, unborn, at_start, phase_or_unb
 use Rattle.pt_judge.specs.Judging.{shown, ShownTo, IsShownToParent, IsObserved}
 use Rattle.pt_signal.proofs.Same.{same_pid_is, same_pid_refl}
 use Rattle.pt_judge.specs.Places.{first_place}
-use Rattle.indexmap.specs.IndexSet.{insert_key}
+use Rattle.indexmap.specs.IndexMap.{insert_entry}
+use Rattle.indexmap.proofs.MapLemmas.{absent_from_lookup, insert_entry-absent}
 use Rattle.std.proofs.lemmas.Map.Made.{is_some-lookup}
 use Rattle.pt_judge.proofs.FirstPlaces.{lookup_first, found, none_found, set_at_first}
 
@@ -282,7 +283,15 @@ module _ (q : Pid) (e : Event) (es : Start) (n : ℕ) (h : n ≡ first_place (at
           rw (f, none) refl
 
 -- one process more is listed
-pub one_listed : (keys : List Pid) (es : Start) (l : Pid × Phase) → keys ≡ keys_of es → is_some (lookup (same_pid l.0) es) ≡ false → insert_key same_pid keys l.0 ≡ keys_of (es ++ l ∷ [])
-one_listed keys es l k h =
-    let absent : list_any (same_pid l.0) keys ≡ false = ap (list_any (same_pid l.0)) k ∙ sym (is_some-lookup (same_pid l.0) es) ∙ h in
-    ap (λ b. cond b keys (keys ++ l.0 ∷ [])) absent ∙ ap (λ z. z ++ l.0 ∷ []) k ∙ sym (map-append (λ (e : Pid × Phase). e.0) es (l ∷ []))
+pub one_listed : (pids : List (Pid × Unit {0})) (es : Start) (l : Pid × Phase) → keys_of pids ≡ keys_of es → is_some (lookup (same_pid l.0) es) ≡ false
+    → keys_of (insert_entry same_pid pids l.0 tt) ≡ keys_of (es ++ l ∷ [])
+one_listed pids es l k h =
+    let absent : is_some (lookup (same_pid l.0) pids) ≡ false =
+    is_some-lookup (same_pid l.0) pids ∙ ap (list_any (same_pid l.0)) k ∙ sym (is_some-lookup (same_pid l.0) es) ∙ h
+    in
+    ap keys_of (insert_entry-absent same_pid l.0 tt pids (absent_from_lookup (same_pid l.0) pids (no_value (lookup (same_pid l.0) pids) absent)))
+    ∙ map-append (λ (e : Pid × Unit {0}). e.0) pids ((l.0, tt) ∷ []) ∙ ap (λ z. z ++ l.0 ∷ []) k ∙ sym (map-append (λ (e : Pid × Phase). e.0) es (l ∷ []))
+  where
+    no_value : (o : Option (Unit {0})) → is_some o ≡ false → o ≡ None
+    no_value None e = refl
+    no_value (Some u) e = absurd (cc)

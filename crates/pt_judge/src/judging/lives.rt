@@ -11,7 +11,7 @@ ghost use Rattle.pt_judge.specs.Places.{first_place};
 ghost use Rattle.pt_signal.specs.declared.pid.Pid.{Pid};
 
 use crate::judging::holdings::Holdings;
-use indexmap::IndexSet;
+use indexmap::IndexMap;
 use pt_events::Event;
 use pt_signal::{LinkId, Pid, Reason};
 use std::alloc::{AllocError, Global};
@@ -121,11 +121,12 @@ impl Life {
 #[derive(Drop)]
 pub(crate) struct Lives {
     /// The pids of the list, which tell the place of each.
-    pids: IndexSet<Pid>,
+    pids: IndexMap<Pid, ()>,
     list: Vec<Life>,
 }
 
 impl Model for Lives {
+    ghost use Rattle.std.specs.Map.{keys_of};
     ghost use Rattle.pt_events.specs.History.{Start};
     ghost use Rattle.pt_judge.specs.Judging.{ListsPids};
 
@@ -133,7 +134,7 @@ impl Model for Lives {
 
     ghost view = { λ l. l.list.items };
 
-    ghost invariant = { λ l. ListsPids l.pids.keys l.list.items };
+    ghost invariant = { λ l. ListsPids (keys_of l.pids.entries) l.list.items };
 }
 
 impl Lives {
@@ -142,7 +143,7 @@ impl Lives {
         ensures { result ≡ [] }
     {
         Lives {
-            pids: IndexSet::new(alloc),
+            pids: IndexMap::new(alloc),
             list: Vec::new(alloc),
         }
     }
@@ -151,7 +152,7 @@ impl Lives {
     pub(crate) fn born(&self, place: usize) -> Option<Pid>
         ensures { result ≡ slice_get (keys_of self.now) place }
     {
-        self.pids.get_index(place).copied()
+        self.pids.keys().as_slice().get(place).copied()
     }
 
     /// The place of the pid, or the length of the list.
@@ -194,7 +195,7 @@ impl Lives {
         ensures { IfOk result (λ lives. lives ≡ self ++ life ∷ []) }
     {
         let Lives { mut pids, mut list } = self;
-        let _ = pids.insert(life.pid)?;
+        let _ = pids.insert(life.pid, ())?;
         list.push(life)?;
         Ok(Lives { pids, list })
     }

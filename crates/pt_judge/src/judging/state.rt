@@ -2,7 +2,6 @@
 
 ghost use Rattle.std.specs.Prelude.{◌≡◌, ◌∷◌, ◌++◌, [], true, false, Some, None, cond, length, slice_get};
 ghost use Rattle.std.specs.Prelude.{is_some, ◌||◌, IfOk, OnOk};
-ghost use Rattle.indexmap.specs.IndexSet.{contains};
 ghost use Rattle.std.specs.Option.{option_map};
 ghost use Rattle.std.specs.Map.{lookup, keys_of};
 ghost use Rattle.std.specs.List.{find};
@@ -21,7 +20,7 @@ use crate::judging::flights::Flights;
 use crate::judging::holdings::Holdings;
 use crate::judging::links::{first_match, ids_with, target_of};
 use crate::judging::lives::{Life, Lives, holdings, is_known, is_living, lived, observe, reason};
-use indexmap::IndexSet;
+use indexmap::IndexMap;
 use pt_events::Event;
 use pt_signal::{Ids, Item, LinkId, Pick, Pid, Reason, Ref, Signal};
 use std::alloc::{AllocError, AllocFailed, Global};
@@ -34,20 +33,21 @@ use std::marker::Model;
 #[derive(Drop)]
 pub struct State {
     /// The ids of links, and the references, that the events made.
-    links: IndexSet<LinkId>,
-    refs: IndexSet<Ref>,
+    links: IndexMap<LinkId, ()>,
+    refs: IndexMap<Ref, ()>,
     lives: Lives,
     flights: Flights,
 }
 
 impl Model for State {
+    ghost use Rattle.std.specs.Map.{keys_of};
     ghost use Rattle.pt_judge.specs.Judging.{JudgeState, ListsBorn};
 
     ghost Value = { JudgeState };
 
     ghost view = { λ s. record {
-      links = s.links.keys;
-      refs = s.refs.keys;
+      links = keys_of s.links.entries;
+      refs = keys_of s.refs.entries;
       lives = s.lives;
       flights = s.flights;
     } };
@@ -56,16 +56,19 @@ impl Model for State {
 }
 
 /// Adds the id of the link that the event makes, if it makes one.
-fn note_link(links: &mut IndexSet<LinkId>, event: Event) -> Result<(), AllocFailed<LinkId>>
-    ensures { OnOk result ((id : LinkId) →
-        contains same_link links.new id ≡ makes_link id event || contains same_link links.old id) }
+fn note_link(
+    links: &mut IndexMap<LinkId, ()>,
+    event: Event,
+) -> Result<(), AllocFailed<(LinkId, ())>>
+    ensures { OnOk result ((id : LinkId) → is_some (lookup (same_link id) links.new.entries)
+        ≡ makes_link id event || is_some (lookup (same_link id) links.old.entries)) }
 {
     match event {
         Event::Born(_, _, Some(made)) => {
-            links.insert(made)?;
+            links.insert(made, ())?;
         }
         Event::Said(_, _, Signal::Link(made)) => {
-            links.insert(made)?;
+            links.insert(made, ())?;
         }
         _ => {}
     }
@@ -73,16 +76,16 @@ fn note_link(links: &mut IndexSet<LinkId>, event: Event) -> Result<(), AllocFail
 }
 
 /// Adds the reference that the event makes, if it makes one.
-fn note_ref(refs: &mut IndexSet<Ref>, event: Event) -> Result<(), AllocFailed<Ref>>
-    ensures { OnOk result ((monitor : Ref) →
-        contains same_ref refs.new monitor ≡ makes_ref monitor event || contains same_ref refs.old monitor) }
+fn note_ref(refs: &mut IndexMap<Ref, ()>, event: Event) -> Result<(), AllocFailed<(Ref, ())>>
+    ensures { OnOk result ((monitor : Ref) → is_some (lookup (same_ref monitor) refs.new.entries)
+        ≡ makes_ref monitor event || is_some (lookup (same_ref monitor) refs.old.entries)) }
 {
     match event {
         Event::Said(_, _, Signal::Monitor(made)) => {
-            refs.insert(made)?;
+            refs.insert(made, ())?;
         }
         Event::Said(_, _, Signal::AliveAsk(made)) => {
-            refs.insert(made)?;
+            refs.insert(made, ())?;
         }
         _ => {}
     }
@@ -95,8 +98,8 @@ impl State {
         ensures { result ≡ record { links = []; refs = []; lives = []; flights = [] } }
     {
         State {
-            links: IndexSet::new(alloc),
-            refs: IndexSet::new(alloc),
+            links: IndexMap::new(alloc),
+            refs: IndexMap::new(alloc),
             lives: Lives::new(alloc),
             flights: Flights::new(alloc),
         }
@@ -275,13 +278,13 @@ impl State {
     fn made_link(&self, id: LinkId) -> bool
         ensures { result ≡ (known_state self.now).links id }
     {
-        self.links.contains(&id)
+        self.links.contains_key(&id)
     }
 
     fn made_ref(&self, monitor: Ref) -> bool
         ensures { result ≡ (known_state self.now).refs monitor }
     {
-        self.refs.contains(&monitor)
+        self.refs.contains_key(&monitor)
     }
 
     fn is_waiting_first(&self, pid: Pid, pick: Pick, item: Item) -> bool
