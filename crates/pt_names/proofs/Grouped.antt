@@ -1,5 +1,5 @@
 -- The two lists of groups stay in agreement.
-use Rattle.std.proofs.Common.{◌≡◌, ℕ, zero, suc, nat_lt, ◌<◌, ◌-◌, cond, ◌||◌, Bool, true, false, Option, Some, None, is_some, IsSome, unwrap_or, List, [], ◌∷◌, ◌++◌, refl, sym, ap, subst, ◌∙◌, arith, Result, Ok, Err, OnOk, OnErr, IfOk, ◌+◌, inl}
+use Rattle.std.proofs.Common.{◌≡◌, ℕ, zero, suc, nat_lt, ◌<◌, ◌-◌, cond, ◌||◌, Bool, true, false, Option, Some, None, is_some, IsSome, unwrap_or, List, [], ◌∷◌, ◌++◌, refl, sym, ap, subst, ◌∙◌, arith, Result, Ok, Err, OnOk, OnErr, IfOk, ◌+◌, inl, if◌then◌else◌}
 use Rattle.std.specs.Map.{lookup, keys_of, set_value}
 use Rattle.std.specs.List.{list_any, IsDistinct}
 use Rattle.std.specs.Option.{option_map, option_map_or}
@@ -7,6 +7,7 @@ use Rattle.std.specs.declared.alloc.AllocError.{AllocError}
 use Rattle.std.proofs.lemmas.Bool.{eqb-true, eq-eqb, lt-ltb}
 use Rattle.std.proofs.lemmas.List.Folds.{list_any-append}
 use Rattle.std.proofs.lemmas.Map.Made.{is_some-lookup}
+use Rattle.std.proofs.lemmas.Map.Entries.{length-keys_of}
 use Rattle.std.proofs.lemmas.Map.Steps.{set_value_same}
 use Rattle.pt_signal.specs.declared.pid.Pid.{Pid}
 use Rattle.pt_signal.specs.declared.ids.Ref.{Ref}
@@ -144,6 +145,31 @@ module _ (old new : GroupsState) (kept : AreKept old) (p : Pid) (o : Option Watc
     monitor = ap (option_map (λ w. w.monitor)) (has p true (same_pid_refl p));
     processes = λ q e. has q false e;
   }
+
+-- the groups of one process, which are the keys of a map ----------------------------------------------
+
+-- whichever way the map has changed for one group
+pub keys_changed : (g : Group) (o : Option (Unit {0})) (old new : List (Group × Unit {0}))
+    → ((h : Group) → lookup (same_group h) new ≡ cond (same_group g h) o (lookup (same_group h) old))
+    → (h : Group) → list_any (same_group h) (keys_of new) ≡ cond (same_group g h) (is_some o) (list_any (same_group h) (keys_of old))
+keys_changed g o old new puts h =
+    sym (is_some-lookup (same_group h) new) ∙ ap is_some (puts h) ∙ go (same_group g h)
+    ∙ ap (cond (same_group g h) (is_some o)) (is_some-lookup (same_group h) old)
+  where
+    go : (b : Bool) → is_some (cond b o (lookup (same_group h) old)) ≡ cond b (is_some o) (is_some (lookup (same_group h) old))
+    go true = refl
+    go false = refl
+
+pub no_keys : (es : List (Group × Unit {0})) → length es ≡ 0 → keys_of es ≡ []
+no_keys [] h = refl
+no_keys (e ∷ es) h = absurd (omega (arith, h))
+
+pub one_key_less : (g : Group) (old new : List (Group × Unit {0})) (r : Option (Unit {0})) → r ≡ lookup (same_group g) old
+    → length new + (if is_some r then 1 else 0) ≡ length old → list_any (same_group g) (keys_of old) ≡ true → length (keys_of new) + 1 ≡ length (keys_of old)
+one_key_less g old new r found less there =
+    let is : is_some r ≡ true = ap is_some found ∙ is_some-lookup (same_group g) old ∙ there in
+    let one : length new + 1 ≡ length old = ap (λ b. length new + (if b then 1 else 0)) (sym is) ∙ less in
+    omega (arith, one, length-keys_of new, length-keys_of old)
 
 -- a process that joins -------------------------------------------------------------------
 

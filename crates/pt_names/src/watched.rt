@@ -6,7 +6,7 @@ ghost use Rattle.pt_names.specs.Groups.{PlacesMember, same_group, times_in};
 
 use crate::group::Group;
 use crate::places::Table;
-use indexmap::IndexSet;
+use indexmap::IndexMap;
 use pt_signal::{Pid, Ref};
 use std::alloc::{AllocError, Global};
 use std::marker::Model;
@@ -15,15 +15,16 @@ use std::marker::Model;
 #[derive(Drop)]
 pub(crate) struct Joined {
     monitor: Ref,
-    groups: IndexSet<Group>,
+    groups: IndexMap<Group, ()>,
 }
 
 impl Model for Joined {
+    ghost use Rattle.std.specs.Map.{keys_of};
     ghost use Rattle.pt_names.specs.Groups.{Watched};
 
     ghost Value = { Watched };
 
-    ghost view = { λ j. record { monitor = j.monitor; groups = j.groups.keys } };
+    ghost view = { λ j. record { monitor = j.monitor; groups = keys_of j.groups.entries } };
 }
 
 impl Joined {
@@ -31,8 +32,8 @@ impl Joined {
     pub(crate) fn of(alloc: Global, monitor: Ref, group: Group) -> Result<Joined, AllocError>
         ensures { IfOk result (λ joined. joined ≡ record { monitor = monitor; groups = group ∷ [] }) }
     {
-        let mut groups = IndexSet::new(alloc);
-        groups.insert(group)?;
+        let mut groups = IndexMap::new(alloc);
+        groups.insert(group, ())?;
         Ok(Joined { monitor, groups })
     }
 
@@ -47,7 +48,7 @@ impl Joined {
         ensures same { result.now ≡ self.now.groups }
         ensures distinct { IsDistinct same_group result.now }
     {
-        self.groups.as_slice()
+        self.groups.keys().as_slice()
     }
 
     /// Notes that the process is in the group so often, here and in the table. Both stay as they are if there is no memory,
@@ -75,7 +76,7 @@ impl Joined {
         self.groups.reserve(1)?;
         table.set(group, pid, times)?;
         // There is room for it.
-        let _ = self.groups.insert(group);
+        let _ = self.groups.insert(group, ());
         Ok(self.monitor)
     }
 
