@@ -13,8 +13,8 @@
 //! # What is proved
 //!
 //! - **Children are restarted.** Once the node is quiet and the crew idle, each child that a live supervisor wants is
-//!   alive, or unlinked itself. One case is left: the supervisor is ending a child that traps exits and lives on, and
-//!   has time left to. (`quiet_children_live`, `gathered_children_live`)
+//!   alive, or unlinked itself; unless the supervisor still ends one that traps exits, or waits for one on another
+//!   desk. (`quiet_children_live`, `gathered_children_live`)
 //! - **No orphans.** No child of a supervisor that stopped by itself is alive, unless that child sent it an exit
 //!   signal. (`stopped_children_ended`)
 //! - **Pauses.** What supervisors uphold, they uphold behind a pause. So each child that a supervisor wants alive is

@@ -12,8 +12,8 @@
 //!   the program, if it does nothing for a supervisor. So they hold of every program with a scheduler.
 //!   (`scheduler_children_live`, `SchedulerUpholds`)
 //! - **Whole nodes of schedulers.** Once no scheduler of a node has anything to do, and the node was gathered and
-//!   settled, each child that a supervisor wants alive lives, on each desk, or unlinked itself; unless the supervisor is
-//!   ending one that traps exits and lives on. (`SchedulersChildrenLive`)
+//!   settled, each child that a supervisor wants lives, or unlinked itself; unless the supervisor still ends one that
+//!   traps exits, or waits for one on another desk. (`SchedulersChildrenLive`)
 //! - **Pauses.** What the supervisors of schedulers uphold, they uphold behind a pause, if each scheduler goes on with the
 //!   node's history. (`SchedulerPausesHold`)
 #![tactic(auto)]
