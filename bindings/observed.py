@@ -21,6 +21,7 @@ import sys
 import tempfile
 import threading
 import time
+import urllib.parse
 import urllib.request
 from pathlib import Path
 from typing import Any, Optional
@@ -38,7 +39,7 @@ class Program:
     """A program under load, with the address of its page."""
 
     def __init__(self, command: list[str]):
-        self.process = subprocess.Popen(command, stdout=subprocess.PIPE, stderr=subprocess.STDOUT, stdin=subprocess.DEVNULL,
+        self.process = subprocess.Popen(command, stdout=subprocess.PIPE, stderr=subprocess.STDOUT, stdin=subprocess.PIPE,
                                         text=True)
         self.lines: list[str] = []
         self.found = threading.Event()
@@ -60,6 +61,11 @@ class Program:
 
     def runs(self) -> bool:
         return self.process.poll() is None
+
+    def ends(self) -> None:
+        """It has been looked at: a program that runs until the end of its input ends."""
+        assert self.process.stdin is not None
+        self.process.stdin.close()
 
 
 def state(program: Program) -> Optional[dict[str, Any]]:
@@ -107,6 +113,46 @@ class Watcher:
                 self.before[key] = desk[name]
         if len({process["pid"] for process in got["processes"]}) != len(got["processes"]):
             raise Fault("a process is there twice")
+
+
+def pages(program: Program) -> str:
+    """Goes through all pages of processes: none is there twice, and a page has a thousand at most."""
+    found: set[str] = set()
+    after, count = "", 0
+    while after is not None and program.runs():
+        try:
+            with urllib.request.urlopen(f"{program.url}state{after}", timeout=PATIENCE) as answer:
+                got = json.load(answer)
+        except OSError:
+            # (too many are served)
+            time.sleep(0.1)
+            continue
+        here = {process["pid"] for process in got["processes"]}
+        if len(here) > 1_000 or (count < 100 and found & here):
+            raise Fault(f"page {count} has {len(here)} processes, of which {len(found & here)} were on others")
+        found, count = found | here, count + 1
+        if got["next"] is None:
+            break
+        after = "?after=" + urllib.parse.quote(str(got["next"]))
+    return f"{len(found)} processes are on {count} pages"
+
+
+def refuses(program: Program) -> None:
+    """What is no GET of a page that is there gets the status that says so."""
+    token = program.url.split("/")[-2]
+    asked = ((f"POST /{token}/state HTTP/1.1", 405), (f"GET /{token}/nothing HTTP/1.1", 404), ("GET /x/state HTTP/1.1", 404),
+             (f"GET /{token[:-1]}x/state HTTP/1.1", 404), ("nonsense", 400), (f"GET /{token}/metrics HTTP/1.1", 200))
+    for line, status in asked:
+        got = b""
+        while (not got or b" 503 " in got) and program.runs():
+            try:
+                with socket.create_connection(("127.0.0.1", program.port), timeout=5) as client:
+                    client.sendall(f"{line}\r\n\r\n".encode())
+                    got = client.recv(64)
+            except OSError:
+                time.sleep(0.1)
+        if program.runs() and not got.startswith(f"HTTP/1.1 {status} ".encode()):
+            raise Fault(f"to {line} it answers {got!r}")
 
 
 def disturb(program: Program) -> None:
@@ -207,11 +253,15 @@ class Browser:
 
 
 def see(program: Program, browser: Browser) -> str:
-    """Opens the page, and looks at what it shows."""
+    """Looks at what the page shows, which the browser has opened."""
     try:
-        browser.tell("Emulation.setDeviceMetricsOverride", width=1300, height=900, deviceScaleFactor=1, mobile=False)
-        browser.tell("Page.navigate", url=program.url)
-        browser.until("document.readyState === 'complete' && !!window.seen && window.seen() !== null")
+        browser.until("document.readyState === 'complete'")
+        while browser.run("!window.seen") and program.runs():
+            # (too many were served)
+            time.sleep(0.1)
+            browser.tell("Page.navigate", url=program.url)
+            browser.until("document.readyState === 'complete'")
+        browser.until("!!window.seen && window.seen() !== null")
         browser.until("document.querySelectorAll('#processes tbody tr').length > 0 && window.seen().desks.length > 0")
         browser.until("document.querySelectorAll('#supervisors tbody tr').length > 1")
         browser.run("document.querySelector('#processes tbody button').click()")
@@ -232,7 +282,7 @@ def see(program: Program, browser: Browser) -> str:
         others = [url for url in browser.asked if not url.startswith(f"http://127.0.0.1:{program.port}/")]
         if browser.faults or others:
             raise Fault(f"the page: {browser.faults} {others}")
-        return f"the page shows {browser.run('window.seen().processes.length')} processes"
+        return f"the page shows {browser.run('window.seen().processes.length')} of them"
     finally:
         browser.close()
 
@@ -242,6 +292,15 @@ def main() -> int:
     # (before the program, which may be over soon)
     browser = Browser(chromium) if chromium else None
     program = Program(sys.argv[1:])
+    found = ""
+    try:
+        if browser:
+            browser.tell("Emulation.setDeviceMetricsOverride", width=1300, height=900, deviceScaleFactor=1, mobile=False)
+            browser.tell("Page.navigate", url=program.url)
+        refuses(program)
+        found = pages(program)
+    except Fault as what:
+        fault = str(what)
     watcher = Watcher(program)
     threads = [threading.Thread(target=watcher.run), threading.Thread(target=disturb, args=(program,), daemon=True)]
     for thread in threads:
@@ -249,7 +308,10 @@ def main() -> int:
     try:
         seen = see(program, browser) if browser else "no chromium: the page was not opened (apt-get install chromium)"
     except Fault as what:
-        seen, fault = "", str(what)
+        seen, fault = "", fault or str(what)
+    # (so all are there for a while)
+    time.sleep(3)
+    program.ends()
     status = program.process.wait(600)
     threads[0].join()
     program.reader.join(5)
@@ -257,7 +319,7 @@ def main() -> int:
         print("".join(program.lines[-20:]))
         print(f"observed: status {status}, {fault or watcher.fault or f'{watcher.count} looks'}")
         return 1
-    print(f"observed: {watcher.count} looks, the slowest in {watcher.slowest * 1000:.0f} ms; {seen}; the program lost nothing")
+    print(f"observed: {watcher.count} looks, the slowest in {watcher.slowest * 1000:.0f} ms; {found}; {seen}; the program lost nothing")
     return 0
 
 

@@ -56,6 +56,9 @@ done
 if ! $has_tokio; then
     echo "bindings: no tokio: the line server of tasks is not tried (apt-get install librust-tokio-dev)"
 fi
+if ! python3 -c 'import pytest' 2>/dev/null && ! /usr/bin/python3 -c 'import pytest' 2>/dev/null; then
+    echo "bindings: no pytest: scenarios are not run by it (apt-get install python3-pytest)"
+fi
 if ! command -v chromium >/dev/null; then
     echo "bindings: no chromium: the page of a run is not opened (apt-get install chromium)"
 fi
@@ -123,7 +126,7 @@ by_the_page() { # SED-SCRIPT
 mkdir -p "$work/page"
 ln -s "$here" "$work/page/bindings"
 by_the_page '' >"$work/printed"
-for example in about asking bad_codes crew crew_load crew_supervisors elsewhere layout losses no_memory refused refused_supervisors \
+for example in about asking bad_codes crew crew_load crew_supervisors elsewhere layout losses no_memory observe refused refused_supervisors \
     refused_tools resumed ring supervisor tools; do
     by_the_page "/^\.\//d; s/ping_pong/$example/g" >"$work/printed"
     [ -x "$work/page/$example" ] || { echo "bindings: the lines of docs/EMBEDDING.md do not build $example"; exit 1; }
@@ -147,6 +150,7 @@ build tools
 build ring
 build resumed
 build no_memory
+build observe
 build losses
 build refused
 build refused_supervisors
@@ -189,6 +193,18 @@ if command -v valgrind >/dev/null; then
 fi
 echo "c: examples passed"
 
+# A node of 20,000 processes that is watched while it runs, by slow and bad clients, too, and in a browser if there is one; the
+# same under valgrind, with fewer. They end once all has been looked at: PUNDEWO_WATCHED has how
+# many seconds they take at most.
+page=$here/rust/src/runtime/observing/observer.html
+watched=${PUNDEWO_WATCHED:-120}
+timeout 300 "$here/observed.py" "$work/observe" "$page" "$watched" 20000
+if command -v valgrind >/dev/null; then
+    # shellcheck disable=SC2086 # (words)
+    timeout 300 "$here/observed.py" $memory "$work/observe" "$page" "$watched" 300
+fi
+echo "c: the node that is watched passed"
+
 # Rust: tests, examples of the documentation, the pages themselves, and lints
 (
     cd "$here/rust"
@@ -196,6 +212,8 @@ echo "c: examples passed"
         cargo fmt --all --check
     fi
     cargo test -q --offline --workspace
+    # (the promises of the runtime, and the examples, under 100,000 schedules by chance)
+    PUNDEWO_TRIALS=1800 cargo test -q --release --offline --test trial_runtime --test trial_examples
     RUSTDOCFLAGS="-D warnings" cargo doc -q --offline --no-deps --workspace
     cargo run -q --offline --example supervisor | diff "$here/c/supervisor.out" -
     cargo run -q --offline --example crew_supervisors | diff "$here/c/crew_supervisors.out" -
@@ -215,6 +233,9 @@ echo "c: examples passed"
     done
 )
 echo "rust: tests, pages and examples passed"
+
+# Faults that are planted into the runtimes, each of which a trial finds
+"$here/planted.py"
 
 # The chat server under its load: nothing lost or out of order, each crash one DOWN, idle it rests, and its history is legal
 "$here/../.ci/build" pt_audit >"$work/printed"
@@ -258,7 +279,11 @@ echo "rust: the telephone exchange passed"
 # The same while its page is looked at, by slow and bad clients, too, and in a browser if there is one: nothing is lost
 timeout 300 "$here/observed.py" "$chat/exchange" "$work/observed.history" 8000
 "$here/../bin/pt_audit" "$work/observed.history"
-echo "rust: the exchange that is watched passed"
+timeout 300 "$here/observed.py" "$chat/many" "$work/many.history" 20000 "$watched"
+"$here/../bin/pt_audit" "$work/many.history"
+"$here/../.ci/bounded" 120 "$chat/pages" "$work/pages.history" 20000 2
+"$here/../bin/pt_audit" "$work/pages.history"
+echo "rust: the runs that are watched passed"
 
 # Python: tests beside the sources, and the package as pip installs it, without a network
 (
@@ -272,7 +297,7 @@ echo "rust: the exchange that is watched passed"
             mypy --strict --cache-dir=/dev/null --python-version "$level" pundewo build_wheel.py examples tests ../bad_clients.py \
                 ../observed.py
             MYPYPATH=..:../../.ci:../../tools mypy --strict --cache-dir=/dev/null --python-version "$level" ../abi.py \
-                ../abi_tests.py ../proved.py ../proved_tests.py ../dist.py ../packages.py
+                ../abi_tests.py ../proved.py ../proved_tests.py ../dist.py ../packages.py ../planted.py
         done
     fi
     if python3 -m pyflakes --version >/dev/null 2>&1; then
@@ -289,7 +314,8 @@ echo "python: tests passed"
 (cd "$here/python" && PYTHONPATH=. timeout 300 "$here/bad_clients.py" python3 examples/chat.py)
 echo "python: the chat server passed"
 (cd "$here/python" && PYTHONPATH=. timeout 300 "$here/observed.py" python3 -u examples/watched.py 20)
-echo "python: the run that is watched passed"
+(cd "$here/python" && PYTHONPATH=. timeout 300 "$here/observed.py" python3 -u examples/many.py 20000 "$watched")
+echo "python: the runs that are watched passed"
 python3 -m venv "$work/venv"
 "$work/venv/bin/pip" install -q --no-index --disable-pip-version-check "$here/python"
 (cd "$work" && env -u PUNDEWO_SO "$work/venv/bin/python" "$here/python/examples/ping_pong.py" >"$work/printed")

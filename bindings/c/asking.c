@@ -32,12 +32,14 @@ static void refused(void) {
     pt_item item = {.code = PT_ITEM_USER}, bad = {.code = 9}, bad_reason = {.code = PT_ITEM_DOWN, .reason = {6, 0}};
     bool has = true;
     uint64_t desks = 7;
+    uint8_t from = 7;
     memset(&call, 0, sizeof call);
     memset(&was, 0, sizeof was);
     assert(pt_ask(&none, q, q, 1, &call) == PT_EMPTY && pt_ask_until(&none, q, q, 1, 2, &call) == PT_EMPTY);
     assert(pt_hear(&none, &call, bad, &heard) == PT_EMPTY && pt_expire(&none, &call, 1, &has) == PT_EMPTY && has);
     assert(pt_reply(&none, q, request, 1) == PT_EMPTY && pt_letters_out(&none, &desks) == PT_EMPTY && desks == 7);
     assert(pt_has_letters(&none, &has) == PT_EMPTY && has);
+    assert(pt_look_from(&none, 0) == PT_EMPTY && pt_next_from(&none, &from) == PT_EMPTY && from == 7);
     assert(pt_open(&desk, 1, settings) == PT_OK && pt_spawn(&desk, &p) == PT_OK);
     assert(pt_ask(&desk, p, q, 1, &call) == PT_UNKNOWN && pt_ask(&desk, p, p, 1, &call) == PT_MYSELF);
     assert(pt_ask_until(&desk, (pt_pid){0, 5, 1}, p, 1, 2, &call) == PT_GONE && memcmp(&call, &was, sizeof call) == 0);
@@ -316,6 +318,7 @@ static void sleeping(void) {
     pt_way_in way_in = PT_NO_WAY_IN;
     pthread_t threads[2];
     uint64_t out;
+    uint8_t from;
     bool has;
     assert(pt_open(desks, 2, settings) == PT_OK && pt_spawn(&desks[0], &client) == PT_OK);
     assert(pt_spawn(&desks[1], &server) == PT_OK && pt_door_open(&door, &way_in, 2) == PT_OK);
@@ -327,6 +330,11 @@ static void sleeping(void) {
     turn(0);
     assert(pt_letters_out(&desks[0], &out) == PT_OK && out == 0);
     assert(pt_has_letters(&desks[1], &has) == PT_OK && has); /* it is in the lane */
+    assert(pt_next_from(&desks[1], &from) == PT_OK && from == 0);
+    assert(pt_look_from(&desks[1], 1) == PT_OK && pt_next_from(&desks[1], &from) == PT_OK && from == 0);
+    assert(pt_look_from(&desks[1], 2) == PT_OK && pt_look_from(&desks[1], 0) == PT_OK); /* there is no desk 2 */
+    from = 7;
+    assert(pt_next_from(&desks[0], &from) == PT_NOTHING && from == 7);
     assert(pthread_create(&threads[0], NULL, serve, &server) == 0 && pthread_create(&threads[1], NULL, outside, &client) == 0);
     asks(client, server, &way_in);
     assert(pthread_join(threads[0], NULL) == 0 && pthread_join(threads[1], NULL) == 0);

@@ -538,6 +538,13 @@ uint32_t pt_letters_out(pt_desk *desk, uint64_t *out);
  * else of the desk changes. PT_EMPTY. */
 uint32_t pt_has_letters(pt_desk *desk, bool *out);
 
+/* Lets the next turn look at the lane from desk `from` before the others: so a turn of one letter handles the oldest of
+ * that lane, if it shows one. Nothing changes if the node has no such desk. PT_EMPTY.
+ * pt_next_from says which lane the next letter comes from: the first that shows one, from where the next turn looks first.
+ * The call looks at the lanes, and nothing else of the desk changes. PT_EMPTY; PT_NOTHING: no lane shows a letter. */
+uint32_t pt_look_from(pt_desk *desk, uint8_t from);
+uint32_t pt_next_from(pt_desk *desk, uint8_t *out);
+
 /* ---- calls with answers, as Erlang's gen_server:call. Each that gets a desk may return PT_EMPTY, which comes first.
  * Each that gets an item returns PT_BAD_CODE next, if the code of the item or of its reason means nothing. No call
  * takes an item out of a mailbox. */

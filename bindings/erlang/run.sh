@@ -2,8 +2,10 @@
 # Tries the node of an Erlang cluster: the crate's tests and lints, the page's own session of an Erlang shell, and the histories
 # of the load, which pt_audit judges.
 #
-#   bindings/erlang/run.sh            everything
-#   bindings/erlang/run.sh --tools    only says which tools are missing
+#   bindings/erlang/run.sh                 everything
+#   bindings/erlang/run.sh --tools         only says which tools are missing
+#   bindings/erlang/run.sh --namespaces    the load alone, between two network namespaces: this program's nodes are in one,
+#                                          Erlang's in the other, and cuts take the network between them away. It needs root
 #
 # PUNDEWO_LIB names the folder of libpundewo.a (bindings/build.sh), PT_AUDIT a pt_audit that was built before, and
 # PUNDEWO_ERLANG_LOAD how many times the load is run. If Erlang is not there, the script says so, and tries nothing.
@@ -41,6 +43,36 @@ trap ends EXIT
 export CARGO_TARGET_DIR=${CARGO_TARGET_DIR:-$work/target}
 cd "$here"
 
+# Compares the counts of both sides with the histories, and judges these.
+compares() { # FOLDER
+    "$here/counts.py" "$1"
+    for history in "$1"/*.history; do
+        "$audit" "$history"
+    done
+}
+
+if [ "${1:-}" = --namespaces ]; then
+    ours=pundewo_$$a theirs=pundewo_$$b
+    trap 'ip netns del "$ours" 2>/dev/null || true; ip netns del "$theirs" 2>/dev/null || true; ends' EXIT
+    ip netns add "$ours"
+    ip netns add "$theirs"
+    ip link add wire netns "$ours" type veth peer name wire netns "$theirs"
+    host=1
+    for place in "$ours" "$theirs"; do
+        ip -n "$place" addr add "10.91.0.$host/24" dev wire
+        ip -n "$place" link set lo up
+        ip -n "$place" link set wire up
+        host=2
+    done
+    mkdir "$work/histories"
+    PUNDEWO_ERLANG_HISTORIES=$work/histories PUNDEWO_ERLANG_PLACES="10.91.0.1 10.91.0.2 ip netns exec $theirs" \
+        PUNDEWO_ERLANG_WIRE="ip -n $ours link set wire" \
+        ip netns exec "$ours" timeout 600 cargo test -q --offline --test load -- --nocapture
+    compares "$work/histories"
+    echo "erlang: the load between two network namespaces passed"
+    exit 0
+fi
+
 # The crate: its tests, its pages, and lints
 if cargo fmt --version >/dev/null 2>&1; then
     cargo fmt --check
@@ -48,10 +80,11 @@ fi
 mkdir "$work/histories"
 PUNDEWO_ERLANG_HISTORIES=$work/histories timeout 600 cargo test -q --offline -- --nocapture >"$work/printed" 2>&1 \
     || { grep -v '^ *[0-9]*: \|^ *at ' "$work/printed" | tail -n 60; exit 1; }
-grep -E '^[a-zA-Z0-9,. ]+: [0-9]+ in |with six cuts|linked pairs: |were on their way|waited at most|cut off$' "$work/printed" || true
-for history in "$work"/histories/*.history; do
-    "$audit" "$history"
-done
+grep -E '^[a-zA-Z0-9,. ]+: [0-9]+ in |with eight cuts|linked pairs: |were on their way|waited at most|cut off$' "$work/printed" || true
+compares "$work/histories"
+if command -v mypy >/dev/null; then
+    mypy --strict --python-version 3.9 --cache-dir "$work/mypy" "$here/counts.py" >"$work/printed" || { cat "$work/printed"; exit 1; }
+fi
 if cargo clippy --version >/dev/null 2>&1; then
     cargo clippy -q --offline --all-targets -- -D warnings
 fi

@@ -48,7 +48,7 @@ done
 # A chart, which the auditor has to print likewise, but for the names: only the script has these.
 mapfile -t words <"$root/checks/examples/lane.json.args"
 make chart "$root/checks/examples/lane.json" "${words[@]}" --print chart
-sed '/^<text class="name"[^>]*>[A-Za-z][^<]*<\/text>$/d' "$work/out/made-chart" >"$work/chart"
+sed '/^<text class="n"[^>]*>[A-Za-z][^<]*<\/text>$/d' "$work/out/made-chart" >"$work/chart"
 
 for printed in "$root"/checks/examples/*.json.stdout; do
     head -n 1 "$printed" | grep -q '^[0-9]*@' || continue
@@ -221,6 +221,10 @@ for history in "$work/stored"/*; do
 done
 [ "$rests" -gt 50 ] || wrong rests "$rests rests in all"
 
+# On a terminal an audit that takes long tells how far it is.
+ran[on_a_terminal]=1
+"$here/progress_on_a_terminal.py" "$root/bin/pt_audit" >"$work/terminal" || wrong on_a_terminal "$(cat "$work/terminal")"
+
 # What a history that is cut off leads to: it is legal, or its end is at fault.
 for case in "$work/cases"/prefix-* "$work/cases"/bytes-*; do
     name=$(basename "$case")
@@ -232,5 +236,12 @@ for case in "$work/cases"/prefix-* "$work/cases"/bytes-*; do
     prefix-*) grep -q "^line $((lines + 1)): no line tells of what is on its way: " "$work/err/$name" ;;
     *) grep -q -e "^line $lines: " -e "^line $((lines + 1)): no line tells" "$work/err/$name" ;;
     esac || wrong "$name" "$(cat "$work/err/$name")"
+done
+# Help and the version are on standard output.
+for word in --help --version; do
+    run pt_audit "words$word" /dev/null "$word"
+    grep -q pt_audit "$work/out/words$word" || wrong "words$word" "it prints $(cat "$work/out/words$word")"
+    is_same /dev/null "$work/err/words$word" "words$word" "standard error"
+    has_status "words$word" 0
 done
 verdict audit

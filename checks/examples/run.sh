@@ -50,4 +50,10 @@ done
 for file in stdin: args:.args stdout:.stdout; do
     cmp "$root/crates/pt_run/${file%:*}" "$here/threads.json${file#*:}" || wrong threads.json "its crate has another ${file%:*}"
 done
+
+# On a terminal a refusal is explained without a word.
+refused=$here/refused/explained_operation.json
+ran[on_a_terminal]=1
+"$here/explained_on_a_terminal.py" "$root/bin/pt_run" "$refused" >"$work/terminal"
+cmp "$refused.stderr" "$work/terminal" || wrong on_a_terminal "it says something else"
 verdict examples

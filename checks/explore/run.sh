@@ -5,7 +5,9 @@
 #
 # NAME.args has the words of a case, one a line; files are named from the top of the repository. NAME.stdout is what the
 # program must print, NAME.stderr what it must print on standard error (nothing if it is not there), and NAME.status its
-# status (0 if it is not there). The scripts of checks/examples have one case each, with the numbers of schedules and
+# status (0 if it is not there). NAME.expected has the outcomes that a case expects.
+#
+# The scripts of checks/examples have one case each, with the numbers of schedules and
 # outcomes that a model apart from this program counted; docs/EXPLORE.md has the race and how it is mended. In apart.json
 # three desks take three turns each and never meet, so there are 9! / (3! 3! 3!) schedules. Some cases are run on two and on
 # four threads too. The program is bin/pt_explore, which is built first if it is not up to date.
@@ -35,7 +37,7 @@ for case in "$here"/*.args; do
 done
 
 # On several threads the same is printed, where all schedules are run and where there are more than the limit.
-for name in race race_all race_budget race_chart race_limit race_one race_turns unlink threads; do
+for name in race race_all race_budget race_chart race_either race_limit race_one race_turns race_waiting unlink threads; do
     mapfile -t words <"$here/$name.args"
     for jobs in 2 4; do
         run pt_explore "$name-$jobs" /dev/null "${words[@]}" --jobs "$jobs"

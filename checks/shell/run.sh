@@ -32,4 +32,13 @@ for lines in "$here"/*.txt; do
     [ ! -f "$lines.status" ] || status=$(cat "$lines.status")
     has_status "$name" "$status"
 done
+
+# A line that is too long ends the shell, whatever comes after it.
+printf 'open\n%070000d\nclock 0\n' 1 >"$work/long"
+echo ok >"$work/wanted"
+echo 'a line has more than 65536 bytes' >"$work/said"
+run pt_shell long "$work/long"
+is_same "$work/wanted" "$work/out/long" long "what it prints"
+is_same "$work/said" "$work/err/long" long "standard error"
+has_status long 1
 verdict shell

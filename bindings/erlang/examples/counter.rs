@@ -5,18 +5,46 @@
 //! The file COOKIE has the cookie; without it that is `~/.erlang.cookie`. The history of the run goes into the file HISTORY,
 //! which `pt_audit` judges. The program ends at the end of its input.
 
-use pundewo::runtime::{Behaviour, Context, Event, HistoryFile, Next, Reply, Runtime};
-use pundewo_erlang::{Cookie, Delivery, Gateway, Incoming, Refusal, Term};
+use pundewo::runtime::{Answer, Behaviour, Call, Context, Event, HistoryFile, Next, Reply, Runtime};
+use pundewo_erlang::{Caller, Cookie, Delivery, Gateway, Incoming, Refusal, Remote, Term};
 use std::env;
 use std::error::Error;
 use std::io::{self, BufRead};
+use std::time::Duration;
 
-struct Counter(i64);
+struct Counter {
+    gateway: Gateway,
+    count: i64,
+    /// The calls of Erlang's processes, and who waits for what comes of each.
+    asked: Vec<(Call<Term>, Caller)>,
+}
 
 enum Request {
     Add(i64),
     Read(Reply<i64>),
+    /// Asks a process of Erlang what it makes of the count, and tells the caller.
+    Ask(Remote, Caller),
     Crash,
+}
+
+impl Counter {
+    fn ask(&mut self, cx: &mut Context<'_, Request>, server: &Remote, caller: Caller) {
+        match self.gateway.call(cx, server, Duration::from_secs(5), self.count) {
+            Ok(call) => self.asked.push((call, caller)),
+            Err(_) => _ = caller.reply(Term::atom("not_asked")),
+        }
+    }
+
+    fn answered(&mut self, answer: Answer) {
+        let Some(place) = self.asked.iter().position(|(call, _)| answer.is_of(call)) else { return };
+        let (call, caller) = self.asked.swap_remove(place);
+        let term = match answer.to(&call) {
+            Ok(Ok(term)) => term,
+            _ => Term::atom("no_answer"),
+        };
+        // (if the connection has broken, Erlang's caller knows)
+        let _ = caller.reply(term);
+    }
 }
 
 impl Behaviour for Counter {
@@ -24,9 +52,11 @@ impl Behaviour for Counter {
 
     fn handle(&mut self, cx: &mut Context<'_, Request>, event: Event<Request>) -> Next {
         match event {
-            Event::Message(Request::Add(more)) => self.0 += more,
-            Event::Message(Request::Read(reply)) => cx.reply(reply, self.0),
+            Event::Message(Request::Add(more)) => self.count += more,
+            Event::Message(Request::Read(reply)) => cx.reply(reply, self.count),
+            Event::Message(Request::Ask(server, caller)) => self.ask(cx, &server, caller),
             Event::Message(Request::Crash) => panic!("it was told to crash"),
+            Event::Answer(answer) => self.answered(answer),
             _ => {}
         }
         Next::Wait
@@ -35,10 +65,14 @@ impl Behaviour for Counter {
 
 /// What Erlang's terms are to the counter.
 fn convert(incoming: &mut Incoming) -> Result<Delivery<Request>, Refusal> {
-    let term = incoming.term();
+    let term = incoming.term().clone();
     if let Some([more]) = term.tagged("add") {
         let more = more.as_integer().ok_or(Refusal::new("not_an_integer"))?;
         return Ok(Delivery::tell(Request::Add(more)));
+    }
+    if let Some([Term::Pid(server)]) = term.tagged("ask") {
+        let caller = incoming.take_caller().ok_or(Refusal::new("not_a_call"))?;
+        return Ok(Delivery::tell(Request::Ask(server.into(), caller)));
     }
     match term.as_atom() {
         Some("read") => Ok(Delivery::ask(Request::Read, Term::from)),
@@ -57,7 +91,7 @@ fn main() -> Result<(), Box<dyn Error>> {
     }
     let runtime = builder.start()?;
     let gateway = Gateway::builder(&runtime).report(|what| eprintln!("{what}")).join(&node, &cookie)?;
-    let counter = runtime.spawn(Counter(0))?;
+    let counter = runtime.spawn(Counter { gateway: gateway.clone(), count: 0, asked: Vec::new() })?;
     gateway.serve("counter", &counter, convert);
     println!("{node} serves the counter");
     io::stdin().lock().lines().for_each(drop);

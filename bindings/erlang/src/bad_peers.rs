@@ -61,9 +61,11 @@ struct Raw {
 impl Raw {
     fn connect(to: &Gateway) -> Raw {
         static NUMBER: AtomicU32 = AtomicU32::new(0);
-        let alive = format!("raw{}", NUMBER.fetch_add(1, SeqCst));
-        let place =
-            ei::Place { alive: &alive, host: "127.0.0.1", address: Ipv4Addr::LOCALHOST, port: 1, creation: 777 };
+        Raw::named(&format!("raw{}", NUMBER.fetch_add(1, SeqCst)), to)
+    }
+
+    fn named(alive: &str, to: &Gateway) -> Raw {
+        let place = ei::Place { alive, host: "127.0.0.1", address: Ipv4Addr::LOCALHOST, port: 1, creation: 777 };
         let cookie = cluster().expect("a cluster").cookie();
         let node = ei::Node::new(&place, cookie.text()).expect("a node");
         let mut made = None;
@@ -397,6 +399,25 @@ fn a_flood_of_messages_waits_with_its_sender() {
     raw.says_name("bounded", &Term::tuple([Term::atom("$gen_call"), caller, Term::from(0)]));
     let refused = Term::tuple([Term::atom("error"), Term::tuple([Term::atom("refused"), Term::atom("full")])]);
     assert_eq!(raw.hears().1, Some(Term::tuple([raw.reference(1).into(), refused])));
+    ends(tried.run);
+}
+
+#[test]
+fn another_node_of_the_same_name_takes_the_place_of_the_first() {
+    let Some(tried) = Tried::new("named", |builder| builder) else { return };
+    let (puppet, _) = Puppets::exposed(&tried.run, &tried.gateway);
+    let mut first = Raw::named("twin", &tried.gateway);
+    let (gateway, of) = (tried.gateway.clone(), first.pid(1));
+    puppet.does(move |cx| gateway.monitor(cx, &of)).expect("a proxy");
+    assert!(matches!(first.hears(), (Control::Monitor { .. }, None)));
+    let mut second = Raw::named("twin", &tried.gateway);
+    assert_eq!(puppet.hears(), format!("down {NOCONNECTION}"));
+    assert!(first.is_cut());
+    assert_eq!(tried.last_broken(), Some(Broken::Replaced));
+    let to = second.pid(1);
+    until("end of the first", || tried.gateway.send(&to, 7).is_ok());
+    assert_eq!(second.hears().1, Some(Term::from(7)));
+    assert!(puppet.is_quiet());
     ends(tried.run);
 }
 

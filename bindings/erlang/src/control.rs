@@ -3,6 +3,7 @@
 use crate::format::{TermFault, read_term, write_term};
 use crate::term::{ErlangPid, ErlangRef, Term};
 use std::sync::Arc;
+use std::vec::IntoIter;
 
 const LINK: i64 = 1;
 const SEND: i64 = 2;
@@ -125,53 +126,15 @@ impl Control {
 
     fn of(term: Term) -> Option<Control> {
         let Term::Tuple(parts) = term else { return None };
-        let kind = parts.first()?.as_integer()?;
-        let mut parts = parts.into_iter().skip(1);
-        let mut next = || parts.next();
-        let pid = |term: Option<Term>| match term? {
-            Term::Pid(pid) => Some(pid),
-            _ => None,
-        };
-        let whom = |term: Option<Term>| Whom::of(term?);
-        let reference = |term: Option<Term>| match term? {
-            Term::Reference(reference) => Some(*reference),
-            _ => None,
-        };
-        Some(match kind {
-            LINK => Control::Link { from: pid(next())?, to: pid(next())? },
-            SEND | SEND_TT => {
-                next()?;
-                Control::Send { from: None, to: Whom::Pid(pid(next())?) }
-            }
-            SEND_SENDER | SEND_SENDER_TT => Control::Send { from: Some(pid(next())?), to: Whom::Pid(pid(next())?) },
-            REG_SEND | REG_SEND_TT => {
-                let from = pid(next())?;
-                next()?;
-                Control::Send { from: Some(from), to: whom(next())? }
-            }
-            ALIAS_SEND => Control::AliasSend { from: pid(next())?, alias: reference(next())? },
-            EXIT => Control::Exit { from: pid(next())?, to: pid(next())?, reason: next()? },
-            EXIT_TT => {
-                let (from, to) = (pid(next())?, pid(next())?);
-                next()?;
-                Control::Exit { from, to, reason: next()? }
-            }
-            EXIT2 => Control::ExitSignal { from: pid(next())?, to: pid(next())?, reason: next()? },
-            EXIT2_TT => {
-                let (from, to) = (pid(next())?, pid(next())?);
-                next()?;
-                Control::ExitSignal { from, to, reason: next()? }
-            }
-            UNLINK => Control::Unlink { id: None, from: pid(next())?, to: pid(next())? },
-            UNLINK_ID => Control::Unlink { id: Some(next()?), from: pid(next())?, to: pid(next())? },
-            UNLINK_ID_ACK => Control::UnlinkAck { id: next()?, from: pid(next())?, to: pid(next())? },
-            MONITOR_P => Control::Monitor { from: pid(next())?, to: whom(next())?, reference: reference(next())? },
-            DEMONITOR_P => Control::Demonitor { from: pid(next())?, to: whom(next())?, reference: reference(next())? },
-            MONITOR_P_EXIT => {
-                Control::Down { from: whom(next())?, to: pid(next())?, reference: reference(next())?, reason: next()? }
-            }
-            _ => Control::Other,
-        })
+        let mut parts = Parts(parts.into_iter());
+        let kind = parts.any()?.as_integer()?;
+        match kind {
+            SEND | SEND_TT | SEND_SENDER | SEND_SENDER_TT | REG_SEND | REG_SEND_TT | ALIAS_SEND => parts.message(kind),
+            LINK | UNLINK | UNLINK_ID | UNLINK_ID_ACK => parts.link(kind),
+            EXIT | EXIT_TT | EXIT2 | EXIT2_TT => parts.exit(kind),
+            MONITOR_P | DEMONITOR_P | MONITOR_P_EXIT => parts.monitor(kind),
+            _ => Some(Control::Other),
+        }
     }
 
     fn term(self) -> Term {
@@ -208,5 +171,83 @@ impl Control {
         let length = u32::try_from(bytes.len() - 4).unwrap_or(u32::MAX);
         bytes[..4].copy_from_slice(&length.to_be_bytes());
         bytes
+    }
+}
+
+/// What comes behind the kind of a control message.
+struct Parts(IntoIter<Term>);
+
+impl Parts {
+    fn any(&mut self) -> Option<Term> {
+        self.0.next()
+    }
+
+    fn pid(&mut self) -> Option<ErlangPid> {
+        match self.any()? {
+            Term::Pid(pid) => Some(pid),
+            _ => None,
+        }
+    }
+
+    fn whom(&mut self) -> Option<Whom> {
+        Whom::of(self.any()?)
+    }
+
+    fn reference(&mut self) -> Option<ErlangRef> {
+        match self.any()? {
+            Term::Reference(reference) => Some(*reference),
+            _ => None,
+        }
+    }
+
+    fn message(&mut self, kind: i64) -> Option<Control> {
+        Some(match kind {
+            ALIAS_SEND => Control::AliasSend { from: self.pid()?, alias: self.reference()? },
+            REG_SEND | REG_SEND_TT => {
+                let from = Some(self.pid()?);
+                // (a cookie was here once)
+                self.any()?;
+                Control::Send { from, to: self.whom()? }
+            }
+            SEND_SENDER | SEND_SENDER_TT => Control::Send { from: Some(self.pid()?), to: Whom::Pid(self.pid()?) },
+            _ => {
+                self.any()?;
+                Control::Send { from: None, to: Whom::Pid(self.pid()?) }
+            }
+        })
+    }
+
+    fn link(&mut self, kind: i64) -> Option<Control> {
+        let id = if matches!(kind, UNLINK_ID | UNLINK_ID_ACK) { Some(self.any()?) } else { None };
+        let (from, to) = (self.pid()?, self.pid()?);
+        Some(match (kind, id) {
+            (LINK, _) => Control::Link { from, to },
+            (UNLINK_ID_ACK, Some(id)) => Control::UnlinkAck { id, from, to },
+            (_, id) => Control::Unlink { id, from, to },
+        })
+    }
+
+    fn exit(&mut self, kind: i64) -> Option<Control> {
+        let (from, to) = (self.pid()?, self.pid()?);
+        if matches!(kind, EXIT_TT | EXIT2_TT) {
+            // (a token of a trace)
+            self.any()?;
+        }
+        let reason = self.any()?;
+        Some(match kind {
+            EXIT | EXIT_TT => Control::Exit { from, to, reason },
+            _ => Control::ExitSignal { from, to, reason },
+        })
+    }
+
+    fn monitor(&mut self, kind: i64) -> Option<Control> {
+        Some(match kind {
+            MONITOR_P => Control::Monitor { from: self.pid()?, to: self.whom()?, reference: self.reference()? },
+            DEMONITOR_P => Control::Demonitor { from: self.pid()?, to: self.whom()?, reference: self.reference()? },
+            _ => {
+                let (from, to, reference) = (self.whom()?, self.pid()?, self.reference()?);
+                Control::Down { from, to, reference, reason: self.any()? }
+            }
+        })
     }
 }

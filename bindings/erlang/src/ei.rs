@@ -9,15 +9,15 @@
 //! not in it: so Erlang sends such a node no monitor at all. The crate takes both, as it reads the connection itself. So it
 //! adds their flags to the name and to the challenge that `ei` writes.
 
+use crate::connection::locked;
 use std::cell::{Cell, RefCell};
 use std::ffi::{CStr, CString, c_char, c_int, c_uint, c_void};
 use std::fs::File;
 use std::io::{self, Read, Write};
-use std::net::{Ipv4Addr, SocketAddr, SocketAddrV4, TcpStream};
-use std::os::fd::AsRawFd;
+use std::net::{Ipv4Addr, Shutdown, SocketAddr, SocketAddrV4, TcpStream};
+use std::os::fd::{AsRawFd, FromRawFd};
 use std::ptr;
-use std::sync::Once;
-use std::sync::atomic::{AtomicI32, Ordering::SeqCst};
+use std::sync::{Mutex, Once};
 use std::time::{Duration, Instant};
 
 /// What the handshake says beside `ei`'s own flags: DFLAG_DIST_MONITOR, DFLAG_DIST_MONITOR_NAME and DFLAG_SEND_SENDER.
@@ -79,7 +79,6 @@ unsafe extern "C" {
     fn ei_accept_tmo(node: *mut CNode, listener: c_int, peer: *mut Peer, limit: c_uint) -> c_int;
     fn ei_connect_tmo(node: *mut CNode, name: *const c_char, limit: c_uint) -> c_int;
     fn ei_close_connection(connection: c_int) -> c_int;
-    fn close(descriptor: c_int) -> c_int;
 }
 
 /// A context of `ei`.
@@ -312,7 +311,7 @@ pub(crate) struct Node {
     node: Box<CNode>,
     listener: c_int,
     /// The connection to `epmd`, which forgets the node as it is closed.
-    epmd: AtomicI32,
+    epmd: Mutex<Option<TcpStream>>,
 }
 
 // SAFETY: `ei` only reads a node once it is set up, and its own tables have locks.
@@ -329,6 +328,38 @@ pub(crate) struct Place<'a> {
     pub(crate) creation: u32,
 }
 
+impl Place<'_> {
+    /// The address as `ei` takes it, in network order.
+    fn network_address(&self) -> u32 {
+        u32::from_ne_bytes(self.address.octets())
+    }
+}
+
+/// Has `ei` set a node up: its name, its address, its cookie, and the functions that it reads and writes by.
+fn set_up(place: &Place<'_>, cookie: &str) -> Result<Box<CNode>, Fault> {
+    let text = |text: &str| CString::new(text).map_err(|_| Fault::BadSetting);
+    let name = text(&format!("{}@{}", place.alive, place.host))?;
+    let (alive, host, cookie) = (text(place.alive)?, text(place.host)?, text(cookie)?);
+    let address = place.network_address();
+    let mut node = Box::new(CNode([0; 16_384]));
+    // SAFETY: all texts and the address live as long as the call, which copies them; the functions live for ever.
+    let made = unsafe {
+        ei_connect_xinit_ussi(
+            &mut *node,
+            host.as_ptr(),
+            alive.as_ptr(),
+            name.as_ptr(),
+            &address,
+            cookie.as_ptr(),
+            place.creation,
+            &CALLBACKS,
+            std::mem::size_of::<Callbacks>() as c_int,
+            ptr::null_mut(),
+        )
+    };
+    if made < 0 { Err(Fault::BadSetting) } else { Ok(node) }
+}
+
 impl Node {
     pub(crate) fn new(place: &Place<'_>, cookie: &str) -> Result<Node, Fault> {
         static BEGUN: Once = Once::new();
@@ -337,54 +368,34 @@ impl Node {
             ei_init();
             ei_set_tracelevel(0);
         });
-        let text = |text: &str| CString::new(text).map_err(|_| Fault::BadSetting);
-        let name = text(&format!("{}@{}", place.alive, place.host))?;
-        let (alive, host, cookie) = (text(place.alive)?, text(place.host)?, text(cookie)?);
-        let address = u32::from_ne_bytes(place.address.octets());
-        let mut node = Box::new(CNode([0; 16_384]));
-        let size = std::mem::size_of::<Callbacks>() as c_int;
-        // SAFETY: all texts and the address live as long as the call, which copies them; the functions live for ever.
-        let made = unsafe {
-            ei_connect_xinit_ussi(
-                &mut *node,
-                host.as_ptr(),
-                alive.as_ptr(),
-                name.as_ptr(),
-                &address,
-                cookie.as_ptr(),
-                place.creation,
-                &CALLBACKS,
-                size,
-                ptr::null_mut(),
-            )
-        };
-        if made < 0 {
-            return Err(Fault::BadSetting);
-        }
+        let mut node = set_up(place, cookie)?;
         PORT.set(place.port);
-        let mut port = c_int::from(place.port);
+        let (address, mut port) = (place.network_address(), c_int::from(place.port));
         // SAFETY: the node is set up.
         let listener = unsafe { ei_xlisten(&mut *node, &address, &mut port, 16) };
-        if listener < 0 {
-            return Err(Fault::BadSetting);
-        }
-        Ok(Node { node, listener, epmd: AtomicI32::new(-1) })
+        if listener < 0 { Err(Fault::BadSetting) } else { Ok(Node { node, listener, epmd: Mutex::default() }) }
     }
 
     /// Makes the node known to `epmd`.
+    ///
+    /// `ei`'s own descriptor would go to each program that this one starts, and `epmd` would know the node as long as that runs.
     pub(crate) fn publish(&mut self, port: u16, limit: Duration) -> Result<(), Fault> {
         // SAFETY: the node is set up.
         let epmd = unsafe { ei_publish_tmo(&mut *self.node, c_int::from(port), millis(limit)) };
-        self.epmd.store(epmd, SeqCst);
-        if epmd < 0 { Err(Fault::Epmd) } else { Ok(()) }
+        if epmd < 0 {
+            return Err(Fault::Epmd);
+        }
+        // SAFETY: `ei` has made it, and leaves it to its caller.
+        let inherited = unsafe { TcpStream::from_raw_fd(epmd) };
+        let kept = inherited.try_clone().map_err(|_| Fault::Epmd)?;
+        *locked(&self.epmd) = Some(kept);
+        Ok(())
     }
 
     /// Has `epmd` forget the node.
     pub(crate) fn unpublish(&self) {
-        let epmd = self.epmd.swap(-1, SeqCst);
-        if epmd >= 0 {
-            // SAFETY: it is the node's own, and closed once.
-            unsafe { close(epmd) };
+        if let Some(epmd) = locked(&self.epmd).take() {
+            let _ = epmd.shutdown(Shutdown::Both);
         }
     }
 

@@ -150,6 +150,23 @@ fn put_list(out: &mut Vec<u8>, parts: &[Term]) {
     }
 }
 
+/// The bytes of a binary, or of a bit string, whose last byte has so many bits.
+fn put_bytes(out: &mut Vec<u8>, bits: Option<u8>, bytes: &[u8]) {
+    out.push(if bits.is_none() { BINARY } else { BIT_BINARY });
+    put_length(out, bytes.len());
+    out.extend(bits);
+    out.extend_from_slice(bytes);
+}
+
+fn put_map(out: &mut Vec<u8>, pairs: &[(Term, Term)]) {
+    out.push(MAP);
+    put_length(out, pairs.len());
+    for (key, value) in pairs {
+        put(out, key);
+        put(out, value);
+    }
+}
+
 fn put(out: &mut Vec<u8>, term: &Term) {
     match term {
         Term::Integer(number) => put_integer(out, *number),
@@ -159,17 +176,8 @@ fn put(out: &mut Vec<u8>, term: &Term) {
             out.extend_from_slice(&number.to_be_bytes());
         }
         Term::Atom(text) => put_atom(out, text),
-        Term::Binary(bytes) => {
-            out.push(BINARY);
-            put_length(out, bytes.len());
-            out.extend_from_slice(bytes);
-        }
-        Term::Bits(bits, bytes) => {
-            out.push(BIT_BINARY);
-            put_length(out, bytes.len());
-            out.push(*bits);
-            out.extend_from_slice(bytes);
-        }
+        Term::Binary(bytes) => put_bytes(out, None, bytes),
+        Term::Bits(bits, bytes) => put_bytes(out, Some(*bits), bytes),
         Term::Tuple(parts) => put_tuple(out, parts),
         Term::List(parts) => {
             put_list(out, parts);
@@ -179,14 +187,7 @@ fn put(out: &mut Vec<u8>, term: &Term) {
             put_list(out, parts);
             put(out, rest);
         }
-        Term::Map(pairs) => {
-            out.push(MAP);
-            put_length(out, pairs.len());
-            for (key, value) in pairs {
-                put(out, key);
-                put(out, value);
-            }
-        }
+        Term::Map(pairs) => put_map(out, pairs),
         Term::Pid(pid) => put_pid(out, pid),
         Term::Reference(reference) => put_reference(out, reference),
         Term::Other(Opaque(bytes)) => out.extend_from_slice(bytes),
@@ -350,52 +351,58 @@ impl<'a> Reader<'a> {
         Ok(Term::Other(Opaque(before[..before.len() - self.bytes.len()].to_vec())))
     }
 
+    /// A length of one byte, or one of four.
+    fn size(&mut self, is_small: bool) -> Result<usize, TermFault> {
+        if is_small { self.byte().map(usize::from) } else { self.length() }
+    }
+
+    fn number(&mut self, tag: u8) -> Result<Term, TermFault> {
+        match tag {
+            SMALL_INTEGER => self.byte().map(|byte| Term::Integer(i64::from(byte))),
+            INTEGER => self.word().map(|word| Term::Integer(i64::from(word as i32))),
+            NEW_FLOAT => {
+                let (high, low) = (self.word()?, self.word()?);
+                Ok(Term::Float(f64::from_bits(u64::from(high) << 32 | u64::from(low))))
+            }
+            _ => {
+                let length = self.size(tag == SMALL_BIG)?;
+                self.big(length)
+            }
+        }
+    }
+
+    /// The bytes of a binary, or of a bit string.
+    fn bytes(&mut self, tag: u8) -> Result<Term, TermFault> {
+        let length = self.length()?;
+        if tag == BINARY {
+            return Ok(Term::Binary(self.take(length)?.to_vec()));
+        }
+        let bits = self.byte()?;
+        Ok(Term::Bits(bits, self.take(length)?.to_vec()))
+    }
+
     fn term(&mut self, depth: u32) -> Result<Term, TermFault> {
         let before = self.bytes;
         let depth = depth.checked_sub(1).ok_or(TermFault::TooLarge)?;
         self.parts = self.parts.checked_sub(1).ok_or(TermFault::TooLarge)?;
         let tag = self.byte()?;
-        Ok(match tag {
-            SMALL_INTEGER => Term::Integer(i64::from(self.byte()?)),
-            INTEGER => Term::Integer(i64::from(self.word()? as i32)),
-            NEW_FLOAT => {
-                let (high, low) = (self.word()?, self.word()?);
-                Term::Float(f64::from_bits(u64::from(high) << 32 | u64::from(low)))
+        match tag {
+            SMALL_INTEGER | INTEGER | NEW_FLOAT | SMALL_BIG | LARGE_BIG => self.number(tag),
+            ATOM | SMALL_ATOM | ATOM_UTF8 | SMALL_ATOM_UTF8 => self.atom_of(tag).map(Term::Atom),
+            NEWER_REFERENCE | NEW_REFERENCE => self.reference(tag == NEWER_REFERENCE).map(Term::from),
+            NEW_PID | PID => self.pid(tag == NEW_PID).map(Term::Pid),
+            SMALL_TUPLE | LARGE_TUPLE => {
+                let length = self.size(tag == SMALL_TUPLE)?;
+                self.terms(length, depth).map(Term::Tuple)
             }
-            ATOM | SMALL_ATOM | ATOM_UTF8 | SMALL_ATOM_UTF8 => Term::Atom(self.atom_of(tag)?),
-            NEWER_REFERENCE | NEW_REFERENCE => Term::Reference(Box::new(self.reference(tag == NEWER_REFERENCE)?)),
-            NEW_PID | PID => Term::Pid(self.pid(tag == NEW_PID)?),
-            SMALL_TUPLE => {
-                let length = usize::from(self.byte()?);
-                Term::Tuple(self.terms(length, depth)?)
-            }
-            LARGE_TUPLE => {
-                let length = self.length()?;
-                Term::Tuple(self.terms(length, depth)?)
-            }
-            NIL => Term::List(Vec::new()),
-            STRING => self.string()?,
-            LIST => self.list(depth)?,
-            BINARY => {
-                let length = self.length()?;
-                Term::Binary(self.take(length)?.to_vec())
-            }
-            BIT_BINARY => {
-                let (length, bits) = (self.length()?, self.byte()?);
-                Term::Bits(bits, self.take(length)?.to_vec())
-            }
-            SMALL_BIG => {
-                let length = usize::from(self.byte()?);
-                self.big(length)?
-            }
-            LARGE_BIG => {
-                let length = self.length()?;
-                self.big(length)?
-            }
-            MAP => self.map(depth)?,
-            PORT | NEW_PORT | V4_PORT | EXPORT | NEW_FUN => self.opaque(tag, before, depth)?,
-            other => return Err(TermFault::Unknown(other)),
-        })
+            NIL => Ok(Term::List(Vec::new())),
+            STRING => self.string(),
+            LIST => self.list(depth),
+            BINARY | BIT_BINARY => self.bytes(tag),
+            MAP => self.map(depth),
+            PORT | NEW_PORT | V4_PORT | EXPORT | NEW_FUN => self.opaque(tag, before, depth),
+            other => Err(TermFault::Unknown(other)),
+        }
     }
 }
 

@@ -52,6 +52,7 @@ pub(crate) struct Settings {
 pub struct Builder {
     run: Handle,
     settings: Settings,
+    port: u16,
     reporter: Option<Reporter>,
 }
 
@@ -66,6 +67,14 @@ impl Builder {
     #[must_use]
     pub fn listen(mut self, address: Ipv4Addr) -> Builder {
         self.settings.address = address;
+        self
+    }
+
+    /// The port where other nodes connect, as `inet_dist_listen_min` has it: for a wall or a tunnel that lets one port through.
+    /// Without this the system chooses one.
+    #[must_use]
+    pub fn port(mut self, port: u16) -> Builder {
+        self.port = port;
         self
     }
 
@@ -121,32 +130,12 @@ impl Builder {
     ///
     /// [`JoinFault`] says why not.
     pub fn join(self, node: &str, cookie: &Cookie) -> Result<Gateway, JoinFault> {
-        let (alive, host) = parts_of(node).ok_or(JoinFault::BadName)?;
-        let listener = TcpListener::bind((self.settings.address, 0)).map_err(JoinFault::Listen)?;
-        let port = listener.local_addr().map_err(JoinFault::Listen)?.port();
-        let creation = (RandomState::new().build_hasher().finish() as u32) | 0x100;
-        let place = ei::Place { alive, host, address: self.settings.address, port, creation };
+        let (listener, place) = self.place(node)?;
         let mut ei = ei::Node::new(&place, cookie.text()).map_err(JoinFault::of)?;
-        ei.publish(port, HANDSHAKE).map_err(JoinFault::of)?;
+        ei.publish(place.port, HANDSHAKE).map_err(JoinFault::of)?;
         let known = Arc::new(OnceLock::new());
-        let inner = Inner {
-            ushers: ushers(&self.run, &known)?,
-            run: self.run,
-            settings: self.settings,
-            reasons: Reasons::default(),
-            node: node.into(),
-            creation,
-            ei,
-            port,
-            names: Mutex::default(),
-            doors: Mutex::default(),
-            connections: Mutex::default(),
-            has_left: AtomicBool::new(false),
-            handshakes: AtomicUsize::new(0),
-            numbers: AtomicU64::new(1),
-            reporter: self.reporter,
-        };
-        let inner = Arc::new(inner);
+        let ushers = ushers(&self.run, &known)?;
+        let inner = Arc::new(self.inner(ei, ushers, node, &place));
         let _ = known.set(inner.clone());
         let listens = inner.clone();
         let started = thread::Builder::new().name("erlang listens".into()).spawn(move || listens.listen(&listener));
@@ -156,6 +145,36 @@ impl Builder {
                 inner.leave();
                 Err(JoinFault::Listen(fault))
             }
+        }
+    }
+
+    /// Where the node is, and what listens there.
+    fn place<'a>(&self, node: &'a str) -> Result<(TcpListener, ei::Place<'a>), JoinFault> {
+        let (alive, host) = parts_of(node).ok_or(JoinFault::BadName)?;
+        let address = self.settings.address;
+        let listener = TcpListener::bind((address, self.port)).map_err(JoinFault::Listen)?;
+        let port = listener.local_addr().map_err(JoinFault::Listen)?.port();
+        let creation = (RandomState::new().build_hasher().finish() as u32) | 0x100;
+        Ok((listener, ei::Place { alive, host, address, port, creation }))
+    }
+
+    fn inner(self, ei: ei::Node, ushers: Vec<Address<ToUsher>>, node: &str, place: &ei::Place<'_>) -> Inner {
+        Inner {
+            run: self.run,
+            settings: self.settings,
+            ushers,
+            reasons: Reasons::default(),
+            node: node.into(),
+            creation: place.creation,
+            ei,
+            port: place.port,
+            names: Mutex::default(),
+            doors: Mutex::default(),
+            connections: Mutex::default(),
+            has_left: AtomicBool::new(false),
+            handshakes: AtomicUsize::new(0),
+            numbers: AtomicU64::new(1),
+            reporter: self.reporter,
         }
     }
 }
@@ -331,7 +350,7 @@ impl Gateway {
             waiting: 100_000,
             proxies: 512,
         };
-        Builder { run: run.clone(), settings, reporter: None }
+        Builder { run: run.clone(), settings, port: 0, reporter: None }
     }
 
     /// The name of this node.

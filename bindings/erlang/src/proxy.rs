@@ -26,6 +26,13 @@ struct Board {
     by_pid: HashMap<Pid, Whom>,
 }
 
+impl Board {
+    fn add(&mut self, whom: &Whom, address: Address<ToProxy>) {
+        self.by_pid.insert(address.pid(), whom.clone());
+        self.proxies.insert(whom.clone(), Entry { address, coming: 0, pins: HashSet::new(), watch: None });
+    }
+}
+
 struct Entry {
     address: Address<ToProxy>,
     /// How many messages are on their way to it.
@@ -140,25 +147,23 @@ pub(crate) fn proxy<M: Send + 'static>(
     if board.closed {
         return Err(NoProxy::Broken);
     }
+    if !board.proxies.contains_key(whom) && board.proxies.len() >= connection.gateway.settings.proxies {
+        return Err(NoProxy::Full);
+    }
     if !board.proxies.contains_key(whom) {
-        if board.proxies.len() >= connection.gateway.settings.proxies {
-            return Err(NoProxy::Full);
-        }
         let address = cx.spawn(Proxy::new(connection, whom)).map_err(NoProxy::Table)?;
-        board.by_pid.insert(address.pid(), whom.clone());
-        board.proxies.insert(whom.clone(), Entry { address, coming: 0, pins: HashSet::new(), watch: None });
+        board.add(whom, address);
     }
     let Some(entry) = board.proxies.get_mut(whom) else { return Err(NoProxy::Broken) };
     entry.coming += 1;
     let address = entry.address.clone();
-    if wanted == For::Itself || entry.watch.is_some() {
-        return Ok(address);
+    if wanted == For::Watch && entry.watch.is_none() {
+        let reference = connection.gateway.new_ref();
+        entry.watch = Some(reference.clone());
+        drop(board);
+        let from = connection.gateway.pid_of(address.pid());
+        connection.tell(Control::Monitor { from, to: whom.clone(), reference });
     }
-    let reference = connection.gateway.new_ref();
-    entry.watch = Some(reference.clone());
-    drop(board);
-    let from = connection.gateway.pid_of(address.pid());
-    connection.tell(Control::Monitor { from, to: whom.clone(), reference });
     Ok(address)
 }
 

@@ -6,7 +6,7 @@ use crate::report::Report;
 use crate::serving::{Door, Incoming, Kind, incoming, refused};
 use crate::term::{ErlangPid, ErlangRef, Term};
 use crate::usher::{Came, ToUsher};
-use pundewo::Pid;
+use pundewo::{Pid, Reason};
 use std::sync::Arc;
 use std::thread;
 use std::time::Duration;
@@ -43,36 +43,39 @@ pub(crate) fn route(connection: &Arc<Connection>, control: Control, term: Option
                 message(connection, from, &to, term);
             }
         }
-        Control::Link { from, to } => match own(connection, &to) {
-            Some(pid) => to_usher(connection, pid.shard, Came::Link(from, pid)),
-            None => connection.tell(Control::Exit { from: to, to: from, reason: Term::atom("noproc") }),
-        },
-        Control::Unlink { id, from, to } => match (own(connection, &to), id) {
-            (Some(pid), id) => to_usher(connection, pid.shard, Came::Unlink(id, from, pid)),
-            (None, Some(id)) => connection.tell(Control::UnlinkAck { id, from: to, to: from }),
-            (None, None) => {}
-        },
-        Control::Exit { from, to, reason } => {
-            if let Some(pid) = own(connection, &to) {
-                let reason = connection.gateway.reasons.of(&reason);
-                to_usher(connection, pid.shard, Came::Exit(from, reason));
-            }
-        }
+        Control::Link { from, to } => link(connection, from, to),
+        Control::Unlink { id, from, to } => unlink(connection, id, from, to),
+        Control::Exit { from, to, reason } => exit(connection, &to, &reason, |_, reason| Came::Exit(from, reason)),
         Control::ExitSignal { from, to, reason } => {
-            if let Some(pid) = own(connection, &to) {
-                let reason = connection.gateway.reasons.of(&reason);
-                to_usher(connection, pid.shard, Came::Signal(from, pid, reason));
-            }
+            exit(connection, &to, &reason, |pid, reason| Came::Signal(from, pid, reason));
         }
         Control::Monitor { from, to, reference } => monitor(connection, from, to, reference),
         Control::Demonitor { from, to, reference } => demonitor(connection, from, &to, reference),
-        Control::Down { to, reason, .. } => {
-            if let Some(pid) = own(connection, &to) {
-                let reason = connection.gateway.reasons.of(&reason);
-                to_usher(connection, pid.shard, Came::Down(pid, reason));
-            }
-        }
+        Control::Down { to, reason, .. } => exit(connection, &to, &reason, Came::Down),
         Control::UnlinkAck { .. } | Control::AliasSend { .. } | Control::Other => {}
+    }
+}
+
+fn link(connection: &Arc<Connection>, from: ErlangPid, to: ErlangPid) {
+    match own(connection, &to) {
+        Some(pid) => to_usher(connection, pid.shard, Came::Link(from, pid)),
+        None => connection.tell(Control::Exit { from: to, to: from, reason: Term::atom("noproc") }),
+    }
+}
+
+fn unlink(connection: &Arc<Connection>, id: Option<Term>, from: ErlangPid, to: ErlangPid) {
+    match (own(connection, &to), id) {
+        (Some(pid), id) => to_usher(connection, pid.shard, Came::Unlink(id, from, pid)),
+        (None, Some(id)) => connection.tell(Control::UnlinkAck { id, from: to, to: from }),
+        (None, None) => {}
+    }
+}
+
+/// Hands on an exit reason for a process of this node.
+fn exit(connection: &Arc<Connection>, to: &ErlangPid, reason: &Term, came: impl FnOnce(Pid, Reason) -> Came) {
+    if let Some(pid) = own(connection, to) {
+        let reason = connection.gateway.reasons.of(reason);
+        to_usher(connection, pid.shard, came(pid, reason));
     }
 }
 

@@ -268,40 +268,52 @@ impl fmt::Display for Term {
     fn fmt(&self, f: &mut fmt::Formatter<'_>) -> fmt::Result {
         match self {
             Term::Integer(number) => write!(f, "{number}"),
-            Term::Big(negative, bytes) => {
-                f.write_str(if *negative { "-16#" } else { "16#" })?;
-                bytes.iter().rev().try_for_each(|byte| write!(f, "{byte:02X}"))
-            }
+            Term::Big(negative, bytes) => write_big(f, *negative, bytes),
             Term::Float(number) => write!(f, "{number:?}"),
             Term::Atom(text) if is_plain(text) => f.write_str(text),
             Term::Atom(text) => write!(f, "'{}'", text.replace('\\', "\\\\").replace('\'', "\\'")),
-            Term::Binary(bytes) => match std::str::from_utf8(bytes) {
-                Ok(text) if !text.chars().any(char::is_control) => write!(f, "<<{text:?}>>"),
-                _ => write_all(f, "<<", bytes, ">>"),
-            },
-            Term::Bits(bits, bytes) => {
-                let (last, rest) = bytes.split_last().unwrap_or((&0, &[]));
-                rest.iter().fold(f.write_str("<<"), |done, byte| done.and_then(|()| write!(f, "{byte},")))?;
-                write!(f, "{}:{bits}>>", last >> (8 - (*bits).clamp(1, 8)))
-            }
+            Term::Binary(bytes) => write_binary(f, bytes),
+            Term::Bits(bits, bytes) => write_bits(f, *bits, bytes),
             Term::Tuple(parts) => write_all(f, "{", parts, "}"),
             Term::List(parts) => write_all(f, "[", parts, "]"),
             Term::Improper(parts, rest) => {
                 write_all(f, "[", parts, "|")?;
                 write!(f, "{rest}]")
             }
-            Term::Map(pairs) => {
-                f.write_str("#{")?;
-                for (at, (key, value)) in pairs.iter().enumerate() {
-                    write!(f, "{}{key} => {value}", if at == 0 { "" } else { "," })?;
-                }
-                f.write_str("}")
-            }
+            Term::Map(pairs) => write_map(f, pairs),
             Term::Pid(pid) => pid.fmt(f),
             Term::Reference(reference) => write!(f, "{reference:?}"),
             Term::Other(opaque) => write!(f, "{opaque:?}"),
         }
     }
+}
+
+fn write_big(f: &mut fmt::Formatter<'_>, negative: bool, bytes: &[u8]) -> fmt::Result {
+    f.write_str(if negative { "-16#" } else { "16#" })?;
+    bytes.iter().rev().try_for_each(|byte| write!(f, "{byte:02X}"))
+}
+
+/// A text, if it can be printed, or the bytes.
+fn write_binary(f: &mut fmt::Formatter<'_>, bytes: &[u8]) -> fmt::Result {
+    match std::str::from_utf8(bytes) {
+        Ok(text) if !text.chars().any(char::is_control) => write!(f, "<<{text:?}>>"),
+        _ => write_all(f, "<<", bytes, ">>"),
+    }
+}
+
+fn write_bits(f: &mut fmt::Formatter<'_>, bits: u8, bytes: &[u8]) -> fmt::Result {
+    let (last, rest) = bytes.split_last().unwrap_or((&0, &[]));
+    f.write_str("<<")?;
+    rest.iter().try_for_each(|byte| write!(f, "{byte},"))?;
+    write!(f, "{}:{bits}>>", last >> (8 - bits.clamp(1, 8)))
+}
+
+fn write_map(f: &mut fmt::Formatter<'_>, pairs: &[(Term, Term)]) -> fmt::Result {
+    f.write_str("#{")?;
+    for (at, (key, value)) in pairs.iter().enumerate() {
+        write!(f, "{}{key} => {value}", if at == 0 { "" } else { "," })?;
+    }
+    f.write_str("}")
 }
 
 fn write_all<T: fmt::Display>(f: &mut fmt::Formatter<'_>, begin: &str, parts: &[T], end: &str) -> fmt::Result {

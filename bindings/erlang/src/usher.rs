@@ -126,13 +126,18 @@ impl Usher {
         }
     }
 
+    /// A term for a process that takes none in is for a proxy, or for nobody.
+    fn term(cx: &mut Context<'_, ToUsher>, connection: &Arc<Connection>, to: Pid, term: Term) {
+        match connection.boards.by_pid(to) {
+            Some(known) => _ = cx.send(&known, ToProxy::Answer(term)),
+            None => connection.gateway.report(&Report::Nobody { node: &connection.node, to: &to.to_string() }),
+        }
+    }
+
     fn came(&self, cx: &mut Context<'_, ToUsher>, connection: &Arc<Connection>, came: Came) {
         match came {
             Came::Message(from, parcel) => Usher::message(cx, connection, from, parcel),
-            Came::Term(to, term) => match connection.boards.by_pid(to) {
-                Some(known) => _ = cx.send(&known, ToProxy::Answer(term)),
-                None => connection.gateway.report(&Report::Nobody { node: &connection.node, to: &to.to_string() }),
-            },
+            Came::Term(to, term) => Usher::term(cx, connection, to, term),
             Came::Link(from, to) => Usher::link(cx, connection, from, to),
             Came::Unlink(id, from, to) => Usher::unlink(cx, connection, id, from, to),
             Came::Exit(from, reason) => Usher::died(cx, connection, &Whom::Pid(from), reason),

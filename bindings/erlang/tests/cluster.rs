@@ -12,8 +12,8 @@ use pundewo_erlang::{
 use pundewo_erlang::{Remote, Term, Unsent};
 use std::fs;
 use std::os::unix::fs::PermissionsExt;
-use std::process::Command;
-use std::time::Duration;
+use std::process::{Command, Stdio};
+use std::time::{Duration, Instant};
 use support::{LIMIT, Puppets, at, cluster, ends, until, write_cookie};
 
 struct Counter(i64);
@@ -108,12 +108,21 @@ fn a_node_joins_hidden_and_keeps_the_cookie_to_itself() {
     assert_eq!(stranger.connect("nobody@192.0.2.1", LIMIT), Err(Unsent::Broken));
     assert_eq!(stranger.connect("nobody", LIMIT), Err(Unsent::NotANode));
     assert_eq!(gateway.nodes(), std::slice::from_ref(&node.name));
+    let mut command = cluster.erl("joins_b");
+    command.args(["-setcookie", "another"]);
+    let other = cluster.node_by("joins_b", command);
+    assert!(other.run(&stranger, "ping", [Term::atom(gateway.node())]).is_atom("pang"));
+    assert!(other.run(&stranger, "ping", [Term::atom(stranger.node())]).is_atom("pong"));
+    let mut taken = cluster.erl("joins");
+    taken.stdin(Stdio::null()).stderr(Stdio::null());
+    assert!(!taken.status().expect("erl").success());
+    assert_eq!(gateway.nodes(), std::slice::from_ref(&node.name));
     // the cookie is in nothing that is printed
     let arguments = fs::read_to_string("/proc/self/cmdline").expect("the arguments");
     let text = fs::read_to_string(cluster.home.join(".erlang.cookie")).expect("a cookie");
     assert!(!arguments.contains(&text) && !format!("{:?}{gateway:?}", cluster.cookie()).contains(&text));
     ends(run);
-    // the node has left
+    // the node has left, though a program that it started (the other node) runs still
     until("end of the node", || !epmd_names(cluster.port).contains("joins at"));
 }
 
@@ -185,8 +194,9 @@ fn processes_are_served_to_erlang() {
     assert_eq!(call(&here, add(5)), "{answer,ok}");
     assert_eq!(call(&here, Term::atom("crash_in_call")), crashed);
     until("child that was started again", || call(&here, Term::atom("read")) == "{answer,0}");
-    // the module for Erlang, by its own tests
-    let tried = node.rpc(&gateway, "pundewo_tests", "run", [Term::atom(gateway.node())]);
+    // the module for Erlang, by its own tests, which cut the connection
+    let asks = Gateway::join(&run, "tries@127.0.0.1", &cluster.cookie()).expect("a node");
+    let tried = node.rpc(&asks, "pundewo_tests", "run", [Term::atom(gateway.node())]);
     assert!(tried.is_atom("ok"), "{tried}");
     ends(run);
 }
@@ -196,7 +206,7 @@ fn every_term(node: &support::Node, gateway: &Gateway) -> Vec<Term> {
     let text = "{[], [1, 255, -1, 1 bsl 31, 1 bsl 63, -(1 bsl 63), 1 bsl 64, -(1 bsl 200), 1 bsl 4000], 1.5, 'ä b', \"text\", \
                 <<1,2,3:4>>, <<\"bytes\">>, #{a => #{}, 1 => [x|y]}, self(), make_ref(), fun erlang:abs/1, fun() -> a end, \
                 hd(erlang:ports()), list_to_tuple(lists:seq(1, 300)), lists:seq(1, 70000), \
-                binary:copy(<<7>>, 1000000)}.";
+                binary:copy(<<7>>, 10485760)}.";
     let scanned = node.rpc(gateway, "erl_scan", "string", [characters(text)]);
     let tokens = scanned.as_tuple().expect("tokens")[1].clone();
     let parsed = node.rpc(gateway, "erl_parse", "parse_exprs", [tokens]);
@@ -488,4 +498,55 @@ fn two_nodes_of_this_kind_see_each_other() {
     assert_eq!(other.send(("a", "here@127.0.0.1"), 1), Err(Unsent::Broken));
     ends(there);
     ends(here);
+}
+
+#[test]
+fn erlang_sees_the_node_come_and_go() {
+    let Some(cluster) = cluster() else { return };
+    let (run, other_run, node) = (a_run(), a_run(), cluster.node("seen_a"));
+    let gateway = Gateway::join(&run, "seen@127.0.0.1", &cluster.cookie()).expect("a node");
+    let asks = Gateway::join(&other_run, "asks@127.0.0.1", &cluster.cookie()).expect("a node");
+    assert_eq!(node.text(&asks, "node_events", [Term::atom(gateway.node())]), "{nodeup,nodedown}");
+    // the node leaves
+    let (listener, told) = Puppets::exposed(&other_run, &asks);
+    node.rpc(
+        &asks,
+        "erlang",
+        "spawn",
+        [Term::atom("pundewo_peer"), Term::atom("tell_nodedown"), Term::list([Term::atom(gateway.node()), told])],
+    );
+    assert_eq!(listener.hears(), "term watching");
+    gateway.leave();
+    assert_eq!(listener.hears(), "term nodedown");
+    ends(run);
+    ends(other_run);
+}
+
+#[test]
+fn an_erlang_node_that_is_stopped_is_cut_off_and_comes_back() {
+    let Some(cluster) = cluster() else { return };
+    let (run, node) = (a_run(), cluster.node("stopped_a"));
+    let builder = Gateway::builder(&run).unsent(1 << 20);
+    let gateway = builder.join("stopped@127.0.0.1", &cluster.cookie()).expect("a node");
+    let (puppet, me) = Puppets::exposed(&run, &gateway);
+    let echo = node.echo(&gateway, "echo");
+    let (monitors, of) = (gateway.clone(), echo.clone());
+    puppet.does(move |cx| monitors.monitor(cx, &of)).expect("a proxy");
+    node.signal("-STOP");
+    let (sends, to) = (gateway.clone(), echo.clone());
+    let (sent, took) = puppet.does(move |_| {
+        let begun = Instant::now();
+        let sent = (0..1_000).take_while(|_| sends.send(&to, vec![0; 100_000]).is_ok()).count();
+        (sent, begun.elapsed())
+    });
+    println!("{sent} terms of 100 kB were sent to a stopped node in {took:?} before it was cut off");
+    assert!((10..1_000).contains(&sent));
+    assert_eq!(puppet.hears(), format!("down {NOCONNECTION}"));
+    node.signal("-CONT");
+    until("end of the stop", || gateway.connect(&node.name, LIMIT).is_ok());
+    let send = Term::tuple([Term::atom("send"), me, Term::from("again")]);
+    gateway.send(&echo, send).expect("a connection");
+    assert_eq!(puppet.hears(), "term <<\"again\">>");
+    assert!(puppet.is_quiet());
+    ends(run);
 }

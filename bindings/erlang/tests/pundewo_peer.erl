@@ -1,7 +1,8 @@
 %% What the tests have an Erlang node do: each function is called from the other node by rpc.
 -module(pundewo_peer).
 
--export([main/0, run/2, echo_start/1, holder/0, flood/5, server_start/2, sink_start/1, sink_said/1, pairs_start/1, pairs_said/1]).
+-export([main/0, run/2, echo_start/1, holder/0, server_start/2, tell_nodedown/2]).
+-export([flood/5, flooding/0, close_socket/1, sink_start/1, sink_said/1, pairs_start/1, pairs_said/1]).
 -export([init/1, handle_call/3, handle_cast/2, handle_info/2]).
 
 %% Ends with its input, so that no node stays behind.
@@ -74,7 +75,26 @@ run_case(link_and_exit, [Pid, Messages, Reason]) ->
     exit(Reason);
 run_case(exit_signal, [Pid, Reason]) ->
     exit(Pid, Reason),
-    ok.
+    ok;
+run_case(node_events, [Node]) ->
+    ok = net_kernel:monitor_nodes(true, [{node_type, hidden}]),
+    pong = net_adm:ping(Node),
+    Up = node_event(Node),
+    true = erlang:disconnect_node(Node),
+    {Up, node_event(Node)};
+run_case(ping, [Node]) ->
+    net_adm:ping(Node).
+
+node_event(Node) ->
+    receive {Event, Node, [{node_type, hidden}]} -> Event after 5000 -> nothing end.
+
+%% Tells a process as a node goes.
+tell_nodedown(Node, To) ->
+    ok = net_kernel:monitor_nodes(true, [{node_type, hidden}]),
+    pong = net_adm:ping(Node),
+    nodeup = node_event(Node),
+    To ! watching,
+    To ! node_event(Node).
 
 %% A process that sends each message to whoever it says, or does what it is told.
 echo_start(Name) ->
@@ -106,12 +126,19 @@ hold(Told) ->
         {'DOWN', _, process, Pid, Reason} -> hold([{down, Pid, Reason} | Told])
     end.
 
-%% Many processes that each send numbers, from 1 on, with a rest after so many.
+%% Processes that each send numbers, from 1 on, with a rest after so many. They have names while they do.
 flood(To, Senders, Count, Size, Pace) ->
     Padding = binary:copy(<<0>>, Size),
     Send = fun(Sender) -> [paced(To, {number, Sender, Number, Padding}, Number rem Pace) || Number <- lists:seq(1, Count)] end,
-    [spawn(fun() -> Send(Sender) end) || Sender <- lists:seq(1, Senders)],
+    [spawn(fun() -> register(flood_name(), self()), Send(Sender) end) || Sender <- Senders],
     ok.
+
+flood_name() -> list_to_atom("flood" ++ integer_to_list(erlang:unique_integer([positive]))).
+
+flooding() -> [Name || Name <- registered(), lists:prefix("flood", atom_to_list(Name))].
+
+%% Closes the socket of a connection below it.
+close_socket(Node) -> [port_close(Port) || {Other, Port} <- erlang:system_info(dist_ctrl), Other =:= Node].
 
 paced(To, Message, 0) ->
     timer:sleep(1),
@@ -119,22 +146,22 @@ paced(To, Message, 0) ->
 paced(To, Message, _) ->
     To ! Message.
 
-%% A process that looks whether the numbers of each sender come in order and once: how many have come, how many were
-%% missed in between, and how many were no greater than one before.
+%% A process that looks whether the numbers of each sender come in order and once: how many have come, the last one, and how
+%% many were no greater than one before.
 sink_start(Name) ->
-    Pid = spawn(fun() -> sink(#{}, {0, 0, 0}) end),
+    Pid = spawn(fun() -> sink(#{}) end),
     register(Name, Pid),
     Pid.
 
-sink(Last, {Count, Missed, Wrong} = Said) ->
+sink(Said) ->
     receive
         {number, Sender, Number, _} ->
-            case Number - maps:get(Sender, Last, 0) of
-                1 -> sink(Last#{Sender => Number}, {Count + 1, Missed, Wrong});
-                More when More > 1 -> sink(Last#{Sender => Number}, {Count + 1, Missed + More - 1, Wrong});
-                _ -> sink(Last, {Count + 1, Missed, Wrong + 1})
+            {Count, Last, Wrong} = maps:get(Sender, Said, {0, 0, 0}),
+            case Number > Last of
+                true -> sink(Said#{Sender => {Count + 1, Number, Wrong}});
+                false -> sink(Said#{Sender => {Count + 1, Last, Wrong + 1}})
             end;
-        {said, From} -> From ! {said, Said}, sink(Last, Said)
+        {said, From} -> From ! {said, maps:to_list(Said)}, sink(Said)
     end.
 
 sink_said(Name) ->

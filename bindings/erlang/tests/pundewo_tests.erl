@@ -42,8 +42,21 @@ noproc_test() ->
     ?assertExit({noproc, {gen_server, call, [Nobody, read, 5000]}}, pundewo:call(Nobody, read)).
 
 monitor_test() ->
-    Monitor = monitor(process, {nobody, node_to_try()}),
+    Nobody = {nobody, node_to_try()},
+    Monitor = pundewo:monitor(Nobody),
+    ?assertEqual({Nobody, noproc}, down(Monitor, 5000)),
+    Counter = {counter, node_to_try()},
+    Live = pundewo:monitor(Counter),
+    ?assertEqual(nothing, down(Live, 300)),
+    ?assert(demonitor(Live, [flush, info])),
+    Cut = pundewo:monitor(Counter),
+    erlang:disconnect_node(node_to_try()),
+    ?assertEqual({Counter, noconnection}, down(Cut, 5000)),
+    ?assertEqual(nothing, down(Cut, 300)),
+    ?assertEqual(ok, pundewo:connect(node_to_try())).
+
+down(Monitor, Time) ->
     receive
-        {'DOWN', Monitor, process, Object, Reason} -> ?assertEqual({{nobody, node_to_try()}, noproc}, {Object, Reason})
-    after 5000 -> ?assert(false)
+        {'DOWN', Monitor, process, Object, Reason} -> {Object, Reason}
+    after Time -> nothing
     end.

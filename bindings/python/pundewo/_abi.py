@@ -295,6 +295,8 @@ CALLS: dict[str, list[Any]] = {
     "pt_turn": [_P(CHandle), c.c_uint32, _P(CTurned)],
     "pt_letters_out": [_P(CHandle), _P(c.c_uint64)],
     "pt_has_letters": [_P(CHandle), _P(c.c_bool)],
+    "pt_look_from": [_P(CHandle), c.c_uint8],
+    "pt_next_from": [_P(CHandle), _P(c.c_uint8)],
     "pt_ask": [_P(CHandle), CPid, CPid, c.c_uint32, _P(CCall)],
     "pt_ask_until": [_P(CHandle), CPid, CPid, c.c_uint32, c.c_uint64, _P(CCall)],
     "pt_hear": [_P(CHandle), _P(CCall), CItem, _P(CHeard)],

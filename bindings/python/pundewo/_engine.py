@@ -4,6 +4,7 @@ from __future__ import annotations
 
 import logging
 from collections import deque
+from ctypes import byref, c_size_t, c_uint32
 from functools import partial
 from threading import get_ident
 from time import monotonic
@@ -17,7 +18,8 @@ from ._behaviour import (
 )
 from ._aside import Aside, older
 from ._bound import DROPPED, Room
-from ._abi import CAnswer, CItem, CJob, CPid
+from ._abi import CItem, CJob, CPid
+from ._births import Births
 from ._family import Supervising
 from ._library import pid_of, reader, reason_of, ref_of
 from ._process import WAITS, Address, Family, Porter, Seat, bytes_of
@@ -31,7 +33,14 @@ from .values import ANY, ITEMS, JOBS, KILL, NOPROC, SHUTDOWN, U8, U64, Body, Ite
 log = logging.getLogger("pundewo")
 
 # How many letters a turn handles at most, and how many jobs a step has.
-BUDGET, MOST = 1024, 256
+MOST = 256
+BUDGET, JOBS_MOST = c_uint32(1024), c_size_t(MOST)
+# After how many steps it is asked what was lost and whether memory was missing, if there is something to do all the time. It is
+# asked before the run rests, and as an exit is told.
+SELDOM = 16
+# How many steps a round has at most, and after how many seconds it has no more, while they have something to do and nothing
+# else is to be done.
+FEW, BRIEF = 16, 0.001
 
 # What is read of a job at once: what it is, whose, and of a message who sent it, its kind and its number.
 Job = tuple[int, ...]
@@ -56,8 +65,16 @@ class Engine(Supervising):
         self.halted = False
         # what each desk's processes are told in this round: as the library wrote it, and what was read of that
         self._rows = [(CJob * MOST)() for _ in self.desks]
+        self._views = [memoryview(rows).cast("B") for rows in self._rows]
+        self._pointers = [byref(rows) for rows in self._rows]
         self._jobs: list[Deque[tuple[int, Job]]] = [deque() for _ in self.desks]
         self._untold = self.goes_on = False
+        # whether a process may wait until a time: else the crews need not be told what time it is
+        self._timed = False
+        # of each desk the exits that its losses have told since its last step, which its crew may not know
+        self._exits: list[dict[Pid, Reason]] = [{} for _ in self.desks]
+        # what was sent and told when the journals were looked at last; how many steps there were
+        self._looked = self._steps = 0
         # what the handler is told that runs now, and the place of its job among those of its desk
         self.event: Optional[Event] = None
         self._place = 0
@@ -68,9 +85,12 @@ class Engine(Supervising):
         # who gets the events as they come
         self.taps: list[Tap] = []
         self.killed: list[Pid] = []
+        # its processes by birth, but for the porters
+        self.births = Births(desks)
         for number in range(desks):
             self.porters.append(self.spawn(Porter(), number))
         self.spawned = 0
+        self.births = Births(desks)
 
     # What those outside want
 
@@ -195,17 +215,16 @@ class Engine(Supervising):
             if self._node is not None:
                 self._go_on()
             self._hand_out()
-            busy = self._perform() | self._go_off()
+            busy = self._perform() | (self.due is not None and self._go_off())
             self._tell_order()
             dropped = len(self._dropped)
-            for number in range(len(self.desks)):
-                busy |= self._step(number)
+            busy |= self._do_steps()
             for tap in self.taps:
                 tap._pass_on(self.desks)
             for _ in range(dropped):
                 self._tell_dropped(self._dropped[0])
                 del self._dropped[0]
-            if self.goes_on or any(desk.event_count() > self.every for desk in self.desks):
+            if self.goes_on:
                 self.goes_on = False
                 self._go_on()
                 busy = True
@@ -220,9 +239,39 @@ class Engine(Supervising):
         finally:
             self._inside = False
 
+    def _do_steps(self) -> bool:
+        """Steps of all desks, and returns whether they did anything. If they did, there are some more, unless something else is
+        to be done."""
+        numbers, until = range(len(self.desks)), monotonic() + BRIEF
+        for count in range(FEW):
+            some = False
+            for number in numbers:
+                some |= self._step(number)
+            self.goes_on = self.goes_on or self._is_full()
+            if not some or self.since > until or self._has_else():
+                return some or count > 0
+        return True
+
+    def _has_else(self) -> bool:
+        """Whether something is to be done that is no step."""
+        if self.due is not None and (self.since - self._began) * 1e6 >= self.due:
+            return True
+        return bool(self.inbox or self._dropped or self.taps or self._turns or self.goes_on or self.order != GO_ON)
+
+    def _is_full(self) -> bool:
+        """Whether a journal has more events than it may. (it is looked at once some share of these was sent and told)"""
+        done = self._number + sum(self.record.told)
+        if (done - self._looked) * 64 < self.every:
+            return False
+        self._looked = done
+        return any(desk.event_count() > self.every for desk in self.desks)
+
     def rest_time(self) -> Optional[float]:
         """For how many seconds nothing is to be done, unless something comes in. (if nothing was in the last round)"""
-        times = [crew.next_time() for crew in self.crews] + [self.due]
+        times = [crew.next_time() for crew in self.crews]
+        # (those who wait until a time have a timer of their crew, as nobody is in its queue)
+        self._timed = any(at is not None for at in times)
+        times.append(self.due)
         known = [at for at in times if at is not None]
         return max(0.0, (min(known) - self.now()) / 1e6) if known else None
 
@@ -301,31 +350,38 @@ class Engine(Supervising):
         desk, crew, jobs = self.desks[number], self.crews[number], self._jobs[number]
         some = bool(jobs)
         if not jobs:
-            turned = desk.turn(BUDGET)
-            # (before the step that tells of exits, so that it tells their reasons)
-            self._take_losses(number)
-            crew.set_time(self.now())
-            rows = self._rows[number]
-            count, posted = crew._step(desk, 0, rows)
-            jobs.extend(enumerate(JOB.iter_unpack(memoryview(rows).cast("B")[:count * JOB.size])))
+            if self._timed or self.families > 0:
+                crew._set_time(self.now())
+            self._exits[number].clear()
+            count, some, stopped = crew._advance(desk, BUDGET, self._pointers[number], JOBS_MOST)
+            if count == 1:
+                jobs.append((0, JOB.unpack_from(self._views[number])))
+            elif count:
+                jobs.extend(enumerate(JOB.iter_unpack(self._views[number][:count * JOB.size])))
             self.record.told[number] += count
-            some = count > 0 or turned.posted + turned.handled + posted.posted > 0
             # (what supervisors do is in no job. The step has read all events at its end)
-            some = some or self.families > 0 and crew.queued() + desk.pending() > 0
-            if turned.stopped is not None:
-                raise Fault(turned.stopped, "turn")
-            if crew.refused():
-                raise Fault(Code.MEMORY, "crew_step")
-        self.since = monotonic()
+            some = some or count > 0 or self.families > 0 and crew.queued() + desk.pending() > 0
+            if stopped is not None:
+                raise Fault(stopped, "turn")
+            self._steps += 1
+            if not some or self.most is not None or self._steps % SELDOM == 0:
+                self._take_losses(number)
+                if crew.refused():
+                    raise Fault(Code.MEMORY, "crew_step")
+        self.since, seats = monotonic(), self.seats
         while jobs:
             place, job = jobs.popleft()
-            self._tell(number, place, job)
+            # (most jobs are messages)
+            if job[0] == ITEM:
+                self._tell_seat(number, place, seats[job[1]], job)
+            else:
+                self._tell(number, place, job)
         if self._early:
             some |= self._begin_held(number)
         answers = self._answers[number]
         while answers:
             # (whose process is not running any more is left out)
-            taken = crew._answer((CAnswer * len(answers)).from_buffer_copy(b"".join(answers)))
+            taken = crew._answer_bytes(b"".join(answers), len(answers))
             del answers[:taken + 1]
         if self._abroad:
             some |= self._send_children(number)
@@ -333,8 +389,10 @@ class Engine(Supervising):
 
     def _take_losses(self, number: int) -> None:
         """Drops what the desk has lost. No letter can ask for it any more."""
-        desk, crew = self.desks[number], self.crews[number]
+        desk, crew, exits = self.desks[number], self.crews[number], self._exits[number]
         for loss in iter(lambda: crew.next_loss(desk), None):
+            if loss.reason is not None:
+                exits[loss.pid] = loss.reason
             for item in loss.items:
                 if item.body is not None:
                     self.record.losses[number] += 1
@@ -377,22 +435,23 @@ class Engine(Supervising):
             self.families += 1
         self.spawned += 1
         seat.born = self.spawned
+        self.births.enter(seat)
         self._untold = True
         return seat
 
     def _tell(self, number: int, place: int, job: Job) -> None:
-        """Runs the handler of a process."""
-        code, tag, item, shard, slot, version, kind, num = job
-        seat = self.seats[tag] if code == ITEM else self._seat_of(code, tag, self._rows[number][place])
+        """Tells a process what it is to be told."""
+        seat = self.seats[job[1]] if job[0] == ITEM else self._seat_of(job[0], job[1], self._rows[number][place])
         if seat is None:
             self.record.unheard[number] += 1
-            return
-        self._tell_seat(number, place, seat, job)
+        else:
+            self._tell_seat(number, place, seat, job)
 
     def begin(self, seat: Seat) -> None:
         self._tell_seat(seat.pid.shard, 0, seat, (START, seat.tag, 0, 0, 0, 0, 0, 0))
 
     def _tell_seat(self, number: int, place: int, seat: Seat, job: Job) -> None:
+        """Runs the handler of a process."""
         code, tag, item, shard, slot, version, kind, num = job
         self.running, self._place = seat, place
         try:
@@ -560,6 +619,7 @@ class Engine(Supervising):
         seat.picks = pick != ANY
         if next_.limit is None:
             return WAITS if pick is ANY else bytes_of("wait", pick=pick)
+        self._timed = True
         return bytes_of("wait-until", pick=pick, until=self._at(next_.limit))
 
     def _chosen(self, seat: Seat, waits: Waits) -> Optional[Pick]:
@@ -594,6 +654,10 @@ class Engine(Supervising):
         if reference in self.left_open:
             self.left_open.remove(reference)
             return None
+        if reference.number not in seat.monitors:
+            # (of a call that has ended: as it did, the exit of its server was in the mailbox already)
+            return None
+        seat.monitors.remove(reference.number)
         return Down(reference, pid, reason, text)
 
     def _exit_of(self, seat: Seat, pid: Pid, reason: Reason) -> Optional[Exit]:
@@ -674,6 +738,10 @@ class Engine(Supervising):
     def _tell_exit(self, tag: int, job: CJob) -> None:
         """A process has exited. One that a supervisor started may not have begun."""
         seat, kid, why = self.seats.get(tag), self.kids.get(tag), reason_of(job.reason)
+        # (a loss of this step tells what its crew did not know yet. What waited for the process is dropped)
+        self._take_losses(job.pid.shard)
+        if why == NOPROC:
+            why = self._exits[job.pid.shard].get(pid_of(job.pid), why)
         if kid is not None:
             # (the child may have another process by now)
             seat = self.pids.get(pid_of(job.pid))
@@ -686,6 +754,8 @@ class Engine(Supervising):
     def _leave(self, seat: Seat, why: Reason) -> None:
         """A process has exited: all that it had goes."""
         del self.pids[seat.pid]
+        if not self.is_porter(seat.pid):
+            self.births.leave(seat)
         if seat.is_in_groups:
             self._leave_groups(seat.pid)
         if self.seats.get(seat.tag) is seat:

@@ -54,7 +54,7 @@ class Address:
 
     def is_alive(self) -> bool:
         """Whether the process has not exited, as far as the run has told."""
-        return self.pid in self._engine.pids
+        return self._engine.is_known(self.pid)
 
     def send(self, value: Any) -> bool:
         """Sends a message from any thread. What one thread sends comes in order. It returns False, and the message is
@@ -123,7 +123,7 @@ class Address:
         whatever the handlers of the run do.
         """
         engine, limit = self._engine, seconds("limit", limit)
-        loop, began = asyncio.get_running_loop(), monotonic()
+        loop, here, began = asyncio.get_running_loop(), get_ident(), monotonic()
         future: asyncio.Future[Answer] = loop.create_future()
 
         def resolve(answer: Answer) -> None:
@@ -132,7 +132,11 @@ class Address:
 
         def done(answer: Answer) -> None:
             try:
-                loop.call_soon_threadsafe(resolve, answer)
+                # (from another thread it costs calls of the system)
+                if here == get_ident():
+                    loop.call_soon(resolve, answer)
+                else:
+                    loop.call_soon_threadsafe(resolve, answer)
             except RuntimeError:  # that loop is closed
                 pass
 
@@ -174,14 +178,16 @@ WAITS = bytes_of("wait", pick=ANY)
 class Seat:
     """A process with its behaviour."""
 
-    __slots__ = ("pid", "tag", "behaviour", "cx", "calls", "texts", "does", "told", "aside", "crossing", "waits", "names",
-                 "family", "gone", "is_in_groups", "picks", "room", "born")
+    __slots__ = ("pid", "tag", "behaviour", "cx", "calls", "monitors", "texts", "does", "told", "aside", "crossing", "waits",
+                 "names", "family", "gone", "is_in_groups", "picks", "room", "born")
 
     def __init__(self, engine: Engine, address: Address, tag: int, behaviour: Behaviour, parent: Optional[Pid]):
         self.pid, self.tag, self.behaviour = address.pid, tag, behaviour
         self.cx = Context(engine, self, address, parent)
         # its open calls, by the numbers of their monitors
         self.calls: dict[int, Call] = {}
+        # the numbers of its own monitors, of which it was told nothing yet
+        self.monitors: set[int] = set()
         # the texts of crashes, beside the news of them: by monitor, and by linked process
         self.texts: dict[Union[Ref, Pid], str] = {}
         # what it was to do when it was told something

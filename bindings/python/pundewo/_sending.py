@@ -170,6 +170,10 @@ class Sending:
         """Whether this is the thread of the run, in a round."""
         raise NotImplementedError
 
+    def is_known(self, pid: Pid) -> bool:
+        """Whether a process has not exited, as far as the run has told. (on any thread)"""
+        return pid in self.pids
+
     # Names
 
     def register(self, name: str, process: Address) -> bool:
@@ -300,7 +304,9 @@ class Sending:
     def monitor(self, seat: Seat, target: Pid) -> Optional[Ref]:
         """Monitors a process; None if it is known to have exited."""
         try:
-            return self.desks[seat.pid.shard].monitor(seat.pid, target)
+            monitor = self.desks[seat.pid.shard].monitor(seat.pid, target)
+            seat.monitors.add(monitor.number)
+            return monitor
         except Fault as fault:
             if fault.code == Code.NOPROC:
                 return None
@@ -342,6 +348,7 @@ class Sending:
             self.payloads.pop(monitor.number, None)
         else:
             self.desks[seat.pid.shard].demonitor(seat.pid, monitor, True)
+            seat.monitors.discard(monitor.number)
         self.touch()
 
     # Calls: that each ends once, and by what, says the library
@@ -377,8 +384,8 @@ class Sending:
             self.look_at(to.pid, room)
         if limit is not None:
             try:
-                call.alarm = self.set_alarm(
-                    limit, lambda: self.tell(call, Answer(call, None, CallTimeout(self.blame(began)))))
+                call.alarm = self.set_alarm_at(
+                    until, lambda: self.tell(call, Answer(call, None, CallTimeout(self.blame(began)))))
             except BaseException:  # what was asked goes to nobody
                 del self.payloads[request]
                 if room is not None and room.keys.pop(request, self) is None:
@@ -518,7 +525,11 @@ class Sending:
         return self.now() + int(limit * 1e6) + 1
 
     def set_alarm(self, limit: float, task: Task) -> Alarm:
-        alarm, at = self._number + 1, self._at(limit)
+        return self.set_alarm_at(self._at(limit), task)
+
+    def set_alarm_at(self, at: int, task: Task) -> Alarm:
+        """The same at a point in time."""
+        alarm = self._number + 1
         self._alarms[alarm] = self._timers._start(at, alarm), task
         self._number = alarm
         if self.due is None or at < self.due:

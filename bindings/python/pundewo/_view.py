@@ -182,20 +182,19 @@ class Look:
     def _desk(self, number: int) -> DeskView:
         engine, record = self.engine, self.engine.record
         desk, crew = engine.desks[number], engine.crews[number]
-        here = [seat for seat in engine.pids.values() if seat.pid.shard == number]
+        supervisors = sum(pid.shard == number for pid in engine.births.supervisors)
         # (what was handed out and not told yet was counted)
         told, longest = record.told[number] - len(engine._jobs[number]), record.longest
         return DeskView(
-            number, len(here) - 1, sum(seat.family is not None for seat in here), told - record.others[number],
+            number, engine.births.on[number], supervisors, told - record.others[number],
             told - record.unheard[number], record.restarts[number], record.losses[number],
             longest if longest is not None and longest.pid.shard == number else None, crew.queued(), desk.pending(),
             desk.event_count(), desk.clock())
 
     def _page(self) -> tuple[list[Seat], bool]:
-        """The processes of the page, and whether there are more. (they are kept in the order of their births)"""
-        engine, after = self.engine, self.after
-        later = (seat for seat in engine.pids.values() if after is None or seat.born > after)
-        living = (seat for seat in later if not engine.is_porter(seat.pid) and engine.desks[seat.pid.shard].alive(seat.pid))
+        """The processes of the page, and whether there are more."""
+        desks = self.engine.desks
+        living = (seat for seat in self.engine.births.after(self.after) if desks[seat.pid.shard].alive(seat.pid))
         page = list(islice(living, self.most + 1))
         return page[:self.most], len(page) > self.most
 
@@ -235,7 +234,7 @@ class Look:
 
     def _tree(self) -> list[SupervisorView]:
         """The supervisors, each before those below it."""
-        supervisors = {seat.pid: seat for seat in self.engine.pids.values() if seat.family is not None}
+        supervisors = self.engine.births.supervisors
         below: dict[Optional[Pid], list[Seat]] = {}
         for seat in supervisors.values():
             parent = seat.cx.parent if seat.cx.parent in supervisors else None

@@ -19,12 +19,12 @@ from typing import Any, NamedTuple, Optional
 
 from . import Desk, Fault, _fault, _Held
 from ._abi import HEARD_CODES, CCall, CHandle, CHeard, CItem, CPid, CPost, CRequest
-from ._library import body_of, c_body, c_item, c_pid, lib, pid_of, reason_of, ref_of
-from .values import I64, U32, U64, Body, Code, Item, Pid, Reason, Ref, number, of_type
+from ._library import ASK, EXPIRE, HEAR, REPLY, body_of, c_body, c_item, c_pid, lib, pid_of, reason_of, ref_of
+from .values import I64, U8, U32, U64, Body, Code, Item, Pid, Reason, Ref, number, of_type
 
 __all__ = [
     "AskFault", "Call", "Door", "HEARD", "Heard", "Post", "Request", "WayIn", "ask", "has_letters", "is_call", "letters_out",
-    "reply", "request_of", "way_in",
+    "look_from", "next_from", "reply", "request_of", "way_in",
 ]
 
 # What an item means to a call.
@@ -135,17 +135,19 @@ def _ask(desk: Desk, me: CPid, server: CPid, asks: int, *until: int) -> CCall:
     """The same of what crosses."""
     call = CCall()
     try:
-        return desk._give(lib.pt_ask_until if until else lib.pt_ask, call, me, server, asks, *until)
+        if until:
+            return desk._give(ASK, call, me, server, c.c_uint32(asks), c.c_uint64(*until))
+        return desk._give(lib.pt_ask, call, me, server, asks)
     except Fault as fault:
         raise AskFault(fault.code, fault.call, fault.pids, Call(call).left_open) from None
 
 
 def _hear(desk: Desk, call: CCall, item: CItem) -> CHeard:
-    return desk._give(lib.pt_hear, CHeard(), c.byref(call), item)
+    return desk._give(HEAR, CHeard(), c.byref(call), item)
 
 
 def _expire(desk: Desk, call: CCall, now: int) -> bool:
-    return desk._give(lib.pt_expire, c.c_bool(), c.byref(call), now).value
+    return desk._give(EXPIRE, c.c_bool(), c.byref(call), c.c_uint64(now)).value
 
 
 def request_of(item: Item) -> Optional[Request]:
@@ -180,7 +182,7 @@ def reply(desk: Desk, me: Pid, request: Request, answer: int) -> None:
 
 
 def _reply(desk: Desk, me: CPid, request: CRequest, answer: int) -> None:
-    desk._must(lib.pt_reply, me, request, answer)
+    desk._must(REPLY, me, request, c.c_uint32(answer))
 
 
 def letters_out(desk: Desk) -> int:
@@ -193,6 +195,19 @@ def has_letters(desk: Desk) -> bool:
     """Whether a letter waits in the desk, or in a lane to it that shows one. If not, a turn does nothing until another desk
     posts to this one. Fault: EMPTY."""
     return of_type("desk", desk, Desk)._give(lib.pt_has_letters, c.c_bool()).value
+
+
+def look_from(desk: Desk, start: int) -> None:
+    """Lets the next turn look at the lane from this desk before the others. So `desk.turn(1)` handles the oldest letter of
+    that lane, if it shows one. Nothing changes if the node has no such desk. Fault: EMPTY."""
+    of_type("desk", desk, Desk)._must(lib.pt_look_from, number("start", start, 0, U8))
+
+
+def next_from(desk: Desk) -> Optional[int]:
+    """The desk whose lane the next letter comes from: the first that shows one, from where the next turn looks first. None if
+    no lane shows a letter. Fault: EMPTY."""
+    found = of_type("desk", desk, Desk)._find(lib.pt_next_from, c.c_uint8())
+    return None if found is None else found.value
 
 
 class Post(NamedTuple):

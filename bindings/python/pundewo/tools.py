@@ -21,7 +21,7 @@ from typing import Iterator, NamedTuple, Optional
 
 from . import _fault, _Held
 from ._abi import CFired, CHolder, CName, CPid, CRef, CTimer
-from ._library import c_pid, c_ref, lib, pid_of, ref_of
+from ._library import CANCEL_TIMER, START_TIMER, c_pid, c_ref, lib, pid_of, ref_of
 from .values import U64, Code, Pid, Ref, number, of_type
 
 __all__ = ["Fired", "Groups", "Holder", "Left", "Names", "Timer", "Timers"]
@@ -85,7 +85,7 @@ class Timers(_Held):
         if not self._lock.acquire(False):
             raise self._busy()
         try:
-            code = lib.pt_timers_start(self._at, at, body, c.byref(out))
+            code = START_TIMER(self._at, c.c_uint64(at), c.c_uint64(body), c.byref(out))
         finally:
             self._lock.release()
         if code:
@@ -97,7 +97,7 @@ class Timers(_Held):
         return self._cancel(_c_timer("timer", timer))
 
     def _cancel(self, timer: CTimer) -> bool:
-        code = self._call(lib.pt_timers_cancel, timer)
+        code = self._call(CANCEL_TIMER, timer)
         if code and code != Code.NOTHING:
             raise _fault(lib.pt_timers_cancel, (), code)
         return not code

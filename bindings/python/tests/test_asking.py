@@ -8,7 +8,9 @@ from collections.abc import Callable
 from typing import Any
 
 import pundewo as p
-from pundewo.asking import Call, Heard, Post, Request, ask, has_letters, is_call, letters_out, reply, request_of, way_in
+from pundewo.asking import (
+    Call, Heard, Post, Request, ask, has_letters, is_call, letters_out, look_from, next_from, reply, request_of, way_in,
+)
 
 
 class CallsTest(unittest.TestCase):
@@ -89,6 +91,8 @@ class CallsTest(unittest.TestCase):
         self.fails(p.Code.EMPTY, ask, desk, client, server, 1)
         self.fails(p.Code.EMPTY, letters_out, desk)
         self.fails(p.Code.EMPTY, has_letters, desk)
+        self.fails(p.Code.EMPTY, look_from, desk, 0)
+        self.fails(p.Code.EMPTY, next_from, desk)
 
 
 class LettersTest(unittest.TestCase):
@@ -103,6 +107,24 @@ class LettersTest(unittest.TestCase):
         self.assertEqual((letters_out(desks[0]), has_letters(desks[0]), has_letters(desks[2])), (0, False, True))
         desks[2].turn()
         self.assertEqual((has_letters(desks[2]), has_letters(desks[1])), (False, False))
+
+    def test_a_turn_takes_the_lane_that_it_is_told_to(self) -> None:
+        desks = p.open_node(3)
+        to = desks[2].spawn()
+        self.assertIsNone(next_from(desks[2]))
+        for place, desk in enumerate(desks[:2]):
+            sender = desk.spawn()
+            for num in range(2):
+                desk.send(sender, to, p.Body(1, 10 * place + num))
+            desk.turn()
+        self.assertEqual((next_from(desks[2]), next_from(desks[0])), (0, None))
+        for looks, takes in ((1, 1), (2, 0), (0, 0), (3, 1)):
+            look_from(desks[2], looks)
+            self.assertEqual((next_from(desks[2]), desks[2].turn(1).handled), (takes, 1))
+        self.assertEqual((next_from(desks[2]), has_letters(desks[2])), (None, False))
+        came = [item.body.num for item in desks[2].waiting(to) or () if item.body is not None]
+        self.assertEqual(came, [10, 0, 1, 11])
+        self.assertRaises(ValueError, look_from, desks[2], 256)
 
 
 class WayInTest(unittest.TestCase):

@@ -56,6 +56,20 @@ class Examples(unittest.TestCase):
         self.assertEqual(said[2:], ["call somebody: the run halted: OSError: no space left on device",
                                     "the program is told: the run halted: OSError: no space left on device"])
 
+    def test_a_race_under_every_schedule(self) -> None:
+        said = self.run_it("lost_update").splitlines()
+        self.assertEqual((said[0], said[-1]), ("{'1': 60, '2': 8}", "{'2': 10} True"))
+        self.assertEqual(said[1:4], ["this outcome was not expected: 1", "the shortest schedule found: ", "its history:"])
+
+    def test_a_run_that_is_watched_by_pages(self) -> None:
+        printed = self.run_it("pages", "2500", "1")
+        self.assertRegex(printed, r"(?m)^2501 processes are on 3 pages$")
+        self.assertRegex(printed, r"(?m)^with a look at a page it is stopped: \d+ times, [\d.]+ ms at the median, .* ms at most; \d+ epochs ended$")
+        told = re.search(r"2500 runners: (\d+) throws, (\d+) handled, 32 of 32 caught; the view has (\d+) messages and 0 lost", printed)
+        assert told is not None, printed
+        self.assertEqual(int(told[1]) + 32, int(told[2]))
+        self.assertEqual(told[2], told[3])
+
     def test_a_run_that_shows_itself(self) -> None:
         said = self.run_it("watched", "1.5").splitlines()
         self.assertRegex(said[0], r"^http://127\.0\.0\.1:\d+/[0-9a-f]{32}/$")

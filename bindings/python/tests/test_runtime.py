@@ -255,7 +255,7 @@ class Handlers(unittest.TestCase):
             got.append(event.value)
             return r.Next.stop() if event.value == 3 else None
 
-        for place in ("turn", "go_on", "_send", "_step"):
+        for place in ("go_on", "_send", "_advance"):
             with self.subTest(place):
                 got.clear()
                 run = r.Runtime(going_on_every=4)
@@ -263,7 +263,7 @@ class Handlers(unittest.TestCase):
                 for number in range(4):
                     address.send(number)
                 left = [2]
-                kind: Any = {"go_on": _engine, "_step": p.Crew}.get(place, p.Desk)
+                kind: Any = {"go_on": _engine, "_advance": p.Crew}.get(place, p.Desk)
                 real = getattr(kind, place)
 
                 def failing(*words: Any) -> Any:

@@ -9,7 +9,6 @@ import random
 import threading
 import time
 import unittest
-from types import SimpleNamespace
 from typing import Any, Callable
 from unittest import mock
 
@@ -306,9 +305,8 @@ class Refused(unittest.TestCase):
     def test_of_a_call_that_is_refused_nothing_is_kept(self) -> None:
         """The desk has no memory for the request, or for the timer of the call."""
         def start(cx: r.Context) -> r.Next:
-            full = SimpleNamespace(pt_ask_until=lambda *_: p.Code.MEMORY, pt_timers_start=lambda *_: p.Code.MEMORY)
-            for module in (asking, tools):
-                with mock.patch.object(module, "lib", full), self.assertRaises(p.Fault):
+            for module, name in ((asking, "ASK"), (tools, "START_TIMER")):
+                with mock.patch.object(module, name, lambda *_: p.Code.MEMORY), self.assertRaises(p.Fault):
                     cx.call(server, 1, 0.01)
                 self.assertEqual((len(cx._engine.payloads), len(cx._seat.calls)), (0, 0))
             return r.Next.wait(0.1)

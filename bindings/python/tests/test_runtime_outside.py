@@ -4,13 +4,56 @@ from __future__ import annotations
 
 import asyncio
 import threading
+import time
 import unittest
-from typing import Any, Callable
+from typing import Any, Callable, Optional
 
 import pundewo as p
 from pundewo import runtime as r
 
 from behaviours import Doing, Echo, in_asyncio, is_watched, quiet, run_and_stop, until, wait_until
+
+
+class Turns(unittest.TestCase):
+    @in_asyncio
+    async def test_a_program_has_its_turn_behind_each_step_of_slow_handlers(self) -> None:
+        told = 0
+        counts: list[int] = []
+
+        def slow(cx: r.Context, event: object) -> r.Next:
+            nonlocal told
+            told += 1
+            time.sleep(0.002)
+            return r.Next.proceed()
+
+        async with r.Runtime() as run:
+            for _ in range(4):
+                run.spawn(Doing(slow, lambda cx: r.Next.proceed()))
+            for _ in range(30):
+                before = told
+                await asyncio.sleep(0)
+                counts.append(told - before)
+        self.assertGreater(told, 30)
+        self.assertLessEqual(max(counts), 4)
+
+    def test_a_round_has_some_steps_and_no_more_than_are_needed(self) -> None:
+        run = r.Runtime()
+        told: list[int] = []
+
+        def back(cx: r.Context, event: Any) -> Optional[r.Next]:
+            told.append(event.value)
+            if not event.value:
+                return r.Next.stop()
+            cx.send(cx.me, event.value - 1)
+            return None
+
+        run.spawn(Doing(back)).send(3)
+        run._engine.thread = threading.get_ident()
+        while not told:
+            run._engine.round()
+        self.assertEqual(told, [3, 2, 1, 0])
+        run._engine.thread = None
+        self.assertEqual(run.run().spawned, 1)
 
 
 class Calls(unittest.TestCase):

@@ -87,6 +87,25 @@ def sums(view: r.View) -> tuple[int, ...]:
 
 
 class Views(Runs):
+    def test_pages_have_each_live_process_once_by_birth(self) -> None:
+        runtime = self.start(desks=2)
+        all_ = [runtime.spawn(Counter()) for _ in range(400)]
+        for k, process in enumerate(all_):
+            if k % 4 != 0:
+                # (it crashes)
+                process.send(0)
+        left = {process.pid for process in all_[::4]}
+        view = self.until(runtime, lambda view: sum(desk.processes for desk in view.desks) == len(left))
+        found: list[p.Pid] = []
+        after: Optional[int] = None
+        while True:
+            view = runtime.view(after, processes=7, limit=LONG)
+            found += [process.pid for process in view.processes]
+            after = view.next
+            if after is None:
+                break
+        self.assertEqual(found, [process.pid for process in all_[::4]])
+
     def test_a_process_is_seen_with_what_it_has(self) -> None:
         runtime = self.start(desks=2)
         picky = runtime.spawn(Waits(r.Next.only(p.Pick("kind", 70))), desk=0)
@@ -105,7 +124,7 @@ class Views(Runs):
 
         def all_came(view: r.View) -> bool:
             both = [self.seen(view, it) for it in (picky, selective)]
-            return [it.mailbox.count + it.aside for it in both] == [3, 3] and both[0].links.count == 1
+            return [(it.mailbox.count, it.aside) for it in both] == [(3, 0), (0, 3)] and both[0].links.count == 1
 
         view = self.until(runtime, all_came)
         it = self.seen(view, picky)

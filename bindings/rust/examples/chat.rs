@@ -29,7 +29,7 @@ const LINGER: Duration = Duration::from_secs(1);
 const PATIENCE: Duration = Duration::from_secs(5);
 
 /// A line is on its way until this is dropped: one more of its client may be read then.
-struct Permit(Arc<Mutex<mpsc::Receiver<()>>>);
+pub struct Permit(pub Arc<Mutex<mpsc::Receiver<()>>>);
 
 impl Drop for Permit {
     fn drop(&mut self) {
@@ -38,7 +38,7 @@ impl Drop for Permit {
 }
 
 /// A line for all in a room. It is on its way until each of them has it.
-struct Line {
+pub struct Line {
     text: Arc<str>,
     _permit: Option<Permit>,
 }
@@ -49,13 +49,13 @@ impl Line {
     }
 }
 
-enum ToRoom {
+pub enum ToRoom {
     Join(Address<ToMember>),
     Say(String, Permit),
 }
 
 /// Those who are in the room.
-struct Room(Group<ToMember>);
+pub struct Room(pub Group<ToMember>);
 
 impl Room {
     fn tell(&self, cx: &mut Context<'_, ToRoom>, line: &Arc<Line>) {
@@ -82,7 +82,7 @@ impl Behaviour for Room {
     }
 }
 
-enum ToMember {
+pub enum ToMember {
     Heard(String, Permit),
     Told(Arc<Line>),
     Refused(String),
@@ -90,12 +90,16 @@ enum ToMember {
 }
 
 /// What is to be written to a client, and how many bytes of it wait.
-struct Out {
+pub struct Out {
     texts: mpsc::Sender<Arc<str>>,
     waiting: Arc<AtomicUsize>,
 }
 
 impl Out {
+    pub fn new(texts: mpsc::Sender<Arc<str>>, waiting: Arc<AtomicUsize>) -> Out {
+        Out { texts, waiting }
+    }
+
     /// Has a text written, and returns whether not too much waits.
     fn write(&self, text: Arc<str>) -> bool {
         let before = self.waiting.fetch_add(text.len() + LINE, SeqCst);
@@ -103,13 +107,17 @@ impl Out {
     }
 }
 
-struct Member {
+pub struct Member {
     rooms: Arc<Vec<Address<ToRoom>>>,
     room: Option<Address<ToRoom>>,
     out: Out,
 }
 
 impl Member {
+    pub fn new(rooms: Arc<Vec<Address<ToRoom>>>, out: Out) -> Member {
+        Member { rooms, room: None, out }
+    }
+
     /// It exits, and this is the last that its client is told.
     fn refuse(&self, why: &str) -> Next {
         self.out.write(format!("refused: {why}").into());
@@ -214,8 +222,7 @@ fn serve(served: Served, rooms: &Arc<Vec<Address<ToRoom>>>, handle: &Handle) -> 
     served.stream.set_nodelay(true)?;
     served.stream.set_write_timeout(Some(PATIENCE))?;
     let ((texts, get), waiting) = (mpsc::channel(), Arc::<AtomicUsize>::default());
-    let out = Out { texts, waiting: waiting.clone() };
-    let member = Member { rooms: rooms.clone(), room: None, out };
+    let member = Member::new(rooms.clone(), Out::new(texts, waiting.clone()));
     let member = handle.spawn(member).map_err(|fault| io::Error::other(fault.to_string()))?;
     let (served, thread) = (Arc::new(served), std::thread::Builder::new);
     let (reads, to, of) = (served.clone(), member.clone(), member.clone());

@@ -28,16 +28,16 @@ const RINGS: Duration = Duration::from_millis(50);
 const AGAIN: Next = Next::WaitFor(Duration::from_millis(20));
 const LONG: Duration = Duration::from_secs(60);
 /// How many words a caller says, without the noise.
-const WORDS: u32 = 5;
+pub const WORDS: u32 = 5;
 
 /// How many words the lines heard, and how many callers heard of a crash.
 #[derive(Default)]
-struct Tally {
-    heard: AtomicU64,
-    cut_off: AtomicU64,
+pub struct Tally {
+    pub heard: AtomicU64,
+    pub cut_off: AtomicU64,
 }
 
-enum ToLine {
+pub enum ToLine {
     /// The answer is `true` when somebody picks up, and `false` if the line is busy.
     Ring(Pid, Reply<bool>),
     PickUp,
@@ -102,7 +102,7 @@ enum Doing {
     Talks(Address<ToLine>, Ref),
 }
 
-struct Caller {
+pub struct Caller {
     line: Name<ToLine>,
     words: u32,
     noisy: bool,
@@ -113,6 +113,10 @@ struct Caller {
 }
 
 impl Caller {
+    pub fn new(line: Name<ToLine>, noisy: bool, tally: Arc<Tally>, tell: Sender<(bool, u32)>) -> Caller {
+        Caller { line, words: WORDS, noisy, doing: Doing::Waits, tally, tell }
+    }
+
     fn ring(&mut self, cx: &mut Context<'_, ()>) -> Next {
         let Some(line) = self.line.whereis() else { return AGAIN };
         let me = cx.pid();
@@ -170,7 +174,7 @@ impl Behaviour for Caller {
 }
 
 /// A supervisor of the lines of a desk.
-fn exchange(names: &[Name<ToLine>], tally: &Arc<Tally>) -> Supervisor {
+pub fn exchange(names: &[Name<ToLine>], tally: &Arc<Tally>) -> Supervisor {
     names.iter().fold(Supervisor::one_for_one().limit(1_000, Duration::from_secs(1)), |supervisor, name| {
         let (tally, home) = (tally.clone(), name.text() != AWAY);
         let make = move || Phone { home, line: Line::Idle, tally: tally.clone() };
@@ -196,7 +200,7 @@ fn main() -> Result<(), Box<dyn std::error::Error>> {
     let (tell, ends) = channel();
     for number in 0..callers {
         let (line, tally, tell) = (names[number % names.len()].clone(), tally.clone(), tell.clone());
-        runtime.spawn(Caller { line, words: WORDS, noisy: number % 7 == 3, doing: Doing::Waits, tally, tell })?;
+        runtime.spawn(Caller::new(line, number % 7 == 3, tally, tell))?;
         std::thread::sleep(STEPS);
     }
     drop(tell);

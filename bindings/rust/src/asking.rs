@@ -240,6 +240,20 @@ impl Desk {
         unsafe { raw::pt_has_letters(self.handle.own(), &mut out) };
         out
     }
+
+    /// Lets the next turn look at the lane from desk `from` before the others. So `turn(1)` handles the oldest letter of that
+    /// lane, if it shows one. Does nothing if the node has no such desk.
+    pub fn look_from(&mut self, from: u8) {
+        unsafe { raw::pt_look_from(self.handle.own(), from) };
+    }
+
+    /// The desk whose lane the next letter comes from: the first that shows one, from where the next turn looks first. `None`
+    /// if no lane shows a letter.
+    pub fn next_from(&mut self) -> Option<u8> {
+        let mut out = 0;
+        let code = unsafe { raw::pt_next_from(self.handle.own(), &mut out) };
+        found(code, out)
+    }
 }
 
 /// A message from a thread without a desk, to a process of any desk.

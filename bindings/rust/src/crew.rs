@@ -1,12 +1,13 @@
 //! The processes of one desk whose handlers are the program's own, and their supervisors.
 
 use crate::raw::{
-    self, Handle, RawAnswer, RawChild, RawChildCounts, RawChildSpec, RawGaveUp, RawJob, RawNext, RawTurned,
+    self, Handle, RawAnswer, RawChild, RawChildCounts, RawChildSpec, RawGaveUp, RawJob, RawLoss, RawNext, RawPick,
+    RawReason, RawRef, RawTurned,
 };
 use crate::supervisors::{Child, ChildCounts, ChildFault, ChildSpec, GaveUp, Origin, SupervisorSpec, asked};
 use crate::{
-    Desk, Fault, Gathered, Held, History, Item, Lineage, Loss, NONE, OK, Pick, Pid, Quiet, Reason, Turned, desks_of,
-    fault_of, found, is_whole, told,
+    Body, Desk, Fault, Gathered, Held, History, Item, Lineage, Loss, NONE, OK, Pick, Pid, Quiet, Reason, Turned,
+    desks_of, fault_of, found, is_whole, told,
 };
 use std::fmt;
 use std::mem;
@@ -222,14 +223,37 @@ impl Crew {
     ///
     /// [`Fault::WrongDesk`], and then `jobs` is as it was.
     pub fn step(&mut self, desk: &mut Desk, budget: u32, most: usize, jobs: &mut Vec<Job>) -> Result<Turned, Fault> {
+        let (turned, count) = self.step_over(desk, budget, most)?;
+        jobs.clear();
+        jobs.extend(self.told[..count].iter().map(Job::from));
+        Ok(turned)
+    }
+
+    /// The same, but the jobs stay here, and it returns how many they are: [`job`](Crew::job) has each.
+    #[inline]
+    pub(crate) fn step_over(&mut self, desk: &mut Desk, budget: u32, most: usize) -> Result<(Turned, usize), Fault> {
         self.is_of(desk)?;
-        self.told.resize(most, RawJob::default());
+        if self.told.len() < most {
+            self.told.resize(most, RawJob::default());
+        }
         let (mut count, mut turned, buffer) = (0, RawTurned::default(), self.told.as_mut_ptr());
         let (crew, desk) = (self.handle.own(), desk.handle.own());
         told(unsafe { raw::pt_crew_step(crew, desk, budget, buffer, most, &mut count, &mut turned) })?;
-        jobs.clear();
-        jobs.extend(self.told[..count].iter().map(|&job| Job::from(job)));
-        Ok(turned.into())
+        Ok((turned.into(), count))
+    }
+
+    /// The job in this place of the last step, if it is a message: its process with its tag, the sender, and the body.
+    #[inline(always)]
+    pub(crate) fn letter(&self, place: usize) -> Option<(Pid, u64, Pid, Body)> {
+        let job = &self.told[place];
+        let is_letter = job.code == raw::PT_JOB_ITEM && job.item.code == raw::PT_ITEM_USER;
+        is_letter.then(|| (job.pid, job.tag, job.item.pid, job.item.body.into()))
+    }
+
+    /// The job in this place of the last step.
+    #[inline(always)]
+    pub(crate) fn job(&self, place: usize) -> Job {
+        Job::from(&self.told[place])
     }
 
     /// Says what running processes do next. The answers are taken in order, up to the first that is refused.
@@ -239,14 +263,26 @@ impl Crew {
     /// [`Fault::NotRunning`], if the process of an answer is not running or none of the crew. By that answer nothing has
     /// changed.
     pub fn answer(&mut self, answers: &[(Pid, Next)]) -> Result<(), NotTaken> {
-        let raw_of = |&(pid, next): &(Pid, Next)| RawAnswer { pid, next: next.into() };
         self.answers.clear();
-        self.answers.extend(answers.iter().map(raw_of));
+        answers.iter().for_each(|&(pid, next)| self.note_answer(pid, next));
+        self.answer_noted()
+    }
+
+    /// Notes an answer, which [`answer_noted`](Crew::answer_noted) gives with the others.
+    #[inline(always)]
+    pub(crate) fn note_answer(&mut self, pid: Pid, next: Next) {
+        // (most wait for whatever comes)
+        let next = if matches!(next, Next::Wait(Pick::Any)) { WAIT } else { next.into() };
+        self.answers.push(RawAnswer { pid, next });
+    }
+
+    /// Gives the answers that were noted, as [`answer`](Crew::answer) does.
+    #[inline]
+    pub(crate) fn answer_noted(&mut self) -> Result<(), NotTaken> {
         let (mut taken, buffer) = (0, self.answers.as_ptr());
-        match unsafe { raw::pt_crew_answer(self.handle.own(), buffer, answers.len(), &mut taken) } {
-            OK => Ok(()),
-            code => Err(NotTaken { taken, fault: fault_of(code) }),
-        }
+        let code = unsafe { raw::pt_crew_answer(self.handle.own(), buffer, self.answers.len(), &mut taken) };
+        self.answers.clear();
+        if code == OK { Ok(()) } else { Err(NotTaken { taken, fault: fault_of(code) }) }
     }
 
     /// The oldest loss of the desk that was not told, as [`Desk::next_loss`] returns it. The crew notes the reason of the
@@ -258,10 +294,18 @@ impl Crew {
     /// # Errors
     ///
     /// [`Fault::WrongDesk`].
+    #[inline]
     pub fn next_loss(&mut self, desk: &mut Desk) -> Result<Option<Loss>, Fault> {
         self.is_of(desk)?;
+        let Some(loss) = desk.first_loss() else { return Ok(None) };
+        Ok(Some(self.take_loss(desk, loss)))
+    }
+
+    /// Takes the oldest loss of the desk, which is this one.
+    #[cold]
+    fn take_loss(&mut self, desk: &mut Desk, loss: RawLoss) -> Loss {
         unsafe { raw::pt_crew_note_loss(self.handle.own(), desk.handle.own(), 0) };
-        Ok(desk.next_loss())
+        desk.take_loss(loss)
     }
 
     /// Says what time it is in the calls that follow, in a unit of the program's own.
@@ -482,6 +526,14 @@ impl Crew {
         unsafe { raw::pt_crew_refused(&mut self.handle.lent(), &mut out) };
         out
     }
+
+    /// The same, without a lock.
+    #[inline]
+    pub(crate) fn was_refused(&mut self) -> bool {
+        let mut out = false;
+        unsafe { raw::pt_crew_refused(self.handle.own(), &mut out) };
+        out
+    }
 }
 
 /// The child in this place. The handle is that of a crew, and is lent to this call alone.
@@ -650,6 +702,13 @@ fn desks_again(handles: Vec<Handle>, origin: Lineage, node: Option<u64>) -> Vec<
     desks
 }
 
+/// That of [`Next::Wait`] for whatever comes.
+const WAIT: RawNext = {
+    let (pid, reference) = (Pid { shard: 0, slot: 0, version: 0 }, RawRef { desk: 0, number: 0 });
+    let pick = RawPick { code: raw::PT_PICK_ANY, kind: 0, pid, reference };
+    RawNext { code: raw::PT_NEXT_WAIT, reason: RawReason { code: 0, number: 0 }, until: 0, pick }
+};
+
 impl From<Next> for RawNext {
     #[inline]
     fn from(next: Next) -> RawNext {
@@ -679,9 +738,9 @@ impl From<RawNext> for Next {
     }
 }
 
-impl From<RawJob> for Job {
-    #[inline]
-    fn from(raw: RawJob) -> Job {
+impl From<&RawJob> for Job {
+    #[inline(always)]
+    fn from(raw: &RawJob) -> Job {
         let what = match raw.code {
             raw::PT_JOB_START => {
                 let origin = Origin { supervisor: raw.supervisor, again: raw.again };

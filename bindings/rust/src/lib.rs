@@ -451,9 +451,20 @@ impl Desk {
 
     /// The oldest loss that was not told. Each is told once.
     pub fn next_loss(&mut self) -> Option<Loss> {
+        let loss = self.first_loss()?;
+        Some(self.take_loss(loss))
+    }
+
+    /// The oldest loss, which stays. (mostly there is none)
+    #[inline]
+    pub(crate) fn first_loss(&mut self) -> Option<RawLoss> {
         let mut out = RawLoss::default();
         let code = unsafe { raw::pt_loss_at(self.handle.own(), 0, &mut out) };
-        let out = found(code, out)?;
+        found(code, out)
+    }
+
+    /// Takes the oldest loss, which is this one.
+    pub(crate) fn take_loss(&mut self, out: RawLoss) -> Loss {
         let mut items = Vec::with_capacity(out.items);
         for place in 0..out.items {
             let mut item = RawItem::default();
@@ -461,7 +472,7 @@ impl Desk {
             items.push(item.into());
         }
         unsafe { raw::pt_next_loss(self.handle.own()) };
-        Some(Loss { pid: out.pid, reason: out.has_exited.then(|| out.reason.into()), items })
+        Loss { pid: out.pid, reason: out.has_exited.then(|| out.reason.into()), items }
     }
 
     /// Takes the first item that matches out of the mailbox of p, and `None` if none does: Erlang's `receive .. after 0`.
@@ -622,6 +633,14 @@ impl Desk {
     pub fn event_count(&self) -> usize {
         let mut out = 0;
         unsafe { raw::pt_event_count(&mut self.handle.lent(), &mut out) };
+        out
+    }
+
+    /// The same as [`event_count`](Desk::event_count), without a lock.
+    #[inline]
+    pub(crate) fn events_now(&mut self) -> usize {
+        let mut out = 0;
+        unsafe { raw::pt_event_count(self.handle.own(), &mut out) };
         out
     }
 

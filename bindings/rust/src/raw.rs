@@ -699,6 +699,8 @@ unsafe extern "C" {
     pub fn pt_turn(desk: &mut Handle, budget: u32, out: &mut RawTurned) -> u32;
     pub fn pt_letters_out(desk: &mut Handle, out: &mut u64) -> u32;
     pub fn pt_has_letters(desk: &mut Handle, out: &mut bool) -> u32;
+    pub fn pt_look_from(desk: &mut Handle, from: u8) -> u32;
+    pub fn pt_next_from(desk: &mut Handle, out: &mut u8) -> u32;
     pub fn pt_ask(desk: &mut Handle, me: Pid, server: Pid, asks: u32, out: &mut RawCall) -> u32;
     pub fn pt_ask_until(desk: &mut Handle, me: Pid, server: Pid, asks: u32, deadline: u64, out: &mut RawCall) -> u32;
     pub fn pt_hear(desk: &mut Handle, call: &mut RawCall, item: RawItem, out: &mut RawHeard) -> u32;

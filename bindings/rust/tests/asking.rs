@@ -57,6 +57,36 @@ fn letters_say_whom_to_wake() -> Result<(), Fault> {
 }
 
 #[test]
+fn a_turn_takes_the_lane_that_it_is_told_to() -> Result<(), Fault> {
+    let mut desks = open(3, Config::default())?;
+    let from = [desks[0].spawn()?, desks[1].spawn()?];
+    let to = desks[2].spawn()?;
+    assert_eq!(desks[2].next_from(), None);
+    for (desk, sender) in from.into_iter().enumerate() {
+        for num in 0..2 {
+            desks[desk].send(sender, to, Body { kind: 1, num: 10 * desk as i64 + num, who: None })?;
+        }
+        desks[desk].turn(64);
+    }
+    assert_eq!((desks[2].next_from(), desks[0].next_from()), (Some(0), None));
+    for (looks, takes) in [(1, 1), (2, 0), (0, 0), (3, 1)] {
+        desks[2].look_from(looks);
+        assert_eq!((desks[2].next_from(), desks[2].turn(1).handled), (Some(takes), 1));
+    }
+    assert_eq!((desks[2].next_from(), desks[2].has_letters()), (None, false));
+    let came: Vec<i64> = desks[2].waiting(to).into_iter().flatten().map(number_of).collect();
+    assert_eq!(came, [10, 0, 1, 11]);
+    Ok(())
+}
+
+fn number_of(item: Item) -> i64 {
+    match item {
+        Item::User(_, body) => body.num,
+        other => panic!("{other}"),
+    }
+}
+
+#[test]
 fn what_is_handed_in_is_taken_out_in_order() -> Result<(), Fault> {
     let (mut door, mut way_in) = way_in(2)?;
     let post = |num| Post { to: Pid { shard: 0, slot: 1, version: 1 }, body: Body { kind: 3, num, who: None } };

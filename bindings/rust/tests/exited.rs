@@ -354,3 +354,37 @@ fn such_an_exit_signal_is_trapped_in_time() -> Result<(), Error> {
     assert_eq!((runtime.wait()?.panics, told.try_recv().is_err()), (0, true));
     Ok(())
 }
+
+/// Tells with which reason it has exited.
+struct Tells(u32, Sender<(u32, Reason)>);
+
+impl Behaviour for Tells {
+    type Message = ();
+
+    fn handle(&mut self, _: &mut Context<'_, ()>, _: Event<()>) -> Next {
+        Next::Wait
+    }
+
+    fn ended(self, why: Reason) {
+        self.1.send((self.0, why)).expect("a receiver");
+    }
+}
+
+#[test]
+fn each_of_many_exits_is_told_with_its_reason() -> Result<(), Error> {
+    const COUNT: u32 = 600;
+    let runtime = Runtime::builder().desks(1).slots(COUNT + 2).start()?;
+    let (give, told) = channel();
+    let tells = (0..COUNT).map(|number| runtime.spawn(Tells(number, give.clone())));
+    let all: Vec<Address<()>> = tells.collect::<Result<_, _>>()?;
+    // (by exit signals, of which their crew hears by what the desk has lost, and in another order than they were spawned)
+    for (number, address) in (0..COUNT).zip(&all).rev() {
+        runtime.exit(address, if number == 7 { Reason::Noproc } else { Reason::Other(number) })?;
+    }
+    for _ in 0..COUNT {
+        let (number, why) = told.recv_timeout(LONG)?;
+        assert_eq!(why, if number == 7 { Reason::Noproc } else { Reason::Other(number) });
+    }
+    runtime.stop()?;
+    Ok(())
+}

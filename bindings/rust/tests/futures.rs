@@ -91,7 +91,10 @@ fn a_call_is_awaited_and_ends_once() -> Result<(), Error> {
     for (asking, n) in asked.into_iter().zip(0..9).rev() {
         assert_eq!(block_on(asking), Ok(2 * n));
     }
-    assert_eq!((block_on(late), block_on(crash), block_on(kept)), (Err(crashed()), Err(crashed()), Err(crashed())));
+    // (the last one is asked behind the crash, so the server may have exited by then)
+    let told = block_on(late);
+    assert!(told == Err(crashed()) || told == Err(CallFault::Down(Reason::Noproc, None)), "{told:?}");
+    assert_eq!((block_on(crash), block_on(kept)), (Err(crashed()), Err(crashed())));
     assert_eq!(block_on(server.ask(never)), Err(CallFault::Down(Reason::Noproc, None)));
     // it exits by itself, or is told to
     for (reason, told) in [(Reason::Normal, None), (Reason::Other(5), None), (Reason::Killed, Some(Reason::Kill))] {

@@ -2,6 +2,7 @@
 
 mod trials;
 
+use pundewo::Pid;
 use pundewo::runtime::{Address, Behaviour, CallFault, Context, Event, Name, Next, SpawnFault};
 use pundewo::trial::{Found, Trial, World, Wrong};
 use std::panic::{AssertUnwindSafe, catch_unwind};
@@ -40,6 +41,11 @@ fn a_lost_update_is_found_replayed_and_mended() {
     let again = adders(2, false).coarse().replay(&lost.schedule().to_string());
     assert_eq!((again.outcome.as_deref(), again.wrong), (Some("value 1"), None));
     assert_eq!(again.history, lost.history());
+    let file = std::env::temp_dir().join(format!("pundewo_trial_{}", std::process::id()));
+    lost.save(&file).expect("a folder for what is left");
+    let saved = std::fs::read_to_string(&file).expect("a file");
+    std::fs::remove_file(&file).expect("the file that was written");
+    assert!(saved.ends_with('\n') && saved.lines().eq(lost.history()), "{saved}");
     adders(2, true).coarse().every().expect(["value 2"]);
 }
 
@@ -75,6 +81,70 @@ fn a_limit_and_the_reduction_are_the_same_on_threads() {
     let reduced = trial().reduced().every();
     assert_eq!(counts(&reduced), counts(&trial().reduced().threads(3).every()));
     reduced.expect(["value 1", "value 2"]);
+}
+
+/// Keeps the words that it is told.
+#[derive(Default)]
+struct Listens(Vec<&'static str>);
+
+impl Behaviour for Listens {
+    type Message = &'static str;
+
+    fn handle(&mut self, _: &mut Context<'_, &'static str>, event: Event<&'static str>) -> Next {
+        if let Event::Message(word) = event {
+            self.0.push(word);
+        }
+        Next::Wait
+    }
+}
+
+/// Tells each of these a word, as it begins or as it is told something.
+struct Tells(Vec<(Address<&'static str>, &'static str)>, bool);
+
+impl Behaviour for Tells {
+    type Message = &'static str;
+
+    fn started(&mut self, cx: &mut Context<'_, &'static str>) -> Next {
+        if self.1 { self.handle(cx, Event::Timeout) } else { Next::Wait }
+    }
+
+    fn handle(&mut self, cx: &mut Context<'_, &'static str>, _: Event<&'static str>) -> Next {
+        self.0.drain(..).for_each(|(to, word)| _ = cx.send(&to, word));
+        Next::DONE
+    }
+}
+
+fn words(world: &World, listens: &Address<&'static str>) -> String {
+    world.behaviour(listens, |it: &Listens| it.0.join(" ")).expect("it lives")
+}
+
+#[test]
+fn what_is_sent_to_two_may_come_to_the_second_first() {
+    // (the first one sends to the third and to the second, and that one to the third: in either order of desks)
+    for [first, second, third] in [[0, 1, 2], [2, 1, 0]] {
+        let scenario = move |world: &mut World| {
+            let listens = world.spawn_on(third, Listens::default());
+            let tells = world.spawn_on(second, Tells(vec![(listens.clone(), "second")], false));
+            world.spawn_on(first, Tells(vec![(listens.clone(), "first"), (tells, "tell")], true));
+            listens
+        };
+        let trial = Trial::of(scenario).desks(3).outcome(words);
+        trial.random(200, 1).expect(["first second", "second first"]);
+    }
+}
+
+#[test]
+fn letters_of_several_desks_come_in_each_order() {
+    let scenario = |world: &mut World| {
+        let listens = world.spawn_on(0, Listens::default());
+        for (desk, word) in [(1, "one"), (2, "two"), (3, "three")] {
+            world.spawn_on(desk, Tells(vec![(listens.clone(), word)], true));
+        }
+        listens
+    };
+    let found = Trial::of(scenario).desks(4).outcome(words).random(300, 1);
+    found
+        .expect(["one two three", "one three two", "two one three", "two three one", "three one two", "three two one"]);
 }
 
 #[test]
@@ -230,6 +300,77 @@ fn wrong(fault: Fault) -> Wrong {
     found.failure().expect("a failure").wrong().clone()
 }
 
+/// Goes on so many times, and exits.
+struct Passes(u32);
+
+impl Behaviour for Passes {
+    type Message = ();
+
+    fn started(&mut self, _: &mut Context<'_, ()>) -> Next {
+        Next::Proceed
+    }
+
+    fn handle(&mut self, _: &mut Context<'_, ()>, _: Event<()>) -> Next {
+        self.0 -= 1;
+        if self.0 == 0 { Next::DONE } else { Next::Proceed }
+    }
+}
+
+#[test]
+fn a_round_is_one_move_and_those_that_never_meet_have_one_order() {
+    let trial = Trial::of(|world| [0, 1].into_iter().for_each(|desk| _ = world.spawn_on(desk, Passes(4))));
+    // (five handlers, and one round in which all that it had goes: 12 rounds, of which 6 are of one desk)
+    assert_eq!(trial.clone().coarse().every().runs(), 924);
+    assert_eq!(trial.every().runs(), 924);
+    let reduced = trial.reduced().every();
+    assert!(reduced.runs() == 1 && reduced.is_whole(), "{reduced}");
+}
+
+#[test]
+fn a_failure_tells_the_panics_and_a_world_the_names() {
+    let trial = Trial::of(|world| {
+        let wrongs = world.spawn_on(0, Wrongs(Fault::Panics, None));
+        let name = Name::new("wrongs");
+        assert!(name.register(&wrongs) && world.names(wrongs.pid()) == ["wrongs"]);
+        (wrongs, name)
+    });
+    let trial = trial.desks(1).outcome(|world, (wrongs, _)| format!("{:?}", world.names(wrongs.pid())));
+    let found = trial.every();
+    found.expect(["[]"]);
+    let failure = found.of("[]").expect("the outcome");
+    let [panic] = failure.panics() else { panic!("{failure}") };
+    assert!(panic.starts_with("<0.1.1>, a ") && panic.ends_with("Wrongs: out of order"), "{panic}");
+    let text = failure.to_string();
+    assert!(text.contains(&format!("\na behaviour panicked: {panic}\nthe shortest schedule found: ")), "{text}");
+    assert_eq!(trial.replay("").panics, failure.panics());
+}
+
+#[test]
+fn a_lost_message_is_named() {
+    // (the first word ends the one that listens to it)
+    let trial = |words: usize| {
+        Trial::of(move |world: &mut World| {
+            let listens = world.spawn_on(0, Tells(Vec::new(), false));
+            let tells = (0..words).map(|_| (listens.clone(), "word")).collect();
+            world.spawn_on(1, Tells(tells, true));
+        })
+    };
+    trial(1).none_lost().all_end().every().expect_one();
+    let found = trial(3).none_lost().random(100, 1);
+    assert_eq!(found.failure().expect("a failure").wrong(), &Wrong::Lost(2));
+    trial(3).outcome(|world, ()| world.lost().to_string()).random(100, 1).expect(["2"]);
+}
+
+#[test]
+fn a_scenario_that_shares_is_not_reduced() {
+    let trial = adders(1, false);
+    let (whole, fewer) = (trial.every(), trial.clone().reduced().every());
+    assert!(fewer.runs() < whole.runs());
+    assert_eq!(counts(&trial.clone().reduced().shares().every()), counts(&whole));
+    assert_eq!(counts(&trial.clone().reduced().may_be_cut_off().every()), counts(&whole));
+    assert_eq!(trial.clone().reduced().always(|_, _| {}).every().runs(), whole.runs());
+}
+
 #[test]
 fn each_fault_is_named() {
     let panicked = wrong(Fault::Panics);
@@ -248,6 +389,10 @@ fn each_fault_is_named() {
     assert_eq!(at_rest.every().failure().unwrap().wrong(), &Wrong::AtRest("never so".into()));
 }
 
+fn pid_of(world: &World) -> Pid {
+    world.living().first().map_or(Pid { shard: 0, slot: 1, version: 1 }, |(pid, _)| *pid)
+}
+
 #[test]
 fn what_would_wait_says_what_to_take() {
     let trial = Trial::of(|world| {
@@ -262,6 +407,18 @@ fn what_would_wait_says_what_to_take() {
     let waits = Trial::of(|_| Name::<()>::new("a name").wait(Duration::from_secs(9)).is_some()).every();
     let Wrong::Scenario(text) = waits.failure().unwrap().wrong() else { panic!("{waits}") };
     assert_eq!(text, "a trial has one thread, and Name::wait would wait: take Name::whereis");
+    type Looks = fn(&World);
+    let looks: [(Looks, &str); 4] = [
+        (|world| _ = world.view(), "Handle::look would wait: take World::living, World::behaviour or World::desk"),
+        (|world| _ = world.inspect(pid_of(world), Duration::ZERO), "Handle::inspect would wait: take World::behaviour"),
+        (|world| _ = world.tap_all(9), "a Tap would wait: take Replay::history"),
+        (|world| _ = world.observe(0), "Handle::observe would wait: take World::living, or Replay::history"),
+    ];
+    for (looks, told) in looks {
+        let found = Trial::of(move |world| looks(world)).every();
+        let Wrong::Scenario(text) = found.failure().unwrap().wrong() else { panic!("{found}") };
+        assert_eq!(text, &format!("a trial has one thread, and {told}"));
+    }
     let missing = adders(1, true).replay("1 7");
     assert!(
         matches!(missing.wrong, Some(Wrong::NoMove(text)) if text.starts_with("move 2 of the schedule, 7, is not there"))

@@ -109,12 +109,38 @@ fn a_call_ends_once_by_what_comes_first() {
         (Serves::Exits, "down other:7 -"),
         (Serves::Keeps, late),
     ] {
-        // (a server that panics or exits drops the request as well, and either news may come first)
+        // (a server that panics, exits or is killed drops the request as well, and either news may come first)
         let exits = matches!(serves, Serves::Panics | Serves::Exits);
         let other = if exits { "Dropped" } else { how };
         tried(&asks(serves, 0, 0)).iter().for_each(|found| among(found, &[how, other]));
-        let all = [how, other, late, "down killed -", "down noproc -"];
+        let all = [how, other, late, "Dropped", "down killed -", "down noproc -"];
         tried(&asks(serves, 1, 1)).iter().for_each(|found| among(found, &all));
+    }
+}
+
+#[test]
+fn a_call_from_outside_ends_once() {
+    for (serves, how) in [
+        (Serves::Replies, "value"),
+        (Serves::Drops, "Dropped"),
+        (Serves::Panics, "Down(Other(4294967295), Some(\"no answer\"))"),
+        (Serves::Keeps, "open"),
+    ] {
+        let trial = Trial::of(move |world| {
+            let (server, token) = (world.spawn_on(0, Server(serves, Vec::new())), world.token());
+            world.may_be_killed(&server);
+            world.ask(&server, |reply| Ask(token, reply))
+        });
+        let trial = trial.none_kept().outcome(|_, asked| match asked.get() {
+            Some(Ok(token)) => {
+                token.handle();
+                "value".to_string()
+            }
+            Some(Err(fault)) => format!("{fault:?}"),
+            None => "open".to_string(),
+        });
+        tried(&trial).iter().for_each(|found| _ = found.expect([how]));
+        tried(&trial.kills(1)).iter().for_each(|found| among(found, &[how, "Down(Killed, None)"]));
     }
 }
 
@@ -309,6 +335,47 @@ fn a_monitor_tells_once_and_not_after_it_was_taken_back() {
     });
     let known = ["noproc -", "other:4294967295 told to, with 2 made"];
     tried(&trial).iter().for_each(|found| among(found, &known));
+}
+
+/// Links with a process, and notes what it hears.
+struct Links(Address<bool>, Vec<String>);
+
+impl Behaviour for Links {
+    type Message = ();
+
+    fn traps_exits(&self) -> bool {
+        true
+    }
+
+    fn started(&mut self, cx: &mut Context<'_, ()>) -> Next {
+        cx.link(&self.0).expect("a link");
+        Next::Wait
+    }
+
+    fn handle(&mut self, _: &mut Context<'_, ()>, event: Event<()>) -> Next {
+        if let Event::Exit(exit) = event {
+            assert_eq!(exit.pid, self.0.pid(), "the one with which it has linked");
+            self.1.push(format!("{} {}", exit.reason, exit.panic.as_deref().unwrap_or("-")));
+        }
+        Next::Wait
+    }
+}
+
+#[test]
+fn a_link_tells_once() {
+    for desk in [0, 1] {
+        let trial = Trial::of(move |world| {
+            let part = world.spawn_on(0, Part::new(&Arc::default()));
+            assert!(part.send(true));
+            world.spawn_on(desk, Links(part, Vec::new()))
+        });
+        let trial = trial.outcome(|world, links| {
+            let heard = world.behaviour(links, |links: &Links| links.1.join(", "));
+            heard.unwrap_or_else(|| format!("crashed: {:?}", world.panics()))
+        });
+        let known = ["noproc -", "other:4294967295 told to, with 1 made"];
+        tried(&trial).iter().for_each(|found| among(found, &known));
+    }
 }
 
 /// Sends itself a message later, and counts what comes.

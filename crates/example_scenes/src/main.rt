@@ -11,9 +11,9 @@
 //! # What is proved
 //!
 //! - **The team.** On each desk every child that its supervisor wants alive is alive, once the node is gathered, or
-//!   unlinked itself, or the supervisor is ending a child that traps exits and lives on. (`AllChildrenLive`)
+//!   unlinked itself, or the supervisor is ending a child that traps exits and lives on. (`AllHereLive`)
 //! - **The shifts.** So it is behind the pauses of its node. What happened until the last pause is one legal history.
-//!   (`AllChildrenLive`, `IsLegal`)
+//!   (`AllHereLive`, `IsLegal`)
 //! - **The others.** Nothing goes wrong in a scene. That it ends, and what it prints, is seen by its run.
 #![tactic(auto)]
 

@@ -7,7 +7,7 @@
 ghost use Rattle.std.specs.Prelude.{◌≡◌, ◌++◌, [], reverse, IfOk};
 ghost use Rattle.pt_events.specs.History.{IsLegal};
 ghost use Rattle.pt_events.specs.Journal.{events};
-ghost use Rattle.pt_pauses.specs.Gathering.{AllChildrenLive};
+ghost use Rattle.pt_pauses.specs.Here.{AllHereLive};
 ghost use Rattle.example_scenes.specs.Team.{AreTeams, boss_of};
 
 use crate::stage::{BUDGET, Curtain, DESKS, rested};
@@ -16,7 +16,7 @@ use anyhow::{Result, bail};
 use pt_crew::Crew;
 use pt_epochs::{Call, Plan, Refused, Rounds, Sink, run_epochs};
 use pt_node::{Node, Stamped};
-use pt_pauses::epochs_children_live;
+use pt_pauses::{epochs_children_here_live, epochs_children_live};
 use std::alloc::Global;
 use std::fmt::{self, Display, Formatter, Write};
 
@@ -61,6 +61,7 @@ fn work_on<'a>(
         → IfOk result (λ _. IsLegal [] (events (reverse book.new.events.items))) }
 {
     epochs_children_live::<Teammate<'a>, Rounds, Book>(&Rounds);
+    epochs_children_here_live::<Teammate<'a>, Rounds, Book>(&Rounds);
     let call = Call::new();
     match run_epochs(&Rounds, alloc, node, crews, PLAN, &call, book) {
         Ok((node, _)) => Ok(node),
@@ -82,7 +83,7 @@ pub struct Shifts<'a> {
 /// Plays the scene until nothing is left to do. Then each child that its supervisor wants alive is alive, or unlinked
 /// itself at any time before.
 pub fn play<'a>(alloc: Global, curtain: &'a Curtain) -> Result<Shifts<'a>>
-    ensures live { IfOk result (λ s. AllChildrenLive (events (reverse s.book.events.items)) boss_of s.teams.crews.items
+    ensures live { IfOk result (λ s. AllHereLive (events (reverse s.book.events.items)) boss_of s.teams.crews.items
         s.teams.quiet.gathered) }
     ensures legal { IfOk result (λ s. IsLegal [] (events (reverse s.book.events.items))) }
 {

@@ -1,8 +1,8 @@
 //! A supervisor on each desk, whose workers crash as they begin. Once all have started workers that stay, and the node
 //! is still, it is settled. Then each child that its supervisor wants alive is alive, by the theorem on nodes that are
-//! still.
+//! still. The supervisors spawn all their children, so none of them waits for a child on another desk.
 
-ghost use Rattle.std.specs.Prelude.{◌≡◌, [], IfOk, Ok};
+ghost use Rattle.std.specs.Prelude.{◌≡◌, [], IfOk, None, Ok};
 ghost use Rattle.pt_behaviour.specs.declared.behaviour.Next.{Next};
 ghost use Rattle.pt_desk.specs.DeskState.{GoesOn};
 ghost use Rattle.pt_events.specs.History.{Past};
@@ -11,12 +11,12 @@ ghost use Rattle.pt_workers.specs.Desks.{all_shards};
 ghost use Rattle.pt_workers.specs.Stillness.{AreStill};
 ghost use Rattle.pt_node.specs.Pasts.{GoOnFrom};
 ghost use Rattle.pt_crew.specs.Running.{AllUphold, AreIdle, UpholdsOn};
-ghost use Rattle.pt_supervisor.specs.Keeping.{AnswerAs, SupervisorBegins, Keeps};
+ghost use Rattle.pt_supervisor.specs.Keeping.{SupervisorBegins, Keeps};
+ghost use Rattle.pt_pauses.specs.Here.{AllHereLive, CrewHere, CrewsHere, IsHere};
 ghost use Rattle.pt_pauses.specs.Still.{IsStillNode};
-ghost use Rattle.pt_pauses.specs.Gathering.{AllChildrenLive};
 ghost use Rattle.pt_pauses.specs.Stopping.{StoppedChildrenEnded};
 ghost use Rattle.example_scenes.specs.declared.team.Teammate.{Teammate};
-ghost use Rattle.example_scenes.specs.Team.{AreTeams, boss_of};
+ghost use Rattle.example_scenes.specs.Team.{AreTeams, boss_of, team_answers};
 
 use crate::stage::{BUDGET, Curtain, DESKS, first_of, rested};
 use anyhow::{Result, bail};
@@ -24,10 +24,12 @@ use pt_behaviour::{Behaviour, Births, Next};
 use pt_crew::{Crew, are_idle};
 use pt_node::{Account, Config, Desk, Fault, FreeGate, Item, Node, Pick, Pid, Quiet, Reason, open};
 use pt_pauses::{
-    gathered_children_live, paused_children_live, quiet_children_live, stopped_children_ended,
+    children_here_live, paused_children_live, quiet_children_live, stopped_children_ended,
 };
 use pt_resting::{RestGate, RestingWork};
-use pt_supervisor::{Child, Limit, Restart, Start, Strategy, Supervised, Supervisor};
+use pt_supervisor::{
+    Child, Limit, Restart, Start, Strategy, Supervised, Supervisor, children_stay_here,
+};
 use std::alloc::{AllocError, Global};
 use std::fmt::{self, Display, Formatter, Write};
 use std::sync::Wait;
@@ -50,7 +52,7 @@ struct Workers<'a> {
 
 impl<'a> Start<Teammate<'a>> for Workers<'a> {
     ghost starts = { λ old boss place result new. (b : Teammate) (first : Next) → result ≡ Ok (b, first)
-        → SupervisorBegins (boss_of b) first };
+        → b.boss ≡ None };
 
     fn start(&mut self, _supervisor: Pid, _place: usize) -> Result<(Teammate<'a>, Next), Fault> {
         let worker = Teammate { boss: None };
@@ -70,7 +72,7 @@ pub struct Teammate<'a> {
 }
 
 impl<'a> Behaviour for Teammate<'a> {
-    ghost answers = { AnswerAs boss_of };
+    ghost answers = { team_answers };
 
     #[tactic(auto, using(pt_workers::proofs::GoingOn::stays))]
     fn handle(
@@ -80,6 +82,7 @@ impl<'a> Behaviour for Teammate<'a> {
         me: Pid,
         item: Option<Item>,
     ) -> Next {
+        children_stay_here::<Teammate<'a>, Workers<'a>>();
         match &mut self.boss {
             Some(boss) => boss.handle(desk, births, me, item),
             None => Next::Wait(Pick::Any),
@@ -90,12 +93,13 @@ impl<'a> Behaviour for Teammate<'a> {
 impl<'a> Supervised for Teammate<'a> {
     ghost supervisor = { boss_of };
 
-    ghost supervises = { λ time b d me item next now e births h. h };
+    ghost supervises = { λ time b d me item next now e births h. h.0 };
 }
 
 /// A supervisor of three permanent children, which starts each again by itself, at most a hundred times.
 fn team<'a>(alloc: Global, curtain: &'a Curtain) -> Result<Teammate<'a>, AllocError>
-    ensures { IfOk result (λ b. SupervisorBegins (boss_of b) Next.Proceed) }
+    ensures begins { IfOk result (λ b. SupervisorBegins (boss_of b) Next.Proceed) }
+    ensures here { IfOk result (λ b. IsHere (boss_of b)) }
 {
     let child = Child::new(Restart::Permanent);
     let children = vec![in alloc; child, child, child]?;
@@ -111,9 +115,11 @@ fn team<'a>(alloc: Global, curtain: &'a Curtain) -> Result<Teammate<'a>, AllocEr
 /// The crew of a desk, which its supervisor has entered.
 fn staffed<'a>(alloc: Global, desk: &mut Desk, curtain: &'a Curtain) -> Result<Crew<Teammate<'a>>>
     ensures upholds { IfOk result (λ c. UpholdsOn (Keeps [] boss_of) c desk.new.shard) }
+    ensures here { IfOk result (λ c. CrewHere boss_of c) }
     ensures goes_on { GoesOn desk.old desk.new }
 {
     quiet_children_live::<Teammate<'a>>();
+    children_here_live::<Teammate<'a>, FreeGate>(&FreeGate);
     let mut crew = Crew::new(alloc, 8);
     let boss = team(alloc, curtain)?;
     crew.enter(desk, boss, Next::Proceed)?;
@@ -127,6 +133,7 @@ fn all_staffed<'a>(
     curtain: &'a Curtain,
 ) -> Result<Vec<RestingWork<'a, Crew<Teammate<'a>>>>>
     ensures upholds { IfOk result (λ crews. AllUphold (Keeps [] boss_of) crews.items desks.new.items) }
+    ensures here { IfOk result (λ crews. CrewsHere boss_of crews.items) }
     ensures from { GoOnFrom [] desks.old.items → GoOnFrom [] desks.new.items }
 {
     let mut crews = Vec::new(alloc);
@@ -163,6 +170,7 @@ fn perform<'a, R: Threads + Wait + Sync>(
 {
     let gate = curtain.gate(rt);
     paused_children_live::<Teammate<'a>, RestGate<'_, R>>(&gate);
+    children_here_live::<Teammate<'a>, RestGate<'_, R>>(&gate);
     if node.run(rt, crews, u64::MAX, BUDGET, &gate).is_err() {
         bail!("the scene does not run");
     }
@@ -177,6 +185,7 @@ fn come_to_rest<'a>(node: &mut Node, crews: &mut Vec<Crew<Teammate<'a>>>) -> Res
     ensures still { IfOk result (λ _. AreIdle crews.new.items node.new × AreStill node.new) }
 {
     paused_children_live::<Teammate<'a>, FreeGate>(&FreeGate);
+    children_here_live::<Teammate<'a>, FreeGate>(&FreeGate);
     if node.run_single(crews, 8, BUDGET, &FreeGate).is_err() {
         bail!("the scene does not run");
     }
@@ -215,9 +224,9 @@ pub fn curtain(alloc: Global) -> Result<Curtain, AllocError> {
 /// Lets a node come to rest, and settles it. Then each child that its supervisor wants alive is alive.
 pub fn finish<'a>(node: Node, crews: Vec<Crew<Teammate<'a>>>) -> Result<Teams<'a>>
     ensures { IfOk result (λ t. (past : Past) → AreTeams past crews.entry.items node
-        → AllChildrenLive past boss_of t.crews.items t.quiet.gathered) }
+        → AllHereLive past boss_of t.crews.items t.quiet.gathered) }
 {
-    gathered_children_live::<Teammate<'a>, FreeGate>(&FreeGate);
+    children_here_live::<Teammate<'a>, FreeGate>(&FreeGate);
     let (mut node, mut crews) = (node, crews);
     come_to_rest(&mut node, &mut crews)?;
     let quiet = settled(node)?;
@@ -231,7 +240,7 @@ pub fn play<'a, R: Threads + Wait + Sync>(
     alloc: Global,
     curtain: &'a Curtain,
 ) -> Result<Teams<'a>>
-    ensures live { IfOk result (λ t. AllChildrenLive [] boss_of t.crews.items t.quiet.gathered) }
+    ensures live { IfOk result (λ t. AllHereLive [] boss_of t.crews.items t.quiet.gathered) }
     ensures stopped { StoppedChildrenEnded boss_of }
 {
     stopped_children_ended::<Teammate<'a>>();

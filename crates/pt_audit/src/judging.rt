@@ -2,12 +2,16 @@
 
 use crate::asked::{Asked, Print};
 use crate::output::Output;
+use crate::page::end_page;
 use crate::refusal::{Refusal, faulty, unread, wants_memory};
 use crate::source::{PIECE, Source};
-use pt_auditor::{Audit, Fault, Foreign, Hearing, Verdict};
+use pt_auditor::{Audit, Begun, Did, Fault, Foreign, Hearing, Verdict};
 use pt_chart::chart;
 use pt_events::{Event, Stamped};
-use pt_render::{JsonEvent, JsonLeftOver, MERMAID_HEAD, MermaidEvent, MermaidLeftOver};
+use pt_render::{
+    JsonEvent, JsonLeftOver, JsonStep, JsonVerdict, MERMAID_HEAD, MermaidEvent, MermaidLeftOver,
+    PAGE_HEAD,
+};
 use pt_texts::LeftOver;
 use std::alloc::Global;
 use std::io::{Read, Write};
@@ -127,6 +131,9 @@ fn step<R: Read + Drop, W: Write>(
     if asked.wants_line_feed() && source.is_torn() {
         return Err(Refusal::Torn(source.file(), source.number()));
     }
+    if let Some(stamped) = stepping(source, asked) {
+        return take_step(alloc, audit, source, several, asked, stamped, out);
+    }
     if let Err(fault) = hear(alloc, audit, source.line()) {
         return Err(fault_of(fault, source, several, out.before));
     }
@@ -135,6 +142,55 @@ fn step<R: Read + Drop, W: Write>(
         Ok(()) => source.advance(),
         Err(refusal) => Err(refusal),
     }
+}
+
+/// The event of the line, if it is printed with what it changes.
+fn stepping<R: Read + Drop>(source: &Source<R>, asked: &Asked<'_, '_>) -> Option<Stamped> {
+    match source.event() {
+        Some(stamped) if asked.wants_step(stamped) => Some(stamped),
+        _ => None,
+    }
+}
+
+/// Audits the event, prints it with what it changed, and reads the next line.
+fn take_step<R: Read + Drop, W: Write>(
+    alloc: Global,
+    audit: &mut Audit,
+    source: &mut Source<R>,
+    several: bool,
+    asked: &Asked<'_, '_>,
+    stamped: Stamped,
+    out: &mut Output<W>,
+) -> Result<(), Refusal> {
+    let Ok(begun) = Begun::new(alloc, audit.hearing().state(), stamped.event) else {
+        return Err(Refusal::Memory);
+    };
+    if let Err(fault) = hear(alloc, audit, source.line()) {
+        return Err(fault_of(fault, source, several, out.before));
+    }
+    note(audit.hearing(), source, asked, out);
+    match print_step(alloc, audit.hearing(), begun, stamped, out) {
+        Ok(()) => source.advance(),
+        Err(refusal) => Err(refusal),
+    }
+}
+
+/// Prints the event with what it changed, where it was heard last.
+fn print_step<W: Write>(
+    alloc: Global,
+    hearing: &Hearing,
+    begun: Begun,
+    stamped: Stamped,
+    out: &mut Output<W>,
+) -> Result<(), Refusal> {
+    match begun.changes(alloc, hearing.state()) {
+        Ok(then) => say_step(stamped, then.as_slice(), out),
+        Err(_) => Err(Refusal::Memory),
+    }
+}
+
+fn say_step<W: Write>(stamped: Stamped, then: &[Did], out: &mut Output<W>) -> Result<(), Refusal> {
+    out.say(JsonStep { stamped, then })
 }
 
 /// Reads the line.
@@ -228,12 +284,12 @@ fn print_left_over<R: Read + Drop, W: Write>(
         desk: from_desk,
         event: Event::Said(letter.from, letter.to, letter.signal),
     };
-    if !asked.selection.has_event(sending) {
+    if !asked.wants(sending) {
         return Ok(());
     }
     match asked.print {
         Print::Mermaid => out.say(MermaidLeftOver(letter)),
-        Print::Json => out.say(JsonLeftOver {
+        Print::Json | Print::Steps | Print::Page => out.say(JsonLeftOver {
             from_desk,
             to_desk,
             letter,
@@ -242,12 +298,13 @@ fn print_left_over<R: Read + Drop, W: Write>(
     }
 }
 
-/// Prints what comes before all events: the first line of a diagram.
+/// Prints what comes before all events: the first line of a diagram, or the head of a page.
 fn print_head<W: Write>(asked: &Asked<'_, '_>, out: &mut Output<W>) -> Result<(), Refusal> {
-    if asked.print == Print::Mermaid {
-        return out.say(MERMAID_HEAD);
+    match asked.print {
+        Print::Mermaid => out.say(MERMAID_HEAD),
+        Print::Page => out.say(PAGE_HEAD),
+        _ => Ok(()),
     }
-    Ok(())
 }
 
 /// The line that no node prints, with its file if there are several.
@@ -261,13 +318,18 @@ fn no_node<W: Write>(foreign: Foreign, asked: &Asked<'_, '_>, out: &Output<W>) -
     }
 }
 
-/// Prints the verdict, unless no node prints this history and the judge's verdict alone is not enough.
+/// Prints the verdict, unless there is no event to judge and no state to save, or no node prints this history and the judge's
+/// verdict alone is not enough.
 pub fn conclude<W: Write>(
     verdict: Verdict,
     asked: &Asked<'_, '_>,
     out: &mut Output<W>,
 ) -> Result<(), Refusal> {
     match verdict.foreign {
+        None if verdict.events == 0 && asked.is_of_nothing() => match out.flush() {
+            Ok(()) => Err(Refusal::Incomplete(verdict)),
+            Err(refusal) => Err(refusal),
+        },
         Some(foreign) if !asked.judge || asked.save.is_some() => match out.flush() {
             Ok(()) => Err(no_node(foreign, asked, out)),
             Err(refusal) => Err(refusal),
@@ -305,23 +367,19 @@ impl fmt::Display for Concluded {
         match self.print {
             Print::Chart => write!(f, "<!-- {verdict} -->"),
             Print::Mermaid => write!(f, "    %% {verdict}"),
-            Print::Json => write_json(verdict, f),
+            Print::Json | Print::Steps | Print::Page => write_json(verdict, f),
             _ => write!(f, "{verdict}"),
         }
     }
 }
 
 fn write_json<W: fmt::Write>(verdict: Verdict, f: &mut fmt::Formatter<W>) -> fmt::Result {
-    let Verdict {
-        events,
-        desks,
-        letters,
-        ..
-    } = verdict;
-    write!(
-        f,
-        "{{\"verdict\":\"legal\",\"events\":{events},\"desks\":{desks},\"letters\":{letters}}}"
-    )
+    let verdict = JsonVerdict {
+        events: verdict.events,
+        desks: verdict.desks,
+        letters: verdict.letters,
+    };
+    write!(f, "{verdict}")
 }
 
 /// Prints the verdict of a history, in the form of the output before it, and flushes the writer.
@@ -335,6 +393,7 @@ fn print_verdict<W: Write>(
         ..verdict
     };
     match out.say(Concluded { verdict, print }) {
+        Ok(()) if print == Print::Page => end_page(out),
         Ok(()) => out.flush(),
         Err(refusal) => Err(refusal),
     }

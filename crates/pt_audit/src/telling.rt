@@ -89,11 +89,11 @@ fn tell_unread<R: Runtime>(rt: &R, explain: bool, name: &str, error: io::Error) 
     code
 }
 
-/// Prints what `clap` says of the words: the version on standard output, all else on standard error.
+/// Prints what `clap` says of the words: help and the version on standard output, all else on standard error.
 pub fn tell_clap<R: Runtime>(rt: &R, error: Error) -> ExitCode {
     match error.kind() {
         ErrorKind::OutOfMemory => tell(rt, "memory refused", 3),
-        ErrorKind::DisplayVersion => tell_version(rt, error),
+        ErrorKind::DisplayHelp | ErrorKind::DisplayVersion => tell_asked(rt, error),
         _ => {
             let _ = rt.eprint(error);
             ExitCode::from(2)
@@ -101,7 +101,8 @@ pub fn tell_clap<R: Runtime>(rt: &R, error: Error) -> ExitCode {
     }
 }
 
-fn tell_version<R: Runtime>(rt: &R, error: Error) -> ExitCode {
+/// Prints help, or the version.
+fn tell_asked<R: Runtime>(rt: &R, error: Error) -> ExitCode {
     if rt.print(error).is_ok() {
         ExitCode::SUCCESS
     } else {

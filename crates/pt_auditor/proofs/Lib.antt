@@ -9,3 +9,4 @@ pub mod Read
 pub mod Rested
 pub mod Resting
 pub mod Reread
+pub mod Changing

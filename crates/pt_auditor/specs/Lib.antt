@@ -10,3 +10,4 @@ pub mod Standings
 pub mod Text
 pub mod Rests
 pub mod Saving
+pub mod Changes

@@ -220,6 +220,13 @@ impl Hearing {
         }
     }
 
+    /// What the judge knows after the events that were read, without the letters that were.
+    pub fn state(&self) -> &State
+        ensures { result.now ≡ self.now.state }
+    {
+        &self.state
+    }
+
     /// The state, and what the desks of a node have.
     pub(crate) fn into_parts(self) -> (State, Desks)
         ensures { result ≡ (self.state, self.node) }

@@ -8,6 +8,9 @@
 //! letter left over. It takes the bytes in pieces of any size, keeps one line of them, and returns the first line at
 //! fault by its number.
 //!
+//! A [`Begun`] returns what an event changed, as a list of [`Did`]: for a reader who shows what each process is at any
+//! event, without a judge.
+//!
 //! A [`Rest`] is what is known of a history at rest, so that the history of a node's next epoch can be judged over it. Its
 //! text can be kept in a file until then.
 //!
@@ -42,6 +45,9 @@
 //!   each history of which the rest was known. (`Rest::text`, `parse`)
 //! - **A damaged text.** It is refused at its first line that may not stand there, or that is none, and at a column.
 //!   (`IsDamaged`)
+//! - **What an event changed.** The changes of an event, applied to the judge's state before it, give the state after
+//!   it. So the changes of all events up to a place, from nothing, give the state there. (`Begun::new`, `changes`,
+//!   `changes_tell_state`)
 //! - **Torn lines.** `Audit::torn` returns the number of the line that has no line feed yet, if there is one.
 //! - **Faults.** A fault names the first line at fault.
 //! - **Short lines.** Each event and each letter left over prints fewer bytes than a line may have.
@@ -53,6 +59,8 @@
 
 mod against;
 mod audit;
+mod begun;
+mod change;
 mod clocks;
 mod desks;
 mod fault;
@@ -70,10 +78,12 @@ mod standing;
 mod text;
 
 pub use audit::Audit;
+pub use begun::Begun;
+pub use change::{Change, Did};
 pub use fault::{Fault, MOST_LINE, Why};
 pub use foreign::{Foreign, NoNode};
 pub use hearing::{Hearing, Verdict};
-pub use laws::lines_are_short;
+pub use laws::{changes_tell_state, lines_are_short};
 pub use objection::{Contradiction, Objection};
 pub use rest::{Resident, Rest, Restless, Unfit};
 pub use saved::{Damage, Flaw};

@@ -2,7 +2,7 @@
 
 ghost use Rattle.std.specs.Prelude.{◌≡◌};
 ghost use Rattle.pt_c_values.specs.Places.{CallsThrough, ReadsThrough};
-ghost use Rattle.pt_c_desks.specs.Letters.{HasLettersCode, desks_with};
+ghost use Rattle.pt_c_desks.specs.Letters.{HasLettersCode, LooksFrom, NextFromCode, desks_with};
 
 use pt_c_desks::desk_handle::DeskHandle;
 use pt_c_desks::letters;
@@ -26,4 +26,23 @@ pub extern "C" fn pt_has_letters(alloc: Global, h: &mut DeskHandle, out: &mut bo
         (λ old new. HasLettersCode result old out.new new) }
 {
     letters::has_letters(alloc, h, out)
+}
+
+/// Lets the next turn look at the lane from desk `from` before the others, as `Desk::look_from` does.
+#[unsafe(no_mangle)]
+pub extern "C" fn pt_look_from(alloc: Global, h: &mut DeskHandle, from: u8) -> u32
+    ensures { CallsThrough h.old.state h.new.state result (Unit {0}) (LooksFrom from result) }
+{
+    letters::look_from(alloc, h, from)
+}
+
+/// The desk whose lane the next letter comes from: the first that shows one, from where the next turn looks first. It
+/// writes that desk to `out` if it returns 0, and returns 8 if no lane shows a letter. The desk looks at its lanes, and
+/// nothing else of it changes.
+#[unsafe(no_mangle)]
+pub extern "C" fn pt_next_from(alloc: Global, h: &mut DeskHandle, out: &mut u8) -> u32
+    ensures { CallsThrough h.old.state h.new.state result (out.new ≡ out.old)
+        (λ old new. NextFromCode result old out.old out.new new) }
+{
+    letters::next_from(alloc, h, out)
 }

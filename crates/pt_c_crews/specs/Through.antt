@@ -5,7 +5,7 @@ use Rattle.pt_events.specs.declared.event.Stamped.{Stamped}
 use Rattle.pt_events.specs.History.{Past}
 use Rattle.pt_shard.specs.ShardState.{ShardState}
 use Rattle.pt_desk.specs.DeskState.{DeskState}
-use Rattle.pt_crew.specs.Crews.{queue, roles, time_of, was_refused}
+use Rattle.pt_crew.specs.Crews.{queue, roles, time_of, waiting, was_refused}
 use Rattle.pt_crew.specs.Visiting.{AreSame}
 use Rattle.pt_scheduler.specs.declared.scheduler.Scheduler.{Scheduler}
 use Rattle.pt_scheduler.specs.Owning.{desk_of}
@@ -24,6 +24,7 @@ pub record IsNewCrew (t : Scheduler) : Type 0 where
   pub attends : (d : ShardState) → SchedulerAttends t d
   pub nobody : (p : Pid) → roles (crew_of t) p ≡ None
   pub queue : queue (crew_of t) ≡ []
+  pub born : waiting (crew_of t) ≡ []
   pub time : time_of (crew_of t) ≡ 0
   pub desk : desk_of t ≡ None
   pub upholds : (past : Past) (d : ShardState) → SchedulerUpholds past t d
@@ -47,6 +48,7 @@ pub record SetsCrewTime (now code : ℕ) (old new : Scheduler) : Type 0 where
   pub keeps : KeepsCrew old new
   pub roles : AreSame (roles (crew_of old)) (roles (crew_of new))
   pub queue : queue (crew_of new) ≡ queue (crew_of old)
+  pub waiting : waiting (crew_of new) ≡ waiting (crew_of old)
   pub refused : was_refused (crew_of new) ≡ was_refused (crew_of old)
 
 -- a step, if the desk is the crew's own; then it is the crew's

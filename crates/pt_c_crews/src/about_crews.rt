@@ -2,8 +2,9 @@
 
 ghost use Rattle.std.specs.Prelude.{◌≡◌};
 ghost use Rattle.pt_c_tools.specs.About.{all_codes, with_jobs, nobody};
+ghost use Rattle.pt_c_crews.specs.Crossing.{job_out};
 
-use crate::crossing::job_out;
+use crate::crossing::{job_of, write_job};
 use pt_behaviour::Next;
 use pt_c_tools::about::{BLANK, NOBODY, PtCodes, codes_below};
 use pt_scheduler::{Job, What};
@@ -22,13 +23,23 @@ fn with_jobs(codes: PtCodes) -> PtCodes
 {
     let item = Item::User(NOBODY, BLANK);
     PtCodes {
-        job_start: job_out(job_for(What::Start(None))).code,
-        job_proceed: job_out(job_for(What::Proceed)).code,
-        job_item: job_out(job_for(What::Item(item))).code,
-        job_timeout: job_out(job_for(What::Timeout)).code,
-        job_exit: job_out(job_for(What::Exit(Reason::Normal, Next::Running))).code,
+        job_start: code_of(What::Start(None)),
+        job_proceed: code_of(What::Proceed),
+        job_item: code_of(What::Item(item)),
+        job_timeout: code_of(What::Timeout),
+        job_exit: code_of(What::Exit(Reason::Normal, Next::Running)),
         ..codes
     }
+}
+
+/// The code of a job that tells this.
+fn code_of(what: What) -> u32
+    ensures { result ≡ (job_out (record { pid = nobody; tag = 0; what = what })).code }
+{
+    let job = job_for(what);
+    let mut out = job_of(job, 0);
+    write_job(job, &mut out);
+    out.code
 }
 
 fn job_for(what: What) -> Job

@@ -8,7 +8,7 @@ ghost use Rattle.pt_scheduler.specs.Scheduling.{SchedulerAttends, SchedulerUphol
 ghost use Rattle.pt_scheduler.specs.Owning.{desk_of};
 ghost use Rattle.pt_c_crews.specs.Crewing.{AnswersOne, HandsOutRow, KeepsCrew, PullsRow, TakesAnswers};
 
-use crate::crossing::job_out;
+use crate::crossing::write_job;
 use pt_c_tools::crossing_nexts::next_in;
 use pt_c_values::codes::{BAD_CODE, DONE, MEMORY, NOT_RUNNING};
 use pt_c_values::crossing::pid_in;
@@ -54,7 +54,7 @@ fn pull_into(crew: &mut Scheduler, desk: &mut Desk, jobs: &mut [PtJob], place: u
 {
     match crew.pull(desk) {
         Some(job) => {
-            jobs[place] = job_out(job);
+            write_job(job, &mut jobs[place]);
             place + 1
         }
         None => place,

@@ -3,10 +3,11 @@
 ghost use Rattle.std.specs.Prelude.{◌≡◌};
 ghost use Rattle.pt_shard.specs.Fit.{IsFit};
 ghost use Rattle.pt_c_values.specs.Places.{CallsThrough, ReadsThrough};
-ghost use Rattle.pt_c_desks.specs.Letters.{HasLetters, HasLettersCode, PostsWhereLettersWait, SameLanes, desks_with};
+ghost use Rattle.pt_c_desks.specs.Letters.{HasLetters, HasLettersCode, LooksFrom, NextFromCode, NextLaneCode};
+ghost use Rattle.pt_c_desks.specs.Letters.{PostsWhereLettersWait, SameLanes, desks_with};
 
 use crate::desk_handle::{DeskHandle, claim, filled, hold};
-use pt_c_values::codes::{DONE, EMPTY};
+use pt_c_values::codes::{DONE, EMPTY, NOTHING};
 use pt_carrier::Ins;
 use pt_desk::Desk;
 use pt_shard::Shard;
@@ -74,6 +75,59 @@ fn waits(shard: &Shard, ins: &mut Ins) -> bool
         return true;
     }
     ins.next_from().is_some()
+}
+
+/// Lets the next turn look at the lane from desk `from` before the others, as `Desk::look_from` does.
+pub fn look_from(alloc: Global, h: &mut DeskHandle, from: u8) -> u32
+    ensures { CallsThrough h.old.state h.new.state result (Unit {0}) (LooksFrom from result) }
+{
+    let Some(mut place) = claim(alloc, h) else {
+        return EMPTY;
+    };
+    let code = match &mut place.desk {
+        Some(desk) => {
+            desk.look_from(from);
+            DONE
+        }
+        None => EMPTY,
+    };
+    *h = hold(place);
+    code
+}
+
+/// The desk whose lane the next letter comes from: the first that shows one, from where the next turn looks first. It
+/// writes that desk to `out` if it returns 0, and returns 8 if no lane shows a letter. The desk looks at its lanes, and
+/// nothing else of it changes.
+pub fn next_from(alloc: Global, h: &mut DeskHandle, out: &mut u8) -> u32
+    ensures { CallsThrough h.old.state h.new.state result (out.new ≡ out.old)
+        (λ old new. NextFromCode result old out.old out.new new) }
+{
+    let Some(mut place) = claim(alloc, h) else {
+        return EMPTY;
+    };
+    let Some(desk) = place.desk.take() else {
+        *h = hold(place);
+        return EMPTY;
+    };
+    let (shard, outs, mut ins, directory, seat, before) = desk.apart();
+    let code = next_lane(&mut ins, out);
+    let desk = Desk::whole(shard, outs, ins, directory, seat, before);
+    *h = filled(place, desk);
+    code
+}
+
+/// The same of the lanes alone.
+fn next_lane(ins: &mut Ins, out: &mut u8) -> u32
+    ensures same { SameLanes ins.old ins.new }
+    ensures lane { NextLaneCode result ins.old out.old out.new ins.new }
+{
+    match ins.next_from() {
+        Some(from) => {
+            *out = from;
+            DONE
+        }
+        None => NOTHING,
+    }
 }
 
 /// A turn posts only to desks for which letters waited as it began. The function does nothing: its contract is the

@@ -21,6 +21,8 @@
 //!   it exit. (`NobodyIsMissed`)
 //! - **Letters.** The desks for which letters wait are told, each by its bit, and a turn posts to no others.
 //!   (`desks_with`, `PostsWhereLettersWait`)
+//! - **Lanes.** A program says which lane the next turn looks at first, and is told the first lane from there that shows a
+//!   letter. (`LooksFrom`, `NextFromCode`)
 //! - **Nothing to do.** A desk has no letters only if none waits in it, and no lane to it shows one. (`HasLetters`)
 #![tactic(auto)]
 

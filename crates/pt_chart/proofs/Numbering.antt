@@ -4,7 +4,8 @@ use Rattle.std.specs.List.{flat_map, enumerate_from}
 use Rattle.pt_events.specs.declared.event.Stamped.{Stamped}
 use Rattle.pt_events.specs.declared.event.Event.TheVariants.{Born}
 use Rattle.pt_chart.specs.declared.part.Part.{Part}
-use Rattle.pt_chart.specs.Drawing.{each_numbered}
+use Rattle.pt_chart.specs.declared.part.Letter.{Letter}
+use Rattle.pt_chart.specs.Drawing.{each_numbered, in_flight, tipped, tip_row}
 
 module _ {X Y : Type 0} (f : ℕ → X → List Y) where
   abbrev from : ℕ → List X → List Y
@@ -39,3 +40,10 @@ nothing = record { stamp = 0; desk = 0; event = Born (record { shard = 0; slot =
 pub one_more_event : (f : ℕ → Stamped → List Part) (start before after : List Part) (events : List Stamped) (i : ℕ) → i < length events → before ≡ start ++ each_numbered f (take i events)
     → after ≡ before ++ f i (get_or events i nothing) → after ≡ start ++ each_numbered f (take (i + 1) events)
 one_more_event f start before after events i h b a = one_more_at f start before after events i nothing h b a
+
+-- one more letter has the row of its tip
+pub placed_next : (rows : ℕ) (ls : List Letter) (i n : ℕ) (d : Letter) (before after : List Letter) → i < length ls → before ≡ each_numbered (tipped rows ls) (take i ls) → n ≡ in_flight (take i ls)
+    → after ≡ before ++ record (get_or ls i d) { tip = tip_row rows n (get_or ls i d).arrow.came } ∷ [] → after ≡ each_numbered (tipped rows ls) (take (i + 1) ls)
+placed_next rows ls i n d before after h b is a =
+    let placed_at : ℕ → List Letter = λ k. before ++ record (get_or ls i d) { tip = tip_row rows k (get_or ls i d).arrow.came } ∷ [] in
+    one_more_at (tipped rows ls) [] before after ls i d h b (a ∙ ap placed_at is)

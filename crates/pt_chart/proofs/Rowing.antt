@@ -125,17 +125,17 @@ rows_told items events says follows births (Err e) front all is w = tt
 
 -- where each column has the arrows of the history, the receipts that follow their sendings are those of the history
 same_follow : (events : List Stamped) (i : ℕ) (cs : List Column) → All (λ (c : Column). ShowsLife events c) cs
-    → follows_sending cs i ≡ list_any (λ (p : Pid). list_any (comes_next i) (arrows events (everyone events) p [] (sent_of (past_of events) p))) (map (λ (c : Column). c.pid) cs)
+    → follows_sending events cs i ≡ list_any (λ (p : Pid). list_any (comes_next events i) (arrows events (everyone events) p [] (sent_of (past_of events) p))) (map (λ (c : Column). c.pid) cs)
 same_follow events i [] shown = refl
 same_follow events i (c ∷ cs) shown =
-    ap (λ sent. list_any (comes_next i) sent || follows_sending cs i) (let first : ShowsLife events c = shown 0 c (omega arith) in first.arrows)
-    ∙ ap (λ b. list_any (comes_next i) (arrows events (everyone events) c.pid [] (sent_of (past_of events) c.pid)) || b) (same_follow events i cs (λ k d h. shown (suc k) d (omega arith)))
+    ap (λ sent. list_any (comes_next events i) sent || follows_sending events cs i) (let first : ShowsLife events c = shown 0 c (omega arith) in first.arrows)
+    ∙ ap (λ b. list_any (comes_next events i) (arrows events (everyone events) c.pid [] (sent_of (past_of events) c.pid)) || b) (same_follow events i cs (λ k d h. shown (suc k) d (omega arith)))
 
-pub history_shown : (events : List Stamped) (l : Layout) → map (λ (c : Column). c.pid) l.columns.items ≡ everyone events → AreRows events (follows_sending l.columns.items) l.rows.items
+pub history_shown : (events : List Stamped) (l : Layout) → map (λ (c : Column). c.pid) l.columns.items ≡ everyone events → AreRows events (follows_sending events l.columns.items) l.rows.items
     → All (λ (c : Column). ShowsLife events c) l.columns.items → ShowsHistory events l
 history_shown events l pids rows lives =
-    let same : (i : ℕ) → follows_in events i ≡ follows_sending l.columns.items i =
-    λ i. sym (same_follow events i l.columns.items lives ∙ ap (list_any (λ (p : Pid). list_any (comes_next i) (arrows events (everyone events) p [] (sent_of (past_of events) p)))) pids)
+    let same : (i : ℕ) → follows_in events i ≡ follows_sending events l.columns.items i =
+    λ i. sym (same_follow events i l.columns.items lives ∙ ap (list_any (λ (p : Pid). list_any (comes_next events i) (arrows events (everyone events) p [] (sent_of (past_of events) p)))) pids)
     in
     record {
       lives = lives;

@@ -1,6 +1,6 @@
 -- Lists that are one longer.
-use Rattle.std.proofs.Common.{◌≡◌, ℕ, ◌+◌, ◌<◌, List, [], ◌∷◌, ◌++◌, map, length, take, get_or, Some, ap, sym, ◌∙◌, append_assoc, arith}
-use Rattle.std.specs.Prelude.{slice_get, max, codes}
+use Rattle.std.proofs.Common.{◌≡◌, ℕ, ◌+◌, ◌<◌, false, cond, List, [], ◌∷◌, ◌++◌, map, length, take, get_or, Some, None, ap, sym, ◌∙◌, append_assoc, arith}
+use Rattle.std.specs.Prelude.{is_some, slice_get, max, pos}
 use Rattle.std.proofs.lemmas.List.{take_more, map-append}
 use Rattle.std.proofs.lemmas.List.Sums.{fold_more}
 use Rattle.std.proofs.lemmas.Option.{slice_get_within, get_or_from_slice_get}
@@ -10,8 +10,11 @@ use Rattle.pt_events.specs.declared.event.Stamped.{Stamped}
 use Rattle.pt_events.specs.History.{Past}
 use Rattle.pt_events.specs.Counting.{capped}
 use Rattle.pt_chart.specs.Rows.{count_of}
-use Rattle.pt_chart.specs.Drawing.{label_beside, longest_beside}
+use Rattle.pt_chart.specs.Drawing.{in_flight, letter_beside, refused_beside, widest_beside, widest_refusal}
+use Rattle.pt_signal.specs.declared.signal.Signal.TheVariants.{Message}
+use Rattle.pt_chart.specs.declared.layout.Arrow.{Arrow}
 use Rattle.pt_chart.specs.declared.layout.Column.{Column}
+use Rattle.pt_chart.specs.declared.part.Letter.{Letter}
 use Rattle.pt_chart.specs.declared.layout.Sending.{Sending}
 use Rattle.pt_chart.specs.Chart.{everyone, joined_columns, named_columns, past_of, sent_at}
 
@@ -35,12 +38,31 @@ paid row start before after owed i l b g a =
 pub everyone_more : (events : List Stamped) (i : ℕ) (d : Stamped) → i < length events → everyone (take (i + 1) events) ≡ joined_columns (everyone (take i events)) (named_columns (get_or events i d).event)
 everyone_more events i d h = fold_more (λ ps s. joined_columns ps (named_columns s.event)) [] events i d h
 
--- the longest label of one more event
-pub longest_beside_more : (events : List Stamped) (i n : ℕ) (d : Stamped) → i < length events → n ≡ longest_beside (take i events)
-    → max (length (label_beside (get_or events i d).event)) n ≡ longest_beside (take (i + 1) events)
-longest_beside_more events i n d h is =
-    ap (max (length (label_beside (get_or events i d).event))) is
-    ∙ sym (fold_more (λ (n : ℕ) (s : Stamped). max (length (label_beside s.event)) n) (length (codes "other:4294967295")) events i d h)
+abbrev pub no_arrow : Arrow
+no_arrow = record { to = 0; signal = Message (record { kind = 0; num = pos 0; who = None }); sent = 0; came = None }
+
+abbrev pub no_letter : Letter
+no_letter = record { column = 0; arrow = no_arrow; ends = false; tip = 0 }
+
+-- the widest label of one more event, and of one more letter
+pub widest_refusal_more : (events : List Stamped) (i n : ℕ) (d : Stamped) → i < length events → n ≡ widest_refusal 12 (take i events)
+    → max (refused_beside (get_or events i d).event) n ≡ widest_refusal 12 (take (i + 1) events)
+widest_refusal_more events i n d h is =
+    ap (max (refused_beside (get_or events i d).event)) is
+    ∙ sym (fold_more (λ (n : ℕ) (s : Stamped). max (refused_beside s.event) n) 12 events i d h)
+
+pub widest_beside_more : (room : ℕ) (ls : List Letter) (i n : ℕ) (d : Letter) → i < length ls → n ≡ widest_beside room (take i ls)
+    → max (letter_beside (get_or ls i d)) n ≡ widest_beside room (take (i + 1) ls)
+widest_beside_more room ls i n d h is =
+    ap (max (letter_beside (get_or ls i d))) is
+    ∙ sym (fold_more (λ (n : ℕ) (l : Letter). max (letter_beside l) n) room ls i d h)
+
+-- one more letter in flight, or not
+pub flight_more : (ls : List Letter) (i n : ℕ) (d : Letter) → i < length ls → n ≡ in_flight (take i ls)
+    → cond (is_some (get_or ls i d).arrow.came) n (capped (n + 1)) ≡ in_flight (take (i + 1) ls)
+flight_more ls i n d h is =
+    ap (λ k. cond (is_some (get_or ls i d).arrow.came) k (capped (k + 1))) is
+    ∙ sym (fold_more (λ (n : ℕ) (l : Letter). cond (is_some l.arrow.came) n (capped (n + 1))) 0 ls i d h)
 
 -- one more event, and how many rows there are then
 pub count_of_more : (rows : List ℕ) (i n : ℕ) → i < length rows → n ≡ count_of (take i rows) → max (capped (get_or rows i 0 + 1)) n ≡ count_of (take (i + 1) rows)

@@ -25,13 +25,9 @@ pushed_then (Ok x) old mid new a b h k = k ∙ ap (λ z. z ++ b) h ∙ append_as
 pushed_then (Err x) old mid new a b h k = tt
 
 -- a text that is another one too
-pub text_as : {T E : Type 0} (bytes : T → List ℕ) (r : Result T E) (a b : List ℕ) → a ≡ b → IfOk r (λ t. bytes t ≡ a) → IfOk r (λ t. bytes t ≡ b)
+pub text_as : {T E X : Type 0} (bytes : T → List X) (r : Result T E) (a b : List X) → a ≡ b → IfOk r (λ t. bytes t ≡ a) → IfOk r (λ t. bytes t ≡ b)
 text_as bytes (Ok t) a b e h = h ∙ e
 text_as bytes (Err x) a b e h = tt
-
--- eight pieces of a text, put together from the front
-pub eight_pieces : (a b c d e f g h : List ℕ) → a ++ (b ++ (c ++ (d ++ (e ++ (f ++ (g ++ h)))))) ≡ a ++ b ++ c ++ d ++ e ++ f ++ g ++ h
-eight_pieces a b c d e f g h = simp append_assoc
 
 -- the next part of a text that is written part by part
 pub written_next : {X : Type 0} (f : X → List ℕ) (xs : List X) (i : ℕ) (d : X) (old mid new : List ℕ) → i < length xs → mid ≡ old ++ flat_map f (take i xs) → new ≡ mid ++ f (get_or xs i d) → new ≡ old ++ flat_map f (take (i + 1) xs)

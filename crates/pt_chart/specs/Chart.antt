@@ -117,10 +117,10 @@ arrows events ps a earlier (l ∷ later) = arrow events ps a earlier l ∷ arrow
 
 -- the whole -------------------------------------------------------------------------------------------
 
--- the event is the receipt of a letter that, as the history has it, the very one before it sent
+-- the event is the receipt of a letter that, as the history has it, the very one before it sent, where that is no receipt
 abbrev pub follows_in : List Stamped → ℕ → Bool
 follows_in events event =
-    list_any (λ p. list_any (comes_next event) (arrows events (everyone events) p [] (sent_of (past_of events) p)))
+    list_any (λ p. list_any (comes_next events event) (arrows events (everyone events) p [] (sent_of (past_of events) p)))
     (everyone events)
 
 -- its end and its arrows are those of the history
@@ -135,7 +135,7 @@ pub record IsColumn (events : List Stamped) (c : Column) : Type 0 where
 pub record IsLayout (events : List Stamped) (l : Layout) : Type 0 where
   pub pids : map (λ c. c.pid) l.columns.items ≡ everyone events
   pub columns : All (λ c. IsColumn events c) l.columns.items
-  pub rows : AreRows events (follows_sending l.columns.items) l.rows.items
+  pub rows : AreRows events (follows_sending events l.columns.items) l.rows.items
 
 -- ends, arrows and rows are those of the history alone
 pub record ShowsHistory (events : List Stamped) (l : Layout) : Type 0 where

@@ -1,6 +1,6 @@
 -- Of what a chart is drawn, in order: the parts that stand behind come first.
-use Rattle.std.specs.Prelude.{◌≡◌, ◌==◌, ◌/◌, ◌%◌, ◌+◌, ◌-◌, ◌||◌, ℕ, max, fold, cond, not, Bool, List, [], ◌∷◌, ◌++◌}
-use Rattle.std.specs.Prelude.{length, map, take, drop, slice_index, position, unwrap_or, is_some, codes, Option, Some, None}
+use Rattle.std.specs.Prelude.{◌≡◌, ◌==◌, ◌/◌, ◌%◌, ◌+◌, ◌-◌, ◌*◌, ◌||◌, if◌then◌else◌, ℕ, max, min, fold, cond, not, Bool, false, List, [], ◌∷◌, ◌++◌}
+use Rattle.std.specs.Prelude.{length, map, take, drop, slice_index, position, slice_get, unwrap_or, is_some, codes, Option, Some, None}
 use Rattle.std.specs.List.{flat_map, enumerate_from, list_any}
 use Rattle.std.specs.Map.{lookup}
 use Rattle.std.specs.Option.{option_map}
@@ -12,15 +12,18 @@ use Rattle.pt_events.specs.declared.event.Event.{Event}
 use Rattle.pt_events.specs.declared.event.Event.TheVariants.{Born, Said, Came, Took, Flag, Left, Refused}
 use Rattle.pt_events.specs.declared.event.Stamped.{Stamped}
 use Rattle.pt_chart.specs.declared.called.Called.{Called}
+use Rattle.pt_chart.specs.declared.layout.Arrow.{Arrow}
 use Rattle.pt_chart.specs.declared.layout.Column.{Column}
 use Rattle.pt_chart.specs.declared.layout.Layout.{Layout}
 use Rattle.pt_chart.specs.declared.page.Page.{Page}
+use Rattle.pt_chart.specs.declared.part.Letter.{Letter}
 use Rattle.pt_chart.specs.declared.part.Part.{Part}
 use Rattle.pt_chart.specs.declared.part.Part.TheVariants as part
 use Rattle.pt_chart.specs.declared.part.Mark.TheVariants.{Bearing, Birth, Taking, Trapping, Refusal}
 use Rattle.pt_chart.specs.Chart.{IsLayout, IsLegalHistory, ShowsHistory, named_columns}
-use Rattle.pt_chart.specs.Rows.{count_of, in_rows}
+use Rattle.pt_chart.specs.Rows.{count_of, in_rows, is_at_row}
 use Rattle.pt_chart.specs.Text.{page_head, part_text}
+use Rattle.pt_events.specs.Counting.{capped}
 
 -- what f gives for each of a list and its number, from 0, one after the other
 abbrev pub each_numbered : {X Y : Type 0} → (ℕ → X → List Y) → List X → List Y
@@ -44,13 +47,48 @@ life rows k (Some born) ended =
 abbrev pub column : List ℕ → ℕ → Column → List Part
 column rows k c = part.Column k ∷ life rows k c.born c.ended
 
--- an arrow for each letter that goes out from a column, where the events stand in these rows
-abbrev pub letters : List ℕ → ℕ → Column → List Part
-letters rows k c = map (λ a. part.Letter k (in_rows rows a)) c.arrows.items
+-- the receipt of this event ends the process
+abbrev pub is_at_end : Option (ℕ × Reason) → Option ℕ → Bool
+is_at_end None came = false
+is_at_end (Some e) came = is_at_row e.0 came
 
--- what each of them says
-abbrev pub sayings : List ℕ → ℕ → Column → List Part
-sayings rows k c = map (λ a. part.Saying k (in_rows rows a)) c.arrows.items
+-- the letter that comes by this event ends the process of the column
+abbrev pub ends_column : Option Column → Option ℕ → Bool
+ends_column None came = false
+ends_column (Some c) came = is_at_end c.ended came
+
+-- the letter of an arrow from a column, where the events stand in these rows; it has no row for its tip yet
+abbrev pub column_letter : List ℕ → List Column → ℕ → Arrow → Letter
+column_letter rows cs k a = record {
+  column = k;
+  arrow = in_rows rows a;
+  ends = ends_column (slice_get cs a.to) a.came;
+  tip = 0;
+}
+
+abbrev pub letters : List ℕ → List Column → ℕ → Column → List Letter
+letters rows cs k c = map (column_letter rows cs k) c.arrows.items
+
+-- how many of the letters did not come
+abbrev pub in_flight : List Letter → ℕ
+in_flight ls = fold (λ n l. cond (is_some l.arrow.came) n (capped (n + 1))) 0 ls
+
+-- the row in which the arrow of a letter ends: that of the receipt, or one of its own below all rows and below those of
+-- the letters in flight before it
+abbrev pub tip_row : ℕ → ℕ → Option ℕ → ℕ
+tip_row rows n None = capped (rows + n)
+tip_row rows n (Some row) = row
+
+abbrev pub tipped : ℕ → List Letter → ℕ → Letter → List Letter
+tipped rows ls i l = record l { tip = tip_row rows (in_flight (take i ls)) l.arrow.came } ∷ []
+
+-- the letters of a layout, column by column, each with the row of its tip
+abbrev pub letters_of : List ℕ → List Column → List Letter
+letters_of rows cs =
+    each_numbered (tipped (count_of rows) (each_numbered (letters rows cs) cs)) (each_numbered (letters rows cs) cs)
+
+abbrev pub all_letters : Layout → List Letter
+all_letters l = letters_of l.rows.items l.columns.items
 
 -- the column of a process; behind all if it has none
 abbrev pub place_in : List Column → Pid → ℕ
@@ -71,7 +109,7 @@ bears rows cs i s = event_bearing cs (slice_index rows i) s.event
 
 -- the mark of an event in its row, where these are the columns
 abbrev pub event_mark : List Column → ℕ → Event → List Part
-event_mark cs row (Born p parent link) = part.Mark row (Birth (place_in cs p) p) ∷ []
+event_mark cs row (Born p parent link) = part.Mark row (Birth (place_in cs p)) ∷ []
 event_mark cs row (Said a b x) = []
 event_mark cs row (Came a b x) = []
 event_mark cs row (Took p k i) = part.Mark row (Taking (place_in cs p)) ∷ []
@@ -131,36 +169,46 @@ line_part rows i s = part.Line (slice_index rows i) s (begins_row rows i) (ends_
 abbrev pub line_parts : List ℕ → List Stamped → List Column → ℕ → Stamped → List Part
 line_parts rows events cs i s = cond (begins_row rows i) (names_due rows events cs i) [] ++ line_part rows i s ∷ []
 
--- what is drawn where the events stand in these rows
-abbrev pub drawn_in : List ℕ → List Stamped → List Column → List Part
-drawn_in rows events cs =
-    each_numbered (ground cs) cs ++ each_numbered (column rows) cs ++ each_numbered (letters rows) cs ++ each_numbered (sayings rows) cs
+-- What is drawn where the events stand in these rows. The arrows come last, so nothing lies over them.
+abbrev pub drawn_in : List ℕ → List Stamped → List Column → List Letter → List Part
+drawn_in rows events cs ls =
+    each_numbered (ground cs) cs ++ each_numbered (line_parts rows events cs) events ++ each_numbered (column rows) cs
     ++ each_numbered (bears rows cs) events ++ each_numbered (mark rows cs) events ++ each_numbered (end rows) cs
-    ++ each_numbered (line_parts rows events cs) events
+    ++ map part.Saying ls ++ map part.Flight ls
 
--- each ground, each process, each letter, what it says, the stroke of each birth, each event's mark, each end and each
--- event's line: each once, and nothing else but names
+-- each ground, each event's line, each process, the stroke of each birth, each event's mark, each end, what each letter
+-- says and its arrow: each once, and nothing else but names
 abbrev pub drawn : List Stamped → Layout → List Part
-drawn events l = drawn_in l.rows.items events l.columns.items
+drawn events l = drawn_in l.rows.items events l.columns.items (all_letters l)
 
--- what a process says, and a refused call
-abbrev pub label_beside : Event → List ℕ
-label_beside (Said a b x) = signal_text x
-label_beside (Refused a b) = codes "refused " ++ pid_text b
-label_beside _ = []
+-- the room that a refused call's label takes behind its column
+abbrev pub refused_beside : Event → ℕ
+refused_beside (Refused a b) = capped (7 * length (codes "refused " ++ pid_text b)) - 76
+refused_beside _ = 0
 
--- how many characters the longest such label has, or the longest reason to end
-abbrev pub longest_beside : List Stamped → ℕ
-longest_beside events = fold (λ n s. max (length (label_beside s.event)) n) (length (codes "other:4294967295")) events
+-- how much room the widest of these labels takes, and no less than this
+abbrev pub widest_refusal : ℕ → List Stamped → ℕ
+widest_refusal least events = fold (λ n s. max (refused_beside s.event) n) least events
 
--- as many columns, events and rows as there are, and room for the longest label
-abbrev pub page_of : List Stamped → Layout → Page
-page_of events l = record {
-  beside = longest_beside events;
+-- the room that the label of a letter takes behind its column: that of one from a process to itself is right of it
+abbrev pub letter_beside : Letter → ℕ
+letter_beside l = if l.column == l.arrow.to then capped (7 * min (length (signal_text l.arrow.signal)) 24) - 48 else 0
+
+-- this room, or that of a letter's label if it takes more
+abbrev pub widest_beside : ℕ → List Letter → ℕ
+widest_beside room ls = fold (λ n l. max (letter_beside l) n) room ls
+
+-- as many columns, events and rows as there are, a row for each letter in flight, and room for the widest label
+abbrev pub page_with : List Stamped → Layout → List Letter → Page
+page_with events l ls = record {
+  beside = widest_beside (widest_refusal 12 events) ls;
   columns = length l.columns.items;
   events = length events;
-  rows = count_of l.rows.items;
+  rows = capped (count_of l.rows.items + in_flight ls);
 }
+
+abbrev pub page_of : List Stamped → Layout → Page
+page_of events l = page_with events l (all_letters l)
 
 -- what a process is called: the first name that is given to its pid, or an empty one
 abbrev pub column_name : List (Pid × List ℕ) → Pid → List ℕ

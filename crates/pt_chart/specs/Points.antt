@@ -21,9 +21,7 @@ spot k row = point (x_of k) (y_of row)
 abbrev pub sag : Point → Point → ℕ
 sag from to = if from.y == to.y then 16 else 0
 
--- the points between which an arrow is bent: straight to another column, and by the right back to its own
+-- the points by which an arrow goes around, to the right, back to its own column
 abbrev pub bend : Point → Point → Point × Point
 bend from to =
-    if from.x == to.x
-    then (point (capped (from.x + 44)) (above from.y (sag from to)), point (capped (from.x + 44)) (capped (to.y + sag from to)))
-    else (from, to)
+    (point (capped (from.x + 44)) (above from.y (sag from to)), point (capped (from.x + 44)) (capped (to.y + sag from to)))

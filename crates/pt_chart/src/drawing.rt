@@ -1,25 +1,26 @@
 //! Drawing the chart, from its background to its foreground.
 
-ghost use Rattle.std.specs.Prelude.{◌≡◌, ◌==◌, ◌/◌, ◌<◌, [], ◌∷◌, ◌++◌, IfOk, IfSome, OnOk, length, map, not, position, slice_index};
-ghost use Rattle.std.specs.Prelude.{List, string_bytes, cond, is_some, slice_get, slice_index_or};
+ghost use Rattle.std.specs.Prelude.{◌≡◌, ◌+◌, ◌==◌, ◌/◌, ◌<◌, [], ◌∷◌, ◌++◌, IfOk, IfSome, OnOk, length, map, not, position, slice_index};
+ghost use Rattle.std.specs.Prelude.{List, Option, string_bytes, cond, is_some, slice_get, slice_index_or};
 ghost use Rattle.std.specs.Option.{option_map};
 ghost use Rattle.pt_signal.specs.Values.{same_pid};
-ghost use Rattle.pt_chart.specs.declared.part.Part.TheVariants.{Mark as MarkPart, Name};
+ghost use Rattle.pt_chart.specs.declared.part.Part.TheVariants.{Flight, Mark as MarkPart, Name, Saying};
 ghost use Rattle.pt_events.specs.declared.event.Stamped.{Stamped};
 ghost use Rattle.pt_chart.specs.Mentioning.{AreMentions};
 ghost use Rattle.pt_chart.specs.Receiving.{rows_queued};
-ghost use Rattle.pt_chart.specs.Drawing.{IsChart, bears, begins_row, block, column, drawing_text, drawn, end, ends_row};
-ghost use Rattle.pt_chart.specs.Drawing.{name_in, names_due};
-ghost use Rattle.pt_chart.specs.Drawing.{event_bearing, event_mark, called_given, ground, label_beside, letters, line_parts};
-ghost use Rattle.pt_chart.specs.Drawing.{longest_beside, mark, name, column_names, each_numbered, page_of, place_in};
-ghost use Rattle.pt_chart.specs.Drawing.{sayings, starts_desk};
-ghost use Rattle.pt_chart.specs.Rows.{count_of, in_rows};
+ghost use Rattle.pt_chart.specs.Drawing.{IsChart, all_letters, bears, begins_row, block, column, drawing_text, drawn, drawn_in};
+ghost use Rattle.pt_chart.specs.Drawing.{end, ends_column, ends_row, in_flight, is_at_end, column_letter, letter_beside, letters};
+ghost use Rattle.pt_chart.specs.Drawing.{letters_of, name_in, names_due, page_with, tipped, refused_beside, tip_row};
+ghost use Rattle.pt_chart.specs.Drawing.{event_bearing, event_mark, called_given, ground, line_parts, widest_beside};
+ghost use Rattle.pt_chart.specs.Drawing.{mark, name, column_names, each_numbered, page_of, place_in, starts_desk, widest_refusal};
+ghost use Rattle.pt_chart.specs.Rows.{count_of, in_rows, is_at_row};
+ghost use Rattle.pt_events.specs.Counting.{capped};
 
 use crate::called::{Called, names_of};
 use crate::layout::{Arrow, Column, Layout, lay_out};
 use crate::mentions::{Mentions, mentions_of};
 use crate::page::{BLOCK, Page};
-use crate::part::{Mark, Part};
+use crate::part::{Letter, Mark, Part};
 use crate::text::{write_head, write_parts};
 use pt_events::{Event, Stamped};
 use pt_signal::{Pid, Reason};
@@ -27,18 +28,20 @@ use std::alloc::{AllocError, Global};
 
 /// Draws the history as a message sequence chart, by its layout ([`lay_out`]).
 ///
-/// The text has these, each once and in this order:
+/// The text has these, each once and in this order, and the later ones are in front:
 ///
-/// - the ground and the life of each process;
-/// - each letter's arrow and its label;
+/// - the ground of each process;
+/// - each event's line in the title of its row, with the row's stamps;
+/// - the life of each process;
 /// - the stroke of each birth from the parent;
 /// - each event's mark;
 /// - each exit;
-/// - each event's line in the title of its row.
+/// - the label of each letter;
+/// - the arrow of each letter. One in flight ends in a row of its own, below all others.
 ///
 /// The pids of the processes are above the first row. After each 40 rows it repeats the pids that an event in the next
 /// 40 rows names. Above a pid is the first name that is given for it, with XML's own characters escaped. A row has the
-/// stamp of its first event, and of its last one.
+/// stamp and the desk of its first event, and of its last one.
 pub fn chart(alloc: Global, events: &[Stamped], called: &[Called<'_>]) -> Result<String, AllocError>
     ensures { IfOk result (λ text. IsChart events.now (map called_given called.now) (string_bytes text)) }
 {
@@ -57,24 +60,33 @@ fn drawing_of(
     ensures { IfOk result (λ text. string_bytes text ≡ drawing_text (page_of events.now layout.now)
         (column_names (map called_given called.now) layout.now.columns.items) (drawn events.now layout.now)) }
 {
-    let page = page_of(alloc, events, layout)?;
+    let letters = letters_of(alloc, layout)?;
+    let page = page_with(alloc, events, layout, letters.as_slice())?;
     let names = names_of(alloc, called, layout.columns.as_slice())?;
-    drawing_with(alloc, events, &page, names.as_slice(), layout)
+    drawing_with(
+        alloc,
+        events,
+        &page,
+        names.as_slice(),
+        layout,
+        letters.as_slice(),
+    )
 }
 
-/// The drawing of a layout on this page, if the processes of its columns have these names.
+/// The drawing of a layout and its letters on this page, if the processes of its columns have these names.
 fn drawing_with(
     alloc: Global,
     events: &[Stamped],
     page: &Page,
     names: &[&str],
     layout: &Layout,
+    letters: &[Letter],
 ) -> Result<String, AllocError>
     requires { length layout.now.rows.items ≡ length events.now }
-    ensures { IfOk result (λ text. string_bytes text
-        ≡ drawing_text page.now (map (λ n. n.now) names.now) (drawn events.now layout.now)) }
+    ensures { IfOk result (λ text. string_bytes text ≡ drawing_text page.now (map (λ n. n.now) names.now)
+        (drawn_in layout.now.rows.items events.now layout.now.columns.items letters.now)) }
 {
-    let parts = parts_of(alloc, events, layout)?;
+    let parts = parts_of(alloc, events, layout, letters)?;
     text_of(alloc, page, names, parts.as_slice())
 }
 
@@ -106,15 +118,21 @@ fn write_drawing(
     text.push_str("</svg>\n")
 }
 
-/// The page that has room for a layout of the history.
-fn page_of(alloc: Global, events: &[Stamped], layout: &Layout) -> Result<Page, AllocError>
-    ensures { IfOk result (λ page. page ≡ page_of events.now layout.now) }
+/// The page that has room for a layout of the history and its letters.
+fn page_with(
+    alloc: Global,
+    events: &[Stamped],
+    layout: &Layout,
+    letters: &[Letter],
+) -> Result<Page, AllocError>
+    ensures { IfOk result (λ page. page ≡ page_with events.now layout.now letters.now) }
 {
+    let refused = widest_refusal(alloc, events)?;
     Ok(Page {
-        beside: beside(alloc, events)?,
+        beside: widest_label(alloc, refused, letters)?,
         columns: layout.columns.len(),
         events: events.len(),
-        rows: count_of(layout.rows.as_slice()),
+        rows: count_of(layout.rows.as_slice()).saturating_add(in_flight(letters)),
     })
 }
 
@@ -129,35 +147,192 @@ fn count_of(rows: &[usize]) -> usize
     count
 }
 
-/// The number of characters of the longest label of a signal, of a failed call, or of a reason.
-fn beside(alloc: Global, events: &[Stamped]) -> Result<usize, AllocError>
-    ensures { IfOk result (λ n. n ≡ longest_beside events.now) }
+/// The room that the labels of failed calls take behind their columns, at least a margin of twelve.
+fn widest_refusal(alloc: Global, events: &[Stamped]) -> Result<usize, AllocError>
+    ensures { IfOk result (λ n. n ≡ widest_refusal 12 events.now) }
 {
-    let mut longest = "other:4294967295".len();
+    let mut widest = 12;
     for stamped in events {
-        longest = label_length(alloc, stamped.event)?.max(longest);
+        widest = refused_beside(alloc, stamped.event)?.max(widest);
     }
-    Ok(longest)
+    Ok(widest)
 }
 
-/// The number of characters of an event's label.
-fn label_length(alloc: Global, event: Event) -> Result<usize, AllocError>
-    ensures { IfOk result (λ n. n ≡ length (label_beside event)) }
+/// The room that an event's label takes behind its column.
+fn refused_beside(alloc: Global, event: Event) -> Result<usize, AllocError>
+    ensures { IfOk result (λ n. n ≡ refused_beside event) }
 {
     match event {
-        Event::Said(_, _, signal) => Ok(format!(in alloc; "{signal}")?.len()),
-        Event::Refused(_, to) => Ok(format!(in alloc; "refused {to}")?.len()),
+        Event::Refused(_, to) => {
+            let said = format!(in alloc; "refused {to}")?;
+            Ok(said.len().saturating_mul(7).saturating_sub(76))
+        }
         _ => Ok(0),
     }
 }
 
+/// This room, or that of a letter's label if it takes more.
+fn widest_label(alloc: Global, room: usize, letters: &[Letter]) -> Result<usize, AllocError>
+    ensures { IfOk result (λ n. n ≡ widest_beside room letters.now) }
+{
+    let mut widest = room;
+    for letter in letters {
+        widest = letter_beside(alloc, *letter)?.max(widest);
+    }
+    Ok(widest)
+}
+
+/// The room that the label of a letter takes behind its column: that of one from a process to itself is right of it.
+fn letter_beside(alloc: Global, letter: Letter) -> Result<usize, AllocError>
+    ensures { IfOk result (λ n. n ≡ letter_beside letter) }
+{
+    if letter.column != letter.arrow.to {
+        return Ok(0);
+    }
+    let signal = letter.arrow.signal;
+    let said = format!(in alloc; "{signal}")?;
+    Ok(said.len().min(24).saturating_mul(7).saturating_sub(48))
+}
+
+/// The letters of a layout, column by column, each with the row in which its arrow ends.
+fn letters_of(alloc: Global, layout: &Layout) -> Result<Vec<Letter>, AllocError>
+    ensures { IfOk result (λ v. v.items ≡ all_letters layout.now) }
+{
+    let rows = layout.rows.as_slice();
+    let sent = letters_sent(alloc, rows, layout.columns.as_slice())?;
+    placed(alloc, count_of(rows), sent.as_slice())
+}
+
+/// The letters, column by column. None has a row for its tip yet.
+fn letters_sent(
+    alloc: Global,
+    rows: &[usize],
+    columns: &[Column],
+) -> Result<Vec<Letter>, AllocError>
+    ensures { IfOk result (λ v. v.items ≡ each_numbered (letters rows.now columns.now) columns.now) }
+{
+    let mut letters = Vec::new(alloc);
+    for place in 0..columns.len() {
+        list_letters_from(rows, columns, place, &columns[place], &mut letters)?;
+    }
+    Ok(letters)
+}
+
+fn list_letters_from(
+    rows: &[usize],
+    columns: &[Column],
+    place: usize,
+    shown: &Column,
+    listed: &mut Vec<Letter>,
+) -> Result<(), AllocError>
+    ensures { OnOk result (listed.new.items ≡ listed.old.items ++ letters rows.now columns.now place shown.now) }
+{
+    for arrow in &shown.arrows {
+        listed.push(letter_of(rows, columns, place, *arrow))?;
+    }
+    Ok(())
+}
+
+/// The letter of an arrow from this column.
+fn letter_of(rows: &[usize], columns: &[Column], column: usize, arrow: Arrow) -> Letter
+    ensures { result ≡ column_letter rows.now columns.now column arrow }
+{
+    Letter {
+        column,
+        arrow: in_rows(rows, arrow),
+        ends: ends_column(columns, arrow),
+        tip: 0,
+    }
+}
+
+/// Whether the receipt of a letter ends the receiver.
+fn ends_column(columns: &[Column], arrow: Arrow) -> bool
+    ensures { result ≡ ends_column (slice_get columns.now arrow.to) arrow.came }
+{
+    match columns.get(arrow.to) {
+        Some(receiver) => is_at_end(receiver.ended, arrow.came),
+        None => false,
+    }
+}
+
+fn is_at_end(ended: Option<(usize, Reason)>, came: Option<usize>) -> bool
+    ensures { result ≡ is_at_end ended came }
+{
+    match ended {
+        Some((end, _)) => is_at(end, came),
+        None => false,
+    }
+}
+
+/// Whether a letter arrives by this event.
+fn is_at(event: usize, came: Option<usize>) -> bool
+    ensures { result ≡ is_at_row event came }
+{
+    match came {
+        Some(came) => came == event,
+        None => false,
+    }
+}
+
+/// The letters with the rows in which their arrows end, if there are so many rows.
+fn placed(alloc: Global, rows: usize, letters: &[Letter]) -> Result<Vec<Letter>, AllocError>
+    ensures { IfOk result (λ v. v.items ≡ each_numbered (tipped rows letters.now) letters.now) }
+{
+    let mut placed = Vec::new(alloc);
+    let mut flights = 0;
+    for at in 0..letters.len() {
+        placed.push(with_tip(letters[at], rows, flights))?;
+        flights = and_flight(flights, letters[at]);
+    }
+    Ok(placed)
+}
+
+/// The letter with the row in which its arrow ends: that of its receipt, or the next one below all rows and these flights.
+fn with_tip(letter: Letter, rows: usize, flights: usize) -> Letter
+    ensures { result ≡ record letter { tip = tip_row rows flights letter.arrow.came } }
+{
+    let tip = match letter.arrow.came {
+        Some(row) => row,
+        None => rows.saturating_add(flights),
+    };
+    Letter { tip, ..letter }
+}
+
+/// So many letters in flight, and this one if it is.
+fn and_flight(flights: usize, letter: Letter) -> usize
+    ensures { result ≡ cond (is_some letter.arrow.came) flights (capped (flights + 1)) }
+{
+    if letter.arrow.came.is_some() {
+        flights
+    } else {
+        flights.saturating_add(1)
+    }
+}
+
+/// The number of letters in flight.
+fn in_flight(letters: &[Letter]) -> usize
+    ensures { result ≡ in_flight letters.now }
+{
+    let mut flights = 0;
+    for letter in letters {
+        flights = and_flight(flights, *letter);
+    }
+    flights
+}
+
 /// The parts of the chart.
-fn parts_of(alloc: Global, events: &[Stamped], layout: &Layout) -> Result<Vec<Part>, AllocError>
+fn parts_of(
+    alloc: Global,
+    events: &[Stamped],
+    layout: &Layout,
+    letters: &[Letter],
+) -> Result<Vec<Part>, AllocError>
     requires { length layout.now.rows.items ≡ length events.now }
-    ensures { IfOk result (λ parts. parts.items ≡ drawn events.now layout.now) }
+    ensures { IfOk result (λ parts. parts.items
+        ≡ drawn_in layout.now.rows.items events.now layout.now.columns.items letters.now) }
 {
     let mut parts = Vec::new(alloc);
-    match list_parts(alloc, events, layout, &mut parts) {
+    match list_parts(alloc, events, layout, letters, &mut parts) {
         Ok(()) => Ok(parts),
         Err(error) => Err(error),
     }
@@ -168,22 +343,24 @@ fn list_parts(
     alloc: Global,
     events: &[Stamped],
     layout: &Layout,
+    letters: &[Letter],
     parts: &mut Vec<Part>,
 ) -> Result<(), AllocError>
     requires rows { length layout.now.rows.items ≡ length events.now }
     requires empty { parts.old.items ≡ [] }
-    ensures { OnOk result (parts.new.items ≡ drawn events.now layout.now) }
+    ensures { OnOk result
+        (parts.new.items ≡ drawn_in layout.now.rows.items events.now layout.now.columns.items letters.now) }
 {
     let columns = layout.columns.as_slice();
     let rows = layout.rows.as_slice();
     list_grounds(columns, parts)?;
+    list_lines(alloc, rows, events, columns, parts)?;
     list_columns(rows, columns, parts)?;
-    list_letters(rows, columns, parts)?;
-    list_sayings(rows, columns, parts)?;
     list_bearings(rows, events, columns, parts)?;
     list_marks(rows, events, columns, parts)?;
     list_ends(rows, columns, parts)?;
-    list_lines(alloc, rows, events, columns, parts)
+    list_sayings(letters, parts)?;
+    list_flights(letters, parts)
 }
 
 /// The row of an event.
@@ -301,56 +478,22 @@ fn row_of_end(rows: &[usize], ended: Option<(usize, Reason)>) -> Option<usize>
     }
 }
 
-/// An arrow for each letter.
-fn list_letters(rows: &[usize], columns: &[Column], parts: &mut Vec<Part>) -> Result<(), AllocError>
-    ensures { OnOk result (parts.new.items ≡ parts.old.items ++ each_numbered (letters rows.now) columns.now) }
-{
-    for place in 0..columns.len() {
-        list_letters_from(rows, place, &columns[place], parts)?;
-    }
-    Ok(())
-}
-
-fn list_letters_from(
-    rows: &[usize],
-    place: usize,
-    shown: &Column,
-    parts: &mut Vec<Part>,
-) -> Result<(), AllocError>
-    ensures { OnOk result (parts.new.items ≡ parts.old.items ++ letters rows.now place shown.now) }
-{
-    for arrow in &shown.arrows {
-        parts.push(Part::Letter {
-            column: place,
-            arrow: in_rows(rows, *arrow),
-        })?;
-    }
-    Ok(())
-}
-
 /// The label of each letter.
-fn list_sayings(rows: &[usize], columns: &[Column], parts: &mut Vec<Part>) -> Result<(), AllocError>
-    ensures { OnOk result (parts.new.items ≡ parts.old.items ++ each_numbered (sayings rows.now) columns.now) }
+fn list_sayings(letters: &[Letter], parts: &mut Vec<Part>) -> Result<(), AllocError>
+    ensures { OnOk result (parts.new.items ≡ parts.old.items ++ map Saying letters.now) }
 {
-    for place in 0..columns.len() {
-        list_sayings_of(rows, place, &columns[place], parts)?;
+    for letter in letters {
+        parts.push(Part::Saying(*letter))?;
     }
     Ok(())
 }
 
-fn list_sayings_of(
-    rows: &[usize],
-    place: usize,
-    shown: &Column,
-    parts: &mut Vec<Part>,
-) -> Result<(), AllocError>
-    ensures { OnOk result (parts.new.items ≡ parts.old.items ++ sayings rows.now place shown.now) }
+/// The arrow of each letter.
+fn list_flights(letters: &[Letter], parts: &mut Vec<Part>) -> Result<(), AllocError>
+    ensures { OnOk result (parts.new.items ≡ parts.old.items ++ map Flight letters.now) }
 {
-    for arrow in &shown.arrows {
-        parts.push(Part::Saying {
-            column: place,
-            arrow: in_rows(rows, *arrow),
-        })?;
+    for letter in letters {
+        parts.push(Part::Flight(*letter))?;
     }
     Ok(())
 }
@@ -416,7 +559,7 @@ fn list_mark(
     match event {
         Event::Born(pid, _, _) => {
             let column = column_of(columns, pid);
-            put(row, Mark::Birth { column, pid }, parts)
+            put(row, Mark::Birth { column }, parts)
         }
         Event::Took(pid, _, _) => {
             let column = column_of(columns, pid);

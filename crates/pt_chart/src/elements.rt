@@ -1,9 +1,9 @@
 //! The SVG elements of a chart.
 
 ghost use Rattle.std.specs.Prelude.{◌≡◌, ◌++◌, OnOk, string_bytes};
-ghost use Rattle.pt_chart.specs.Text.{alive_text, before_text, curve_text, desk_text, label_text, last_number_text};
-ghost use Rattle.pt_chart.specs.Text.{level_text, marker_text, name_text, row_number_text, shape_text, size_text, strip_text};
-ghost use Rattle.pt_chart.specs.Text.{stripe_text};
+ghost use Rattle.pt_chart.specs.Text.{alive_text, arrow_begin_text, before_text, curve_text, cut_name_text, desk_text};
+ghost use Rattle.pt_chart.specs.Text.{label_text, last_stamp_text, level_text, name_text, plain_text, row_text, shape_text};
+ghost use Rattle.pt_chart.specs.Text.{size_text, straight_text, stripe_text};
 
 use crate::point::{At, Point};
 use crate::strokes::Stroke;
@@ -22,40 +22,25 @@ pub(crate) fn write_size(
     write!(
         text,
         "<svg xmlns=\"http://www.w3.org/2000/svg\" width=\"{width}\" height=\"{height}\" \
-         viewBox=\"0 0 {width} {height}\" role=\"img\" aria-labelledby=\"title desc\">\n\
+         viewBox=\"-6 0 {width} {height}\" role=\"img\" aria-labelledby=\"title desc\">\n\
          <title id=\"title\">A history: events {events}, processes {columns}</title>\n"
     )
 }
 
-/// The end of a row's title, and its strip across the page. The strip shows only while a pointer is over it.
-pub(crate) fn write_strip(y: u64, width: u64, text: &mut String) -> Result<(), AllocError>
-    ensures { OnOk result (string_bytes text.new ≡ string_bytes text.old ++ strip_text y width) }
+/// The beginning of a row, with the stamp of its first event, up to its title.
+pub(crate) fn write_row(y: u64, stamp: &str, text: &mut String) -> Result<(), AllocError>
+    ensures { OnOk result (string_bytes text.new ≡ string_bytes text.old ++ row_text y stamp.now) }
 {
-    write!(
-        text,
-        "</title><rect y=\"{y}\" width=\"{width}\" height=\"24\"/></g>\n"
-    )
+    write!(text, "<text y=\"{y}\">{stamp}<title>")
 }
 
-/// The stamp of the first event of a row.
-pub(crate) fn write_number(at: Point, number: u64, text: &mut String) -> Result<(), AllocError>
-    ensures { OnOk result (string_bytes text.new ≡ string_bytes text.old ++ row_number_text at number) }
+/// The end of a row that has several events, with the stamp of the last one.
+pub(crate) fn write_last_stamp(stamp: &str, text: &mut String) -> Result<(), AllocError>
+    ensures { OnOk result (string_bytes text.new ≡ string_bytes text.old ++ last_stamp_text stamp.now) }
 {
-    let at = At(at);
     write!(
         text,
-        "<text class=\"number\" {at} dy=\"4\" text-anchor=\"end\">{number}</text>\n"
-    )
-}
-
-/// The stamp of the last event of a row that has several.
-pub(crate) fn write_last_number(at: Point, number: u64, text: &mut String) -> Result<(), AllocError>
-    ensures { OnOk result (string_bytes text.new ≡ string_bytes text.old ++ last_number_text at number) }
-{
-    let at = At(at);
-    write!(
-        text,
-        "<text class=\"number\" {at} dy=\"4\">-{number}</text>\n"
+        "</title><tspan x=\"0\" dy=\"12\">-{stamp}</tspan></text>\n"
     )
 }
 
@@ -70,7 +55,7 @@ pub(crate) fn write_stripe(
 {
     write!(
         text,
-        "<rect class=\"band{parity}\" x=\"{x}\" y=\"48\" width=\"140\" height=\"{height}\"/>\n"
+        "<rect class=\"band{parity}\" x=\"{x}\" y=\"76\" width=\"180\" height=\"{height}\"/>\n"
     )
 }
 
@@ -80,7 +65,7 @@ pub(crate) fn write_desk(x: u64, desk: u8, text: &mut String) -> Result<(), Allo
 {
     write!(
         text,
-        "<text class=\"desk\" x=\"{x}\" y=\"62\">desk {desk}</text>\n"
+        "<text class=\"desk\" x=\"{x}\" y=\"92\">desk {desk}</text>\n"
     )
 }
 
@@ -88,20 +73,31 @@ pub(crate) fn write_desk(x: u64, desk: u8, text: &mut String) -> Result<(), Allo
 pub(crate) fn write_before(x: u64, end: u64, text: &mut String) -> Result<(), AllocError>
     ensures { OnOk result (string_bytes text.new ≡ string_bytes text.old ++ before_text x end) }
 {
-    write!(text, "<path class=\"before\" d=\"M{x} 98V{end}\"/>\n")
+    write!(text, "<path class=\"before\" d=\"M{x} 132V{end}\"/>\n")
 }
 
-/// A name or a pid, and the attribute that fits it into its column.
-pub(crate) fn write_name(
+/// A name or a pid.
+pub(crate) fn write_name(at: Point, name: &str, text: &mut String) -> Result<(), AllocError>
+    ensures { OnOk result (string_bytes text.new ≡ string_bytes text.old ++ name_text at name.now) }
+{
+    let at = At(at);
+    write!(text, "<text class=\"n\" {at}>{name}</text>\n")
+}
+
+/// A name that is cut. A browser shows the whole one under the pointer.
+pub(crate) fn write_cut_name(
     at: Point,
-    fit: &str,
+    whole: &str,
     name: &str,
     text: &mut String,
 ) -> Result<(), AllocError>
-    ensures { OnOk result (string_bytes text.new ≡ string_bytes text.old ++ name_text at fit.now name.now) }
+    ensures { OnOk result (string_bytes text.new ≡ string_bytes text.old ++ cut_name_text at whole.now name.now) }
 {
     let at = At(at);
-    write!(text, "<text class=\"name\" {at}{fit}>{name}</text>\n")
+    write!(
+        text,
+        "<text class=\"n\" {at}><title>{whole}</title>{name}</text>\n"
+    )
 }
 
 pub(crate) fn write_alive(from: Point, to: u64, text: &mut String) -> Result<(), AllocError>
@@ -110,28 +106,36 @@ pub(crate) fn write_alive(from: Point, to: u64, text: &mut String) -> Result<(),
     write!(text, "<path class=\"life\" d=\"M{from}V{to}\"/>\n")
 }
 
-/// The beginning of an arrow.
-pub(crate) fn write_curve(
+/// The beginning of an arrow. The style has its head.
+pub(crate) fn write_arrow_begin(
     stroke: Stroke,
+    flight: &str,
     from: Point,
+    text: &mut String,
+) -> Result<(), AllocError>
+    ensures { OnOk result
+        (string_bytes text.new ≡ string_bytes text.old ++ arrow_begin_text stroke flight.now from) }
+{
+    write!(text, "<path class=\"{stroke}{flight}\" d=\"M{from}")
+}
+
+/// The rest of an arrow to another column.
+pub(crate) fn write_straight(to: Point, text: &mut String) -> Result<(), AllocError>
+    ensures { OnOk result (string_bytes text.new ≡ string_bytes text.old ++ straight_text to) }
+{
+    write!(text, "L{to}\"/>\n")
+}
+
+/// The rest of an arrow to its own column.
+pub(crate) fn write_curve(
     bent: (Point, Point),
     to: Point,
     text: &mut String,
 ) -> Result<(), AllocError>
-    ensures { OnOk result (string_bytes text.new ≡ string_bytes text.old ++ curve_text stroke from bent to) }
+    ensures { OnOk result (string_bytes text.new ≡ string_bytes text.old ++ curve_text bent to) }
 {
     let (leaving, coming) = bent;
-    write!(
-        text,
-        "<path class=\"{stroke}\" d=\"M{from}C{leaving} {coming} {to}"
-    )
-}
-
-/// The head of an arrow, and its end.
-pub(crate) fn write_marker(stroke: Stroke, head: &str, text: &mut String) -> Result<(), AllocError>
-    ensures { OnOk result (string_bytes text.new ≡ string_bytes text.old ++ marker_text stroke head.now) }
-{
-    write!(text, "\" marker-end=\"url(#{stroke}-{head})\"/>\n")
+    write!(text, "C{leaving} {coming} {to}\"/>\n")
 }
 
 pub(crate) fn write_level(
@@ -153,18 +157,24 @@ pub(crate) fn write_shape(name: &str, at: Point, text: &mut String) -> Result<()
     write!(text, "<use href=\"#{name}\" {at}/>\n")
 }
 
+/// A text in the colour of a stroke.
 pub(crate) fn write_label(
     stroke: Stroke,
-    at: Point,
     side: &str,
+    at: Point,
     said: &str,
     text: &mut String,
 ) -> Result<(), AllocError>
-    ensures { OnOk result (string_bytes text.new ≡ string_bytes text.old ++ label_text stroke at side.now said.now) }
+    ensures { OnOk result (string_bytes text.new ≡ string_bytes text.old ++ label_text stroke side.now at said.now) }
 {
     let at = At(at);
-    write!(
-        text,
-        "<text class=\"label {stroke}-label\" {at}{side}>{said}</text>\n"
-    )
+    write!(text, "<text class=\"{stroke}{side}\" {at}>{said}</text>\n")
+}
+
+/// A text in the colour of the page's own texts.
+pub(crate) fn write_plain(at: Point, said: &str, text: &mut String) -> Result<(), AllocError>
+    ensures { OnOk result (string_bytes text.new ≡ string_bytes text.old ++ plain_text at said.now) }
+{
+    let at = At(at);
+    write!(text, "<text class=\"k\" {at}>{said}</text>\n")
 }

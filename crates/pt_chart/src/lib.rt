@@ -8,19 +8,20 @@
 //!
 //! # What is drawn
 //!
-//! - Columns: each process that is named has one, by desk and then in order of first appearance. The pids of all
-//!   processes are above the first row. After each 40 rows the chart repeats the pids that an event in the next 40 rows
-//!   names. Each pid is below the name of its process, if one is given.
+//! - Columns: each process that is named has one, by desk and then in order of first appearance. Its head, above the
+//!   first row, has its pid below its name, if one is given. After each 40 rows the chart repeats the heads of the
+//!   processes that an event in the next 40 rows names: the name, or the pid of a process without one.
 //! - Rows: the events are in rows, in the order of the history. The births in front of every other event share one row.
-//!   A receipt is beside its sending if it is the very next event. Each other event has a row of its own. A row has the
-//!   stamp of its first event, and of its last. Its title has the lines of its events, which a browser shows under the
-//!   pointer.
+//!   A receipt is beside its sending if it is the very next event, and its sending is no receipt. Each other event has a
+//!   row of its own. A row has the stamp and the desk of its first event, and of its last. Their title has the lines of
+//!   its events, which a browser shows under the pointer.
 //! - Arrows: an arrow goes from the row in which a letter was sent to the row in which it arrived. Its label has what
-//!   the letter says. The label is beside the sender. If the letter is owed at an exit or is an answer, it is beside
-//!   the receiver, as several of these may be sent in one row. A letter that did not arrive has an open arrow.
-//!   Messages, exits, links, monitors and questions each have a stroke of their own.
-//! - Marks: a box is a birth, with the parent above it, and a dot is an item taken. A square is a change of
-//!   `trap_exit`, and a cross an exit with its reason.
+//!   the letter says, cut to the room that the columns leave. The label is above the arrow, beside the sender. If the
+//!   letter is owed at an exit or is an answer, it is below the arrow, beside the receiver, as several of these may be
+//!   sent in one row. A letter in flight has an open head, and ends in a row of its own below all others. Messages,
+//!   exits, links, monitors and questions each have a stroke of their own. The arrows are in front of all else.
+//! - Marks: a box is a birth, with the parent above it, and a dot an item taken. A square is a change of `trap_exit`, a
+//!   struck circle a failed call, and a cross an exit with its reason below it.
 //!
 //! The colours are those that the reader prefers, light or dark. There are a title and a description for screen
 //! readers. [`lay_out`] computes the places of all these, and its contract says that they are right. The contract of
@@ -38,19 +39,21 @@
 //! 40 rows. Two parts of the work still grow faster than the events. A letter, a mark and a birth look for their columns
 //! among all processes, and every 40 rows each process is looked up once.
 //!
-//! Tests: `checks/tried/pt_scripts/charts.rt.txt` and `checks/examples`.
+//! Tests: `checks/tried/pt_scripts/charts.rt.txt` and `checks/examples`. `checks/charts` measures that no label of many
+//! charts overlaps another one, a mark, a head or an edge.
 //!
 //! # What is proved
 //!
 //! - **Columns.** The layout has a column for each process that the history names, once, by desk and then in order of
 //!   first appearance. (`lay_out`)
-//! - **Rows.** Births at the front share one row. A receipt right after its sending is beside it. Each other event has
-//!   a row of its own.
+//! - **Rows.** Births at the front share one row. A receipt right after its sending is beside it, unless that is a
+//!   receipt too. Each other event has a row of its own.
 //! - **Right places.** In each legal history each exit, receipt and arrow is at the place that the history says. A
-//!   letter still in flight has an open arrow.
+//!   letter still in flight has an open arrow, in a row of its own.
 //! - **The whole text.** `chart` writes the life of each process, each arrow, label, mark and event of that layout,
-//!   once and in order. It adds only the pids above the rows.
-//! - **The page.** It is as wide as its columns, longest label and legend need, and as high as its rows.
+//!   once and in order. It adds only the heads above the rows.
+//! - **The page.** It is as wide as its columns, its legend and the labels outside of the last column need, and as high
+//!   as its rows.
 #![tactic(auto, unfolding(crate::specs::Points::point_text, crate::specs::Points::at_text, crate::specs::Text::stroke_text))]
 
 mod called;

@@ -4,34 +4,32 @@ ghost use Rattle.std.specs.Prelude.{◌≡◌, ℕ, ◌<◌, ◌≤◌};
 ghost use Rattle.pt_chart.specs.Page.{above, height_of, row_or_end, width_of, x_of, y_of};
 
 /// The distance between two rows.
-const ROW: u64 = 24;
+const ROW: u64 = 32;
 /// The number of rows after which the names of the processes are repeated.
 pub(crate) const BLOCK: usize = 40;
 /// The room for these names.
 const NAMES: u64 = 40;
 /// The distance between two columns.
-const COLUMN: u64 = 140;
-/// The room for the numbers of the events.
-const NUMBERS: u64 = 44;
+const COLUMN: u64 = 180;
+/// The room for the stamps of the events.
+const STAMPS: u64 = 74;
 /// The room above the first row.
-const TOP: u64 = 118;
+const TOP: u64 = 152;
 /// The room below the last row.
 const BOTTOM: u64 = 16;
-/// The width of a character of a label, at the most.
-const CHARACTER: u64 = 7;
 /// The width of the legend.
-const LEGEND: u64 = 470;
+const LEGEND: u64 = 250;
 
 /// The measures of a page.
 #[derive(Clone, Copy)]
 pub(crate) struct Page {
-    /// The number of characters of a label beside the last column.
+    /// The room for labels that are wider than the last column.
     pub beside: usize,
     /// The number of processes.
     pub columns: usize,
     /// The number of events.
     pub events: usize,
-    /// The number of their rows.
+    /// The number of their rows, and of those in which letters in flight end.
     pub rows: usize,
 }
 
@@ -41,7 +39,7 @@ pub(crate) fn x(column: usize) -> u64
 {
     COLUMN
         .saturating_mul(column as u64)
-        .saturating_add(NUMBERS + COLUMN / 2)
+        .saturating_add(STAMPS + COLUMN / 2)
 }
 
 /// The middle of a row.
@@ -85,8 +83,8 @@ impl Page {
     {
         COLUMN
             .saturating_mul(self.columns as u64)
-            .saturating_add(NUMBERS)
-            .saturating_add(CHARACTER.saturating_mul(self.beside as u64))
+            .saturating_add(STAMPS)
+            .saturating_add(self.beside as u64)
             .max(LEGEND)
     }
 

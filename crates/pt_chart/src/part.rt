@@ -27,16 +27,10 @@ pub(crate) enum Part {
         born: usize,
         ended: Option<usize>,
     },
-    /// A letter, from the column of its sender.
-    Letter {
-        column: usize,
-        arrow: Arrow,
-    },
     /// The label of a letter, beside its arrow.
-    Saying {
-        column: usize,
-        arrow: Arrow,
-    },
+    Saying(Letter),
+    /// The arrow of a letter.
+    Flight(Letter),
     /// The mark of an event, in its row.
     Mark {
         row: usize,
@@ -63,6 +57,18 @@ pub(crate) enum Part {
     },
 }
 
+/// A letter, from the column of its sender.
+#[derive(Clone, Copy)]
+pub(crate) struct Letter {
+    pub column: usize,
+    /// Where it goes, from row to row.
+    pub arrow: Arrow,
+    /// Whether its receipt ends the receiver.
+    pub ends: bool,
+    /// The row in which its arrow ends: that of its receipt, or one of its own below all others.
+    pub tip: usize,
+}
+
 /// What marks an event.
 #[derive(Clone, Copy)]
 pub(crate) enum Mark {
@@ -76,7 +82,6 @@ pub(crate) enum Mark {
     /// The box of a birth.
     Birth {
         column: usize,
-        pid: Pid,
     },
     /// The dot of an item that is taken.
     Taking {

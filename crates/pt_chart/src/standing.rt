@@ -1,9 +1,9 @@
 //! The rows of the events.
 
-ghost use Rattle.std.specs.Prelude.{◌≡◌, ◌<◌, ◌≤◌, ◌+◌, ◌^◌, ◌==◌, true, false, not, position, length};
+ghost use Rattle.std.specs.Prelude.{◌≡◌, ◌<◌, ◌≤◌, ◌+◌, ◌^◌, ◌==◌, ◌&&◌, true, false, not, position, length};
 ghost use Rattle.std.specs.Prelude.{ℕ, slice_index_or, IfOk};
 ghost use Rattle.std.specs.List.{list_any};
-ghost use Rattle.pt_chart.specs.Rows.{AreRows, births_in_front, comes_next, follows_sending};
+ghost use Rattle.pt_chart.specs.Rows.{AreRows, births_in_front, comes_next, follows_sending, is_came, receives};
 ghost use Rattle.pt_events.specs.History.{is_born};
 ghost use Rattle.pt_chart.specs.Standing.{AreNumbered, Notes};
 
@@ -17,20 +17,20 @@ pub(crate) fn rows_of(
     events: &[Stamped],
     columns: &[Column],
 ) -> Result<Vec<usize>, AllocError>
-    ensures { IfOk result (λ rows. AreRows events.now (follows_sending columns.now) rows.items) }
+    ensures { IfOk result (λ rows. AreRows events.now (follows_sending events.now columns.now) rows.items) }
 {
-    let follows = noted(alloc, events.len(), columns)?;
+    let follows = noted(alloc, events, columns)?;
     numbered(alloc, births_in_front(events), follows.as_slice())
 }
 
-/// Which of so many events are receipts of letters that the very events before them sent.
-fn noted(alloc: Global, count: usize, columns: &[Column]) -> Result<Vec<bool>, AllocError>
-    ensures each { IfOk result (λ v. length v.items ≡ count) }
-    ensures noted { IfOk result
-        (λ v. (i : ℕ) → i < count → slice_index_or v.items i false ≡ follows_sending columns.now i) }
+/// Which events are receipts of letters that the very events before them sent, where these are no receipts.
+fn noted(alloc: Global, events: &[Stamped], columns: &[Column]) -> Result<Vec<bool>, AllocError>
+    ensures each { IfOk result (λ v. length v.items ≡ length events.now) }
+    ensures noted { IfOk result (λ v. (i : ℕ) → i < length events.now
+        → slice_index_or v.items i false ≡ follows_sending events.now columns.now i) }
 {
-    let mut follows = vec![in alloc; false; count]?;
-    note_receipts(columns, &mut follows);
+    let mut follows = vec![in alloc; false; events.len()]?;
+    note_receipts(events, columns, &mut follows);
     Ok(follows)
 }
 
@@ -53,33 +53,56 @@ fn is_born(event: Event) -> bool
     matches!(event, Event::Born(_, _, _))
 }
 
-/// Notes which events are receipts of letters that the very events before them sent.
-fn note_receipts(columns: &[Column], follows: &mut [bool])
-    ensures { Notes (follows_sending columns.now) follows.old follows.new }
+/// Notes which events are receipts of letters that the very events before them sent, where these are no receipts.
+fn note_receipts(events: &[Stamped], columns: &[Column], follows: &mut [bool])
+    ensures { Notes (follows_sending events.now columns.now) follows.old follows.new }
 {
     for column in columns {
-        note_receipts_from(column, follows);
+        note_receipts_from(events, column, follows);
     }
 }
 
-fn note_receipts_from(column: &Column, follows: &mut [bool])
-    ensures { Notes (λ event. list_any (comes_next event) column.now.arrows.items) follows.old follows.new }
+fn note_receipts_from(events: &[Stamped], column: &Column, follows: &mut [bool])
+    ensures { Notes (λ event. list_any (comes_next events.now event) column.now.arrows.items) follows.old follows.new }
 {
     for arrow in &column.arrows {
-        note_receipt(*arrow, follows);
+        note_receipt(events, *arrow, follows);
     }
 }
 
-/// Notes the receipt of a letter, if the very event before it sent it.
-fn note_receipt(arrow: Arrow, follows: &mut [bool])
-    ensures { Notes (λ event. comes_next event arrow) follows.old follows.new }
+/// Notes the receipt of a letter, if the very event before it sent it and is no receipt itself.
+fn note_receipt(events: &[Stamped], arrow: Arrow, follows: &mut [bool])
+    ensures { Notes (λ event. comes_next events.now event arrow) follows.old follows.new }
 {
     let Some(came) = arrow.came else {
         return;
     };
-    if is_next(arrow.sent, came) && came < follows.len() {
+    if shares_row(events, arrow.sent, came) && came < follows.len() {
         follows[came] = true;
     }
+}
+
+/// Whether a receipt is beside its sending: that is the very event before it, and no receipt itself.
+fn shares_row(events: &[Stamped], sent: usize, came: usize) -> bool
+    ensures { result ≡ ((sent + 1 == came) && not (receives events.now sent)) }
+{
+    is_next(sent, came) && !receives(events, sent)
+}
+
+/// Whether the event at a place is a receipt.
+fn receives(events: &[Stamped], at: usize) -> bool
+    ensures { result ≡ receives events.now at }
+{
+    match events.get(at) {
+        Some(stamped) => is_came(stamped.event),
+        None => false,
+    }
+}
+
+fn is_came(event: Event) -> bool
+    ensures { result ≡ is_came event }
+{
+    matches!(event, Event::Came(_, _, _))
 }
 
 /// Whether this is the very next event after that.

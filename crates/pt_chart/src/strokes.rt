@@ -58,11 +58,11 @@ impl fmt::Display for Stroke {
 
     fn fmt<W: fmt::Write>(&self, f: &mut fmt::Formatter<W>) -> fmt::Result {
         f.write_str(match self {
-            Stroke::Message => "message",
-            Stroke::Exit => "exit",
-            Stroke::Link => "link",
-            Stroke::Monitor => "monitor",
-            Stroke::Question => "question",
+            Stroke::Message => "m",
+            Stroke::Exit => "x",
+            Stroke::Link => "l",
+            Stroke::Monitor => "o",
+            Stroke::Question => "q",
         })
     }
 }

@@ -25,7 +25,7 @@ use Rattle.pt_options.specs.Laws.{AskFor, DefaultsStand, FilesAreNamed, TurnsAre
 use Rattle.pt_options.proofs.Reading.{false_unless}
 use Rattle.pt_render.specs.declared.choices.Mode.TheVariants.{Many}
 use Rattle.pt_render.specs.declared.choices.Until.TheVariants.{Quiet}
-use Rattle.pt_render.specs.declared.choices.Show.TheVariants.{Summary, Chart, Mermaid, Json}
+use Rattle.pt_render.specs.declared.choices.Show.TheVariants.{Summary, Chart, Mermaid, Json, Steps, Page}
 use Rattle.pt_render.specs.declared.choices.Options.{Options}
 use Rattle.pt_render.specs.declared.choices.TheConstants.{MOST_EPOCHS, MOST_TURNS}
 
@@ -39,8 +39,8 @@ modes_at a b c = record { ref_ptr = a; now = at b (codes "single") ∷ at c (cod
 abbrev untils_at : ℕ × ℕ → ℕ × ℕ → ℕ × ℕ → Words
 untils_at a b c = record { ref_ptr = a; now = at b (codes "turns") ∷ at c (codes "quiet") ∷ [] }
 
-abbrev shows_at : ℕ × ℕ → ℕ × ℕ → ℕ × ℕ → ℕ × ℕ → ℕ × ℕ → ℕ × ℕ → Words
-shows_at a b c d e f = record { ref_ptr = a; now = at b (codes "summary") ∷ at c (codes "history") ∷ at d (codes "chart") ∷ at e (codes "mermaid") ∷ at f (codes "json") ∷ [] }
+abbrev shows_at : ℕ × ℕ → ℕ × ℕ → ℕ × ℕ → ℕ × ℕ → ℕ × ℕ → ℕ × ℕ → ℕ × ℕ → ℕ × ℕ → Words
+shows_at a b c d e f g h = record { ref_ptr = a; now = at b (codes "summary") ∷ at c (codes "history") ∷ at d (codes "chart") ∷ at e (codes "mermaid") ∷ at f (codes "json") ∷ at g (codes "steps") ∷ at h (codes "page") ∷ [] }
 
 abbrev head_of : Text → List Text → Text
 head_of none [] = none
@@ -73,13 +73,21 @@ five P (y ∷ z ∷ ys) t u v w x e each =
     (subst (λ (o : Text). P (at y.ref_ptr t ∷ at z.ref_ptr o ∷ ys)) (sym (ap (λ vs. head_of [] (tail_of vs)) e))
     (three (λ rest. P (at y.ref_ptr t ∷ at z.ref_ptr u ∷ rest)) ys v w x (ap (λ vs. tail_of (tail_of vs)) e) (each y.ref_ptr z.ref_ptr)))
 
+seven : (P : List (Bor Text) → Type 0) (xs : List (Bor Text)) (r s t u v w x : Text) → map (λ b. b.now) xs ≡ r ∷ s ∷ t ∷ u ∷ v ∷ w ∷ x ∷ [] → ((b c d e f g h : ℕ × ℕ) → P (at b r ∷ at c s ∷ at d t ∷ at e u ∷ at f v ∷ at g w ∷ at h x ∷ [])) → P xs
+seven P [] r s t u v w x e each = cc
+seven P (a ∷ []) r s t u v w x e each = cc
+seven P (a ∷ y ∷ xs) r s t u v w x e each =
+    subst (λ (o : Text). P (at a.ref_ptr o ∷ y ∷ xs)) (sym (ap (head_of []) e))
+    (subst (λ (o : Text). P (at a.ref_ptr r ∷ at y.ref_ptr o ∷ xs)) (sym (ap (λ vs. head_of [] (tail_of vs)) e))
+    (five (λ rest. P (at a.ref_ptr r ∷ at y.ref_ptr s ∷ rest)) xs t u v w x (ap (λ vs. tail_of (tail_of vs)) e) (each a.ref_ptr y.ref_ptr)))
+
 -- what holds of the command wherever its words stand holds of it
-of_command : (P : App → Type 0) → ((a b c k l m d e f g i j : ℕ × ℕ) → P (command_with (modes_at a b c) (untils_at k l m) (shows_at d e f g i j))) → (a : App) → IsCommand a → P a
+of_command : (P : App → Type 0) → ((a b c k l m d e f g i j n o : ℕ × ℕ) → P (command_with (modes_at a b c) (untils_at k l m) (shows_at d e f g i j n o))) → (a : App) → IsCommand a → P a
 of_command P each a is =
     subst P (sym is.6)
     (two (λ xs. P (command_with (record { ref_ptr = is.0.ref_ptr; now = xs }) is.1 is.2)) is.0.now (codes "single") (codes "many") is.3 (λ b c.
     two (λ xs. P (command_with (modes_at is.0.ref_ptr b c) (record { ref_ptr = is.1.ref_ptr; now = xs }) is.2)) is.1.now (codes "turns") (codes "quiet") is.4 (λ l m.
-    five (λ xs. P (command_with (modes_at is.0.ref_ptr b c) (untils_at is.1.ref_ptr l m) (record { ref_ptr = is.2.ref_ptr; now = xs }))) is.2.now (codes "summary") (codes "history") (codes "chart") (codes "mermaid") (codes "json") is.5 (λ e f g i j. each is.0.ref_ptr b c is.1.ref_ptr l m is.2.ref_ptr e f g i j))))
+    seven (λ xs. P (command_with (modes_at is.0.ref_ptr b c) (untils_at is.1.ref_ptr l m) (record { ref_ptr = is.2.ref_ptr; now = xs }))) is.2.now (codes "summary") (codes "history") (codes "chart") (codes "mermaid") (codes "json") (codes "steps") (codes "page") is.5 (λ e f g i j n o. each is.0.ref_ptr b c is.1.ref_ptr l m is.2.ref_ptr e f g i j n o))))
 
 -- the three facts of words that are no fault
 abbrev Asks : List Text → Option Text → Options → App → Type 0
@@ -87,11 +95,11 @@ Asks words file options a = (name : Text) → (fault_of a (name ∷ words) ≡ [
 
 pub no_words : DefaultsStand
 unfolding clap_on_literals
-no_words = of_command (Asks [] None defaults) (λ a b c k l m d e f g i j name. (refl, refl, refl))
+no_words = of_command (Asks [] None defaults) (λ a b c k l m d e f g i j n o name. (refl, refl, refl))
 
 hyphen_named : AskFor (codes "-" ∷ []) (Some (codes "-")) defaults
 unfolding clap_on_literals
-hyphen_named = of_command (Asks (codes "-" ∷ []) (Some (codes "-")) defaults) (λ a b c k l m d e f g i j name. (refl, refl, refl))
+hyphen_named = of_command (Asks (codes "-" ∷ []) (Some (codes "-")) defaults) (λ a b c k l m d e f g i j n o name. (refl, refl, refl))
 
 not_dashes : (file : Text) → strip_byte 45 file ≡ None → bytes_eq file (45 ∷ 45 ∷ []) ≡ false
 not_dashes file plain = false_unless _ (λ e. let is : file ≡ 45 ∷ 45 ∷ [] = (bytes_eq-Decides file (45 ∷ 45 ∷ [])).0 e in let bad : Some (45 ∷ []) ≡ None = sym (ap (strip_byte 45) is) ∙ plain in cc)
@@ -121,10 +129,10 @@ pub file_named : FilesAreNamed
 unfolding defaults_fault
 file_named = (
   hyphen_named,
-  λ file plain. of_command (Asks (file ∷ []) (Some file) defaults) (λ a b c k l m d e f g i j name. (
-    rw (file_passes (modes_at a b c) (untils_at k l m) (shows_at d e f g i j) file plain, file_walked (modes_at a b c) (untils_at k l m) (shows_at d e f g i j) file plain) refl,
-    rw (file_walked (modes_at a b c) (untils_at k l m) (shows_at d e f g i j) file plain) refl,
-    rw (file_walked (modes_at a b c) (untils_at k l m) (shows_at d e f g i j) file plain) refl,
+  λ file plain. of_command (Asks (file ∷ []) (Some file) defaults) (λ a b c k l m d e f g i j n o name. (
+    rw (file_passes (modes_at a b c) (untils_at k l m) (shows_at d e f g i j n o) file plain, file_walked (modes_at a b c) (untils_at k l m) (shows_at d e f g i j n o) file plain) refl,
+    rw (file_walked (modes_at a b c) (untils_at k l m) (shows_at d e f g i j n o) file plain) refl,
+    rw (file_walked (modes_at a b c) (untils_at k l m) (shows_at d e f g i j n o) file plain) refl,
   )),
 )
 
@@ -168,14 +176,14 @@ turns_walk modes untils shows t ok = rw ok refl
 
 pub turns_told : TurnsAreTold
 unfolding clap_on_literals
-turns_told t ok = of_command (Asks ((codes "--turns=" ++ t) ∷ []) None (record defaults { turns = digits_value 10 (without_leading_plus t) })) (λ a b c k l m d e f g i j name. (passes_by_walk (modes_at a b c) (untils_at k l m) (shows_at d e f g i j) (codes "--turns=" ++ t) name (turns_walk (modes_at a b c) (untils_at k l m) (shows_at d e f g i j) t ok) refl, refl, ap (λ (n : ℕ). record defaults { turns = n }) (taken t ok)))
+turns_told t ok = of_command (Asks ((codes "--turns=" ++ t) ∷ []) None (record defaults { turns = digits_value 10 (without_leading_plus t) })) (λ a b c k l m d e f g i j n o name. (passes_by_walk (modes_at a b c) (untils_at k l m) (shows_at d e f g i j n o) (codes "--turns=" ++ t) name (turns_walk (modes_at a b c) (untils_at k l m) (shows_at d e f g i j n o) t ok) refl, refl, ap (λ (n : ℕ). record defaults { turns = n }) (taken t ok)))
 
 turns_wrong : (modes untils shows : Words) (t : Text) → is_unsigned_in 0 MOST_TURNS t ≡ false → walk_fault (built (command_with modes untils shows)).top [] (walk_from nothing_held) ((codes "--turns=" ++ t) ∷ []) ≡ ValueValidation ∷ []
 unfolding clap_on_literals
 turns_wrong modes untils shows t bad = rw bad refl
 
 pub turns_refused : WrongTurnsAreRefused
-turns_refused t bad = of_command (λ x. (name : Text) → fault_of x (name ∷ (codes "--turns=" ++ t) ∷ []) ≡ ValueValidation ∷ []) (λ a b c k l m d e f g i j name. refused_by_walk ValueValidation (modes_at a b c) (untils_at k l m) (shows_at d e f g i j) (codes "--turns=" ++ t) name (turns_wrong (modes_at a b c) (untils_at k l m) (shows_at d e f g i j) t bad))
+turns_refused t bad = of_command (λ x. (name : Text) → fault_of x (name ∷ (codes "--turns=" ++ t) ∷ []) ≡ ValueValidation ∷ []) (λ a b c k l m d e f g i j n o name. refused_by_walk ValueValidation (modes_at a b c) (untils_at k l m) (shows_at d e f g i j n o) (codes "--turns=" ++ t) name (turns_wrong (modes_at a b c) (untils_at k l m) (shows_at d e f g i j n o) t bad))
 
 -- and so is one of epochs
 taken_epochs : (t : Text) → is_unsigned_in 1 MOST_EPOCHS t ≡ true → epochs_of (number_written t) ≡ digits_value 10 (without_leading_plus t)
@@ -190,20 +198,20 @@ epochs_walk modes untils shows t ok = rw ok refl
 
 pub epochs_told : EpochsAreTold
 unfolding clap_on_literals
-epochs_told t ok = of_command (Asks ((codes "--epochs=" ++ t) ∷ []) None (record defaults { epochs = digits_value 10 (without_leading_plus t) })) (λ a b c k l m d e f g i j name. (passes_by_walk (modes_at a b c) (untils_at k l m) (shows_at d e f g i j) (codes "--epochs=" ++ t) name (epochs_walk (modes_at a b c) (untils_at k l m) (shows_at d e f g i j) t ok) refl, refl, ap (λ (n : ℕ). record defaults { epochs = n }) (taken_epochs t ok)))
+epochs_told t ok = of_command (Asks ((codes "--epochs=" ++ t) ∷ []) None (record defaults { epochs = digits_value 10 (without_leading_plus t) })) (λ a b c k l m d e f g i j n o name. (passes_by_walk (modes_at a b c) (untils_at k l m) (shows_at d e f g i j n o) (codes "--epochs=" ++ t) name (epochs_walk (modes_at a b c) (untils_at k l m) (shows_at d e f g i j n o) t ok) refl, refl, ap (λ (n : ℕ). record defaults { epochs = n }) (taken_epochs t ok)))
 
 epochs_wrong : (modes untils shows : Words) (t : Text) → is_unsigned_in 1 MOST_EPOCHS t ≡ false → walk_fault (built (command_with modes untils shows)).top [] (walk_from nothing_held) ((codes "--epochs=" ++ t) ∷ []) ≡ ValueValidation ∷ []
 unfolding clap_on_literals
 epochs_wrong modes untils shows t bad = rw bad refl
 
 pub epochs_refused : WrongEpochsAreRefused
-epochs_refused t bad = of_command (λ x. (name : Text) → fault_of x (name ∷ (codes "--epochs=" ++ t) ∷ []) ≡ ValueValidation ∷ []) (λ a b c k l m d e f g i j name. refused_by_walk ValueValidation (modes_at a b c) (untils_at k l m) (shows_at d e f g i j) (codes "--epochs=" ++ t) name (epochs_wrong (modes_at a b c) (untils_at k l m) (shows_at d e f g i j) t bad))
+epochs_refused t bad = of_command (λ x. (name : Text) → fault_of x (name ∷ (codes "--epochs=" ++ t) ∷ []) ≡ ValueValidation ∷ []) (λ a b c k l m d e f g i j n o name. refused_by_walk ValueValidation (modes_at a b c) (untils_at k l m) (shows_at d e f g i j n o) (codes "--epochs=" ++ t) name (epochs_wrong (modes_at a b c) (untils_at k l m) (shows_at d e f g i j n o) t bad))
 
 pub modes_told : ModesAreTold
 unfolding clap_on_literals
 modes_told = (
-  of_command (Asks (codes "--threads=single" ∷ []) None defaults) (λ a b c k l m d e f g i j name. (refl, refl, refl)),
-  of_command (Asks (codes "--threads=many" ∷ []) None (record defaults { threads = Many })) (λ a b c k l m d e f g i j name. (refl, refl, refl)),
+  of_command (Asks (codes "--threads=single" ∷ []) None defaults) (λ a b c k l m d e f g i j n o name. (refl, refl, refl)),
+  of_command (Asks (codes "--threads=many" ∷ []) None (record defaults { threads = Many })) (λ a b c k l m d e f g i j n o name. (refl, refl, refl)),
 )
 
 another : (w t : Text) → t ≢ w → bytes_eq w t ≡ false
@@ -217,7 +225,7 @@ unfolding clap_on_literals
 mode_refused modes untils shows t other = rw other refl
 
 pub modes_refused : WrongModesAreRefused
-modes_refused t single many = of_command (λ x. (name : Text) → fault_of x (name ∷ (codes "--threads=" ++ t) ∷ []) ≡ InvalidValue ∷ []) (λ a b c k l m d e f g i j name. refused_by_walk InvalidValue (modes_at a b c) (untils_at k l m) (shows_at d e f g i j) (codes "--threads=" ++ t) name (mode_refused (modes_at a b c) (untils_at k l m) (shows_at d e f g i j) t (no_mode a b c t single many)))
+modes_refused t single many = of_command (λ x. (name : Text) → fault_of x (name ∷ (codes "--threads=" ++ t) ∷ []) ≡ InvalidValue ∷ []) (λ a b c k l m d e f g i j n o name. refused_by_walk InvalidValue (modes_at a b c) (untils_at k l m) (shows_at d e f g i j n o) (codes "--threads=" ++ t) name (mode_refused (modes_at a b c) (untils_at k l m) (shows_at d e f g i j n o) t (no_mode a b c t single many)))
 
 no_until : (k l m : ℕ × ℕ) (t : Text) → t ≢ codes "turns" → t ≢ codes "quiet" → is_word (untils_at k l m) t ≡ false
 no_until k l m t turns quiet = rw (another (codes "turns") t turns, another (codes "quiet") t quiet) refl
@@ -227,59 +235,62 @@ unfolding clap_on_literals
 until_refused modes untils shows t other = rw other refl
 
 pub untils_refused : WrongUntilsAreRefused
-untils_refused t turns quiet = of_command (λ x. (name : Text) → fault_of x (name ∷ (codes "--until=" ++ t) ∷ []) ≡ InvalidValue ∷ []) (λ a b c k l m d e f g i j name. refused_by_walk InvalidValue (modes_at a b c) (untils_at k l m) (shows_at d e f g i j) (codes "--until=" ++ t) name (until_refused (modes_at a b c) (untils_at k l m) (shows_at d e f g i j) t (no_until k l m t turns quiet)))
+untils_refused t turns quiet = of_command (λ x. (name : Text) → fault_of x (name ∷ (codes "--until=" ++ t) ∷ []) ≡ InvalidValue ∷ []) (λ a b c k l m d e f g i j n o name. refused_by_walk InvalidValue (modes_at a b c) (untils_at k l m) (shows_at d e f g i j n o) (codes "--until=" ++ t) name (until_refused (modes_at a b c) (untils_at k l m) (shows_at d e f g i j n o) t (no_until k l m t turns quiet)))
 
 pub untils_told : UntilsAreTold
 unfolding clap_on_literals
 untils_told = (
-  of_command (Asks (codes "--until=turns" ∷ []) None defaults) (λ a b c k l m d e f g i j name. (refl, refl, refl)),
-  of_command (Asks (codes "--until=quiet" ∷ []) None (record defaults { until = Quiet })) (λ a b c k l m d e f g i j name. (refl, refl, refl)),
+  of_command (Asks (codes "--until=turns" ∷ []) None defaults) (λ a b c k l m d e f g i j n o name. (refl, refl, refl)),
+  of_command (Asks (codes "--until=quiet" ∷ []) None (record defaults { until = Quiet })) (λ a b c k l m d e f g i j n o name. (refl, refl, refl)),
 )
 
 pub prints_told : PrintsAreTold
 unfolding clap_on_literals
 prints_told = (
-  of_command (Asks (codes "--print=summary" ∷ []) None (record defaults { print = Summary })) (λ a b c k l m d e f g i j name. (refl, refl, refl)),
-  of_command (Asks (codes "--print=history" ∷ []) None defaults) (λ a b c k l m d e f g i j name. (refl, refl, refl)),
-  of_command (Asks (codes "--print=chart" ∷ []) None (record defaults { print = Chart })) (λ a b c k l m d e f g i j name. (refl, refl, refl)),
-  of_command (Asks (codes "--print=mermaid" ∷ []) None (record defaults { print = Mermaid })) (λ a b c k l m d e f g i j name. (refl, refl, refl)),
-  of_command (Asks (codes "--print=json" ∷ []) None (record defaults { print = Json })) (λ a b c k l m d e f g i j name. (refl, refl, refl)),
+  of_command (Asks (codes "--print=summary" ∷ []) None (record defaults { print = Summary })) (λ a b c k l m d e f g i j n o name. (refl, refl, refl)),
+  of_command (Asks (codes "--print=history" ∷ []) None defaults) (λ a b c k l m d e f g i j n o name. (refl, refl, refl)),
+  of_command (Asks (codes "--print=chart" ∷ []) None (record defaults { print = Chart })) (λ a b c k l m d e f g i j n o name. (refl, refl, refl)),
+  of_command (Asks (codes "--print=mermaid" ∷ []) None (record defaults { print = Mermaid })) (λ a b c k l m d e f g i j n o name. (refl, refl, refl)),
+  of_command (Asks (codes "--print=json" ∷ []) None (record defaults { print = Json })) (λ a b c k l m d e f g i j n o name. (refl, refl, refl)),
+  of_command (Asks (codes "--print=steps" ∷ []) None (record defaults { print = Steps })) (λ a b c k l m d e f g i j n o name. (refl, refl, refl)),
+  of_command (Asks (codes "--print=page" ∷ []) None (record defaults { print = Page })) (λ a b c k l m d e f g i j n o name. (refl, refl, refl)),
 )
 
-no_show : (a b c d e f : ℕ × ℕ) (t : Text) → t ≢ codes "summary" → t ≢ codes "history" → t ≢ codes "chart" → t ≢ codes "mermaid" → t ≢ codes "json" → is_word (shows_at a b c d e f) t ≡ false
-no_show a b c d e f t summary history chart mermaid json = rw (another (codes "summary") t summary, another (codes "history") t history, another (codes "chart") t chart, another (codes "mermaid") t mermaid, another (codes "json") t json) refl
+no_show : (a b c d e f g h : ℕ × ℕ) (t : Text) → t ≢ codes "summary" → t ≢ codes "history" → t ≢ codes "chart" → t ≢ codes "mermaid" → t ≢ codes "json" → t ≢ codes "steps" → t ≢ codes "page" → is_word (shows_at a b c d e f g h) t ≡ false
+no_show a b c d e f g h t summary history chart mermaid json steps page =
+    rw (another (codes "summary") t summary, another (codes "history") t history, another (codes "chart") t chart, another (codes "mermaid") t mermaid, another (codes "json") t json, another (codes "steps") t steps, another (codes "page") t page) refl
 
 show_refused : (modes untils shows : Words) (t : Text) → is_word shows t ≡ false → walk_fault (built (command_with modes untils shows)).top [] (walk_from nothing_held) ((codes "--print=" ++ t) ∷ []) ≡ InvalidValue ∷ []
 unfolding clap_on_literals
 show_refused modes untils shows t other = rw other refl
 
 pub prints_refused : WrongPrintsAreRefused
-prints_refused t summary history chart mermaid json = of_command (λ x. (name : Text) → fault_of x (name ∷ (codes "--print=" ++ t) ∷ []) ≡ InvalidValue ∷ []) (λ a b c k l m d e f g i j name. refused_by_walk InvalidValue (modes_at a b c) (untils_at k l m) (shows_at d e f g i j) (codes "--print=" ++ t) name (show_refused (modes_at a b c) (untils_at k l m) (shows_at d e f g i j) t (no_show d e f g i j t summary history chart mermaid json)))
+prints_refused t summary history chart mermaid json steps page = of_command (λ x. (name : Text) → fault_of x (name ∷ (codes "--print=" ++ t) ∷ []) ≡ InvalidValue ∷ []) (λ a b c k l m d e f g i j n o name. refused_by_walk InvalidValue (modes_at a b c) (untils_at k l m) (shows_at d e f g i j n o) (codes "--print=" ++ t) name (show_refused (modes_at a b c) (untils_at k l m) (shows_at d e f g i j n o) t (no_show d e f g i j n o t summary history chart mermaid json steps page)))
 
 pub explaining_told : ExplainingIsTold
 unfolding clap_on_literals
-explaining_told = of_command (Asks (codes "--explain" ∷ []) None (record defaults { explain = true })) (λ a b c k l m d e f g i j name. (refl, refl, refl))
+explaining_told = of_command (Asks (codes "--explain" ∷ []) None (record defaults { explain = true })) (λ a b c k l m d e f g i j n o name. (refl, refl, refl))
 
 pub explaining_alone : ExplainingTakesNoValue
 unfolding clap_on_literals
-explaining_alone t = of_command (λ x. (name : Text) → fault_of x (name ∷ (codes "--explain=" ++ t) ∷ []) ≡ TooManyValues ∷ []) (λ a b c k l m d e f g i j name. refl)
+explaining_alone t = of_command (λ x. (name : Text) → fault_of x (name ∷ (codes "--explain=" ++ t) ∷ []) ≡ TooManyValues ∷ []) (λ a b c k l m d e f g i j n o name. refl)
 
 pub help_asked : HelpIsAsked
 unfolding clap_on_literals
 help_asked = (
-  of_command (λ x. (name : Text) → fault_of x (name ∷ codes "--help" ∷ []) ≡ DisplayHelp ∷ []) (λ a b c k l m d e f g i j name. refl),
-  of_command (λ x. (name : Text) → fault_of x (name ∷ codes "-h" ∷ []) ≡ DisplayHelp ∷ []) (λ a b c k l m d e f g i j name. refl),
+  of_command (λ x. (name : Text) → fault_of x (name ∷ codes "--help" ∷ []) ≡ DisplayHelp ∷ []) (λ a b c k l m d e f g i j n o name. refl),
+  of_command (λ x. (name : Text) → fault_of x (name ∷ codes "-h" ∷ []) ≡ DisplayHelp ∷ []) (λ a b c k l m d e f g i j n o name. refl),
 )
 
 pub version_asked : VersionIsAsked
 unfolding clap_on_literals
 version_asked = (
-  of_command (λ x. (name : Text) → fault_of x (name ∷ codes "--version" ∷ []) ≡ DisplayVersion ∷ []) (λ a b c k l m d e f g i j name. refl),
-  of_command (λ x. (name : Text) → fault_of x (name ∷ codes "-V" ∷ []) ≡ DisplayVersion ∷ []) (λ a b c k l m d e f g i j name. refl),
+  of_command (λ x. (name : Text) → fault_of x (name ∷ codes "--version" ∷ []) ≡ DisplayVersion ∷ []) (λ a b c k l m d e f g i j n o name. refl),
+  of_command (λ x. (name : Text) → fault_of x (name ∷ codes "-V" ∷ []) ≡ DisplayVersion ∷ []) (λ a b c k l m d e f g i j n o name. refl),
 )
 
 pub simple_and_free : (a : App) → IsCommand a → is_simple_and_free a ≡ true
-simple_and_free = of_command (λ a. is_simple_and_free a ≡ true) (λ a b c k l m d e f g i j. refl)
+simple_and_free = of_command (λ a. is_simple_and_free a ≡ true) (λ a b c k l m d e f g i j n o. refl)
 
 pub simple : (a : App) → IsCommand a → is_simple a ≡ true
-simple = of_command (λ a. is_simple a ≡ true) (λ a b c k l m d e f g i j. refl)
+simple = of_command (λ a. is_simple a ≡ true) (λ a b c k l m d e f g i j n o. refl)

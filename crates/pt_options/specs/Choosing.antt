@@ -19,7 +19,7 @@ use Rattle.pt_render.specs.declared.choices.Mode.{Mode}
 use Rattle.pt_render.specs.declared.choices.Mode.TheVariants.{Single, Many}
 use Rattle.pt_render.specs.declared.choices.Options.{Options}
 use Rattle.pt_render.specs.declared.choices.Show.{Show}
-use Rattle.pt_render.specs.declared.choices.Show.TheVariants.{Summary, History, Chart, Mermaid, Json}
+use Rattle.pt_render.specs.declared.choices.Show.TheVariants.{Summary, History, Chart, Mermaid, Json, Steps, Page}
 use Rattle.pt_render.specs.declared.choices.Until.{Until}
 use Rattle.pt_render.specs.declared.choices.Until.TheVariants.{Turns, Quiet}
 use Rattle.pt_render.specs.declared.choices.TheConstants.{MOST_EPOCHS, MOST_TURNS}
@@ -93,7 +93,7 @@ IsCommand a =
     × (map (λ s. s.now) modes.now ≡ codes "single" ∷ codes "many" ∷ [])
     × (map (λ s. s.now) untils.now ≡ codes "turns" ∷ codes "quiet" ∷ [])
     × (map (λ s. s.now) shows.now
-    ≡ codes "summary" ∷ codes "history" ∷ codes "chart" ∷ codes "mermaid" ∷ codes "json" ∷ [])
+    ≡ codes "summary" ∷ codes "history" ∷ codes "chart" ∷ codes "mermaid" ∷ codes "json" ∷ codes "steps" ∷ codes "page" ∷ [])
     × (a ≡ command_with modes untils shows)
 
 abbrev pub mode_of : Option Text → Mode
@@ -109,7 +109,9 @@ show_of None = History
 show_of (Some t) =
     if bytes_eq t (codes "summary") then Summary
     else (if bytes_eq t (codes "chart") then Chart
-    else (if bytes_eq t (codes "mermaid") then Mermaid else (if bytes_eq t (codes "json") then Json else History)))
+    else (if bytes_eq t (codes "mermaid") then Mermaid
+    else (if bytes_eq t (codes "json") then Json
+    else (if bytes_eq t (codes "steps") then Steps else (if bytes_eq t (codes "page") then Page else History)))))
 
 -- whether a flag was used: its text is then `true`
 abbrev pub is_told : Option Text → Bool

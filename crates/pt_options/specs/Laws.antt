@@ -10,7 +10,7 @@ use Rattle.clap.specs.declared.error.kind.ErrorKind.TheVariants.{ValueValidation
 use Rattle.pt_options.specs.Choosing.{IsCommand, chosen_of, file_of}
 use Rattle.pt_render.specs.declared.choices.Mode.TheVariants.{Single, Many}
 use Rattle.pt_render.specs.declared.choices.Options.{Options}
-use Rattle.pt_render.specs.declared.choices.Show.TheVariants.{Summary, History, Chart, Mermaid, Json}
+use Rattle.pt_render.specs.declared.choices.Show.TheVariants.{Summary, History, Chart, Mermaid, Json, Steps, Page}
 use Rattle.pt_render.specs.declared.choices.Until.TheVariants.{Turns, Quiet}
 use Rattle.pt_render.specs.declared.choices.TheConstants.{MOST_EPOCHS, MOST_TURNS}
 
@@ -80,11 +80,13 @@ PrintsAreTold =
     × AskFor (codes "--print=chart" ∷ []) None (record defaults { print = Chart })
     × AskFor (codes "--print=mermaid" ∷ []) None (record defaults { print = Mermaid })
     × AskFor (codes "--print=json" ∷ []) None (record defaults { print = Json })
+    × AskFor (codes "--print=steps" ∷ []) None (record defaults { print = Steps })
+    × AskFor (codes "--print=page" ∷ []) None (record defaults { print = Page })
 
 abbrev pub WrongPrintsAreRefused : Type 0
 WrongPrintsAreRefused =
     (t : Text) → t ≢ codes "summary" → t ≢ codes "history" → t ≢ codes "chart" → t ≢ codes "mermaid" → t ≢ codes "json"
-    → FailWith ((codes "--print=" ++ t) ∷ []) InvalidValue
+    → t ≢ codes "steps" → t ≢ codes "page" → FailWith ((codes "--print=" ++ t) ∷ []) InvalidValue
 
 abbrev pub ExplainingIsTold : Type 0
 ExplainingIsTold = AskFor (codes "--explain" ∷ []) None (record defaults { explain = true })

@@ -56,7 +56,8 @@ pub fn wrong_untils_are_refused()
     ensures { WrongUntilsAreRefused }
 {}
 
-/// `--print=summary`, `--print=history`, `--print=chart`, `--print=mermaid` and `--print=json` ask for these.
+/// `--print=summary`, `--print=history`, `--print=chart`, `--print=mermaid`, `--print=json`, `--print=steps` and
+/// `--print=page` ask for these.
 pub fn prints_are_told()
     ensures { PrintsAreTold }
 {}

@@ -2,7 +2,7 @@
 //!
 //! ```text
 //! pt_run [FILE] [--threads single|many] [--turns N] [--until turns|quiet] [--epochs N]
-//!     [--print summary|history|chart|mermaid|json] [--explain]
+//!     [--print summary|history|chart|mermaid|json|steps|page] [--explain]
 //! ```
 //!
 //! [`options`] reads the words, and [`laws`] says what some words mean. `FILE` is the script; without it, and for `-`,
@@ -36,7 +36,9 @@ static MODES: [&str; 2] = ["single", "many"];
 
 static UNTILS: [&str; 2] = ["turns", "quiet"];
 
-static SHOWS: [&str; 5] = ["summary", "history", "chart", "mermaid", "json"];
+static SHOWS: [&str; 7] = [
+    "summary", "history", "chart", "mermaid", "json", "steps", "page",
+];
 
 /// Reads the words of the command line, the program's name first: the file, if one is named, and what is asked for.
 ///
@@ -94,7 +96,7 @@ fn command<'a>(alloc: Global) -> Result<Command<'a>, AllocError>
             "print",
             SHOWS.as_slice(),
             "history",
-            "Print what became of each process, every event, or the events as an SVG chart, a Mermaid diagram or JSON",
+            "Print what became of each process, every event, or the events as an SVG chart, a Mermaid diagram, JSON, JSON with what each changed, or a page for a browser",
         ))?
         .arg(explain(alloc))
 }
@@ -234,6 +236,8 @@ fn show_of(word: Option<&str>) -> Show
         Some("chart") => Show::Chart,
         Some("mermaid") => Show::Mermaid,
         Some("json") => Show::Json,
+        Some("steps") => Show::Steps,
+        Some("page") => Show::Page,
         _ => Show::History,
     }
 }

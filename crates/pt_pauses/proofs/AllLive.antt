@@ -14,7 +14,7 @@ use Rattle.pt_pauses.specs.Still.{StillLaws}
 use Rattle.pt_pauses.proofs.Still.{children_live}
 use Rattle.pt_crew.proofs.Resting.{awake_idle}
 
-abbrev shard_of : DeskState → ShardState
+abbrev pub shard_of : DeskState → ShardState
 shard_of d = d.shard
 
 module _ {B : Type 0} (part : PartOf B) (laws : StillLaws) where

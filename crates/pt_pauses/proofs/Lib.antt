@@ -14,3 +14,4 @@ pub mod Going
 pub mod Passing
 pub mod Settling
 pub mod Halting
+pub mod Staying

@@ -90,7 +90,7 @@ module _ {B : Type 0} (answers : Answers B) (part : PartOf B) (law : SuperviseAs
     abbrev Runs : ℕ → List (DeskState × Crew B) → List (DeskState × Crew B) → Type 0
     Runs = InTurns answers lets plan.budget
 
-    runs_uphold : (stands : Relation B) → IsUpheld answers stands → (old : Worked (Crew B)) (pause : Pause) (new : Worked (Crew B)) → RunsToPause Runs plan old (Ok pause) new → AllUphold stands old.works old.desks → AllUphold stands new.works new.desks
+    pub runs_uphold : (stands : Relation B) → IsUpheld answers stands → (old : Worked (Crew B)) (pause : Pause) (new : Worked (Crew B)) → RunsToPause Runs plan old (Ok pause) new → AllUphold stands old.works old.desks → AllUphold stands new.works new.desks
     runs_uphold stands k old Spent new r a = legs_uphold answers lets plan.budget stands k (GoesFurther plan.events) r.0 old new r.1 a
     runs_uphold stands k old Idle new r a = ends_uphold answers lets plan.budget stands k (GoesFurther plan.events) (max plan.turns 1) (EndsPaused plan.events Idle) old new r a
     runs_uphold stands k old (Stopped s) new r a = ends_uphold answers lets plan.budget stands k (GoesFurther plan.events) (max plan.turns 1) (EndsPaused plan.events (Stopped s)) old new r a

@@ -16,14 +16,13 @@ use Rattle.pt_signal.proofs.Same.{same_pid_is}
 use Rattle.pt_events.specs.declared.event.Stamped.{Stamped}
 use Rattle.pt_events.specs.History.{Past, Phase, unborn, living, ended, at_start, is_unborn, is_ended, is_living, state_of, life, alive, IsLegal}
 use Rattle.pt_events.specs.Counting.{count}
-use Rattle.pt_events.specs.Journal.{IsLocal, IsMerge, events}
+use Rattle.pt_events.specs.Journal.{IsMerge, events}
 use Rattle.pt_laws.specs.Links.{IsKnownSaid}
 use Rattle.pt_laws.specs.LinkLaws.{MergeLinksOver}
 use Rattle.pt_laws.specs.LoadLaws.{EmptyIsQuiet}
 use Rattle.pt_laws.specs.MonitorLaws.{QuietMonitorSince, QuietWatchOver, times_made}
 use Rattle.pt_laws.specs.Watch.{is_down_item, is_open, open_in}
 use Rattle.pt_laws.proofs.monitoring.Monitors.{said_to_one}
-use Rattle.pt_shard.specs.Begun.{Every}
 use Rattle.pt_shard.specs.ShardState.{ShardState, phase_of, state_in, lives}
 use Rattle.pt_beginning.specs.Beginning.{IsBeginning}
 use Rattle.pt_gathered.specs.Gathered.{GatheredState, IsGathered, begins, journals}
@@ -54,7 +53,6 @@ use Rattle.pt_supervisor.specs.Supervising.{EndsLast}
 use Rattle.pt_children.specs.Families.{pid_of_child, is_end_of, has_cut, all_events, IsHeld, IsPlaced, IsWatched, IsAsked, bids_to, has_bid_to}
 use Rattle.pt_supervisor.specs.Keeping.{Holds, PartOf, HoldsAs}
 use Rattle.pt_pauses.specs.Still.{HasTrapped, IsSpared, IsEnding, ChildLives, IsStillNode, StillLaws, QuietChildrenLive}
-use Rattle.pt_pauses.proofs.Homes.{born_here}
 use Rattle.pt_pauses.proofs.Opened.{keeper_lives, open_among, open_made, some_counted}
 use Rattle.pt_pauses.proofs.Stopping.{any_both, any_events, any_filter, ended_stays, known_ended, not_alive}
 use Rattle.pt_pauses.proofs.Trapping.{quiet_killed, quiet_trapped, told_born}

@@ -3,3 +3,4 @@ pub mod Stopping
 pub mod Gathering
 pub mod Pauses
 pub mod Halts
+pub mod Here

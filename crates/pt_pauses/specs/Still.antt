@@ -75,16 +75,26 @@ ChildLives past child p d g merged =
     (q : Pid) × (child.pid ≡ Some q)
     × ((alive (begins g) (events merged) q ≡ true) ⊎ (has_cut p q (all_events past d) ≡ true))
 
--- The desk of the crew is one of the node. In each merge of the node's journals a supervisor of the crew that lives has,
--- for each child that is to live, a process that lives, or took its link with it away itself; unless it is ending one
--- that traps exits and lives on. So it is of a supervisor that does not wait until the program has started a child on
--- another desk: a supervisor that spawns all its children never does.
-abbrev pub ChildrenLive : {B : Type 0} → Past → PartOf B → Crew B → ShardState → GatheredState → Type 0
-ChildrenLive {B} past part c d g =
-    (merged : List Stamped) → IsMerge (journals g) merged → (p : Pid) (b : B) (next : Next) (s : Standing)
-    → roles c p ≡ Some (b, next) → part b ≡ Some s → lives d p ≡ true → p.shard ≡ d.number
-    → is_waiting s.children ≡ false → (place : ℕ) (child : Child) → slice_get s.children place ≡ Some child → child.wanted ≡ true
+-- each child of the supervisor that is to live has a process that lives, or took its link with it away itself; unless the
+-- supervisor is ending one that traps exits and lives on
+abbrev pub EachLives : Past → Standing → Next → Pid → ShardState → GatheredState → List Stamped → Type 0
+EachLives past s next p d g merged =
+    (place : ℕ) (child : Child) → slice_get s.children place ≡ Some child → child.wanted ≡ true
     → ChildLives past child p d g merged ⊎ ((q : Pid) × IsEnding past s next p q g merged)
+
+-- The desk of the crew is one of the node. In each merge of the node's journals that is so of each supervisor of the crew
+-- that lives.
+abbrev pub OfSupervisors : {B : Type 0} → PartOf B → Crew B → ShardState → GatheredState
+    → (Standing → Next → Pid → List Stamped → Type 0) → Type 0
+OfSupervisors {B} part c d g Is =
+    (merged : List Stamped) → IsMerge (journals g) merged → (p : Pid) (b : B) (next : Next) (s : Standing)
+    → roles c p ≡ Some (b, next) → part b ≡ Some s → lives d p ≡ true → p.shard ≡ d.number → Is s next p merged
+
+-- Each child that is to live does, of a supervisor that does not wait until the program has started a child on another
+-- desk.
+abbrev pub ChildrenLive : {B : Type 0} → Past → PartOf B → Crew B → ShardState → GatheredState → Type 0
+ChildrenLive past part c d g =
+    OfSupervisors part c d g (λ s next p merged. is_waiting s.children ≡ false → EachLives past s next p d g merged)
 
 -- the node is quiet, and links and monitors stand at both ends or at neither
 pub record IsStillNode (g : GatheredState) : Type 0 where

@@ -1,2 +1,4 @@
 pub mod Json
 pub mod Mermaid
+pub mod Pages
+pub mod Steps

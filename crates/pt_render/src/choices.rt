@@ -45,6 +45,10 @@ pub enum Show {
     Mermaid,
     /// The events, and the letters in flight, as JSON, one object in each line.
     Json,
+    /// The same, each event with what it changed.
+    Steps,
+    /// The same as a page for a browser, which shows what each process is at any event.
+    Page,
 }
 
 /// What is asked for, beside the script.

@@ -23,9 +23,10 @@ use Rattle.pt_script.specs.Called.{names_in}
 use Rattle.pt_script.specs.Nodes.{config_of}
 use Rattle.pt_script.specs.Plans.{Whole}
 use Rattle.pt_script.specs.Scripts.{reading}
+use Rattle.pt_render.specs.Pages.{page_text, steps_after, steps_text}
 use Rattle.pt_render.specs.declared.choices.Options.{Options}
 use Rattle.pt_render.specs.declared.choices.Show.{Show}
-use Rattle.pt_render.specs.declared.choices.Show.TheVariants.{Summary, History, Chart, Mermaid, Json}
+use Rattle.pt_render.specs.declared.choices.Show.TheVariants.{Summary, History, Chart, Mermaid, Json, Steps, Page}
 use Rattle.pt_report.specs.Lines.{line, lines, left_lines, form_head, history_text}
 use Rattle.pt_report.specs.declared.form.Form.{Form}
 use Rattle.pt_report.specs.declared.form.Form.TheVariants.{Lines, Diagram, Objects}
@@ -86,6 +87,8 @@ module _ {W : Type 0} (contents : W → Option (List ℕ)) where
   at_first Json first kept empty = (appends_nothing (contents first), empty)
   at_first Chart first kept empty = (refl, empty)
   at_first Mermaid first kept empty = (refl, empty)
+  at_first Steps first kept empty = (refl, empty)
+  at_first Page first kept empty = (refl, empty)
   at_first Summary first kept empty = (refl, empty)
 
   -- and with each that ends
@@ -102,6 +105,8 @@ module _ {W : Type 0} (contents : W → Option (List ℕ)) where
   put_lines Json Diagram is hs h first mid new kept more at = absurd is
   put_lines Chart form is hs h first mid new kept more at = absurd is
   put_lines Mermaid form is hs h first mid new kept more at = absurd is
+  put_lines Steps form is hs h first mid new kept more at = absurd is
+  put_lines Page form is hs h first mid new kept more at = absurd is
   put_lines Summary form is hs h first mid new kept more at = absurd is
 
   -- what stands in the writer, by the epochs so far
@@ -112,6 +117,8 @@ module _ {W : Type 0} (contents : W → Option (List ℕ)) where
   behind options budget (suc n) first hs now old new kept Json is same within passed at = inr (Objects, subst (λ p. IsWrittenAs p Objects) (sym is) tt, suc n, omega arith, within (omega arith), hs, now, passed, at.0)
   behind options budget (suc n) first hs now old new kept Chart is same within passed at = inl at.0
   behind options budget (suc n) first hs now old new kept Mermaid is same within passed at = inl at.0
+  behind options budget (suc n) first hs now old new kept Steps is same within passed at = inl at.0
+  behind options budget (suc n) first hs now old new kept Page is same within passed at = inl at.0
   behind options budget (suc n) first hs now old new kept Summary is same within passed at = inl at.0
 
   pub written : (options : Options) (budget n : ℕ) (first : Staffed) (hs : List Stamped) (now : Staffed) (old new : W) (kept : List Stamped) → (n ≡ 0 → new ≡ old) → (0 < n → n < options.epochs)
@@ -157,6 +164,27 @@ module _ {W : Type 0} (contents : W → Option (List ℕ)) where
       let a = subst (λ p. AreAt contents p hs first kept mid) is at in
       subst (λ p. ReportShows explain p hs called g (contents first) (contents new)) (sym is) (x.0, x.1, x.2, subst (λ z. IsChart (z ++ x.0) called x.2) a.1 x.3, subst (λ m. Appends (contents m) (contents new) x.2) a.0 x.4)
 
+  -- this text of the events that were kept and of the node's own was written
+  abbrev Written : (List Stamped → List ℕ) → List Stamped → GatheredState → W → W → Type 0
+  Written text kept g mid new = (h : List Stamped) × IsMerge (journals g) (reverse h) × Appends (contents mid) (contents new) (text (kept ++ h))
+
+  -- nothing was written before it
+  written_first : (text : List Stamped → List ℕ) (hs : List Stamped) (g : GatheredState) (first mid new : W) (kept : List Stamped) → (mid ≡ first) × (kept ≡ hs) → Written text kept g mid new → Written text hs g first new
+  written_first text hs g first mid new kept a x =
+      (x.0, x.1, subst (λ m. Appends (contents m) (contents new) (text (hs ++ x.0))) a.0 (subst (λ k. Appends (contents mid) (contents new) (text (k ++ x.0))) a.1 x.2))
+
+  pub shows_steps : (explain : Bool) (print : Show) → print ≡ Steps → (hs : List Stamped) (called : List (Pid × List ℕ)) (g : GatheredState) (first mid new : W) (kept : List Stamped) → AreAt contents print hs first kept mid
+      → Written (λ es. steps_text (steps_after [] es) (all_left g)) kept g mid new → ReportShows explain print hs called g (contents first) (contents new)
+  shows_steps explain print is hs called g first mid new kept at x =
+      subst (λ p. ReportShows explain p hs called g (contents first) (contents new)) (sym is)
+      (written_first (λ es. steps_text (steps_after [] es) (all_left g)) hs g first mid new kept (subst (λ p. AreAt contents p hs first kept mid) is at) x)
+
+  pub shows_page : (explain : Bool) (print : Show) → print ≡ Page → (hs : List Stamped) (called : List (Pid × List ℕ)) (g : GatheredState) (first mid new : W) (kept : List Stamped) → AreAt contents print hs first kept mid
+      → Written (λ es. page_text (steps_after [] es) (all_left g) called) kept g mid new → ReportShows explain print hs called g (contents first) (contents new)
+  shows_page explain print is hs called g first mid new kept at x =
+      subst (λ p. ReportShows explain p hs called g (contents first) (contents new)) (sym is)
+      (written_first (λ es. page_text (steps_after [] es) (all_left g) called) hs g first mid new kept (subst (λ p. AreAt contents p hs first kept mid) is at) x)
+
   pub shows_summary : (explain : Bool) (print : Show) → print ≡ Summary → (hs : List Stamped) (called : List (Pid × List ℕ)) (g : GatheredState) (first mid new : W) (kept : List Stamped) → AreAt contents print hs first kept mid
       → SummarizesAs explain g (contents mid) (contents new) → ReportShows explain print hs called g (contents first) (contents new)
   shows_summary explain print is hs called g first mid new kept at x =
@@ -190,6 +218,20 @@ module _ {W : Type 0} (contents : W → Option (List ℕ)) where
       (x.0, x.1, x.2, subst (λ rs. IsChart (kept ++ x.0) (called_by (names_in bytes) rs) x.2) (sym ran) x.3, x.4) in
       record { reports = record { script = script; read = read; histories = hs; node = g; is_node = node; shows = shows_chart options.explain options.print is hs called g first mid new kept at so }; is_left = rests }
   chart_reported (Err e) bytes options script hs g runners first mid new kept read run at is x left rests = tt
+
+  pub steps_reported : (r : Result (Unit {0}) ReportFault) (bytes : List ℕ) (options : Options) (script : Whole) (hs : List Stamped) (g : GatheredState) (first mid new : W) (kept : List Stamped) → reading bytes ≡ Ok script → (node : IsNodeOf (options.epochs - 1) options script hs g)
+      → AreAt contents options.print hs first kept mid → options.print ≡ Steps → OnOk r (Written (λ es. steps_text (steps_after [] es) (all_left g)) kept g mid new) → (left : ℕ) → IsLeft node.ran g left → OnOk r (ReportsLeft left bytes options (contents first) (contents new))
+  steps_reported (Ok u) bytes options script hs g first mid new kept read node at is x left rests =
+      record { reports = record { script = script; read = read; histories = hs; node = g; is_node = node; shows = shows_steps options.explain options.print is hs (called_by (names_in bytes) node.ran.1) g first mid new kept at x }; is_left = rests }
+  steps_reported (Err e) bytes options script hs g first mid new kept read node at is x left rests = tt
+
+  pub page_reported : (r : Result (Unit {0}) ReportFault) (bytes : List ℕ) (options : Options) (script : Whole) (hs : List Stamped) (g : GatheredState) (runners : List Runner) (first mid new : W) (kept : List Stamped) → reading bytes ≡ Ok script
+      → (run : IsRun (options.epochs - 1) options script hs g runners) → AreAt contents options.print hs first kept mid → options.print ≡ Page
+      → OnOk r (Written (λ es. page_text (steps_after [] es) (all_left g) (called_by (names_in bytes) runners)) kept g mid new) → (left : ℕ) → IsLeft run.0.ran g left → OnOk r (ReportsLeft left bytes options (contents first) (contents new))
+  page_reported (Ok u) bytes options script hs g runners first mid new kept read (node, ran) at is x left rests =
+      let so = subst (λ rs. Written (λ es. page_text (steps_after [] es) (all_left g) (called_by (names_in bytes) rs)) kept g mid new) (sym ran) x in
+      record { reports = record { script = script; read = read; histories = hs; node = g; is_node = node; shows = shows_page options.explain options.print is hs (called_by (names_in bytes) node.ran.1) g first mid new kept at so }; is_left = rests }
+  page_reported (Err e) bytes options script hs g runners first mid new kept read run at is x left rests = tt
 
   pub summary_reported : (r : Result (Unit {0}) ReportFault) (bytes : List ℕ) (options : Options) (script : Whole) (hs : List Stamped) (g : GatheredState) (first mid new : W) (kept : List Stamped) → reading bytes ≡ Ok script → (node : IsNodeOf (options.epochs - 1) options script hs g)
       → AreAt contents options.print hs first kept mid → options.print ≡ Summary → OnOk r (SummarizesAs options.explain g (contents mid) (contents new)) → (left : ℕ) → IsLeft node.ran g left → OnOk r (ReportsLeft left bytes options (contents first) (contents new))

@@ -24,3 +24,7 @@ appends_nothing (Some s) = sym (append-nil s)
 pub on_ok : {T E P : Type 0} (r : Result T E) → P → OnOk r P
 on_ok (Ok x) p = p
 on_ok (Err e) p = tt
+
+pub on_ok_then : {T E P Q : Type 0} (r : Result T E) → OnOk r P → (P → Q) → OnOk r Q
+on_ok_then (Ok x) p f = f p
+on_ok_then (Err e) p f = tt

@@ -26,7 +26,7 @@ use Rattle.pt_render.specs.declared.choices.TheConstants.{MOST_TURNS}
 use Rattle.pt_render.specs.declared.choices.Until.{Until}
 use Rattle.pt_render.specs.declared.choices.Until.TheVariants.{Turns, Quiet}
 use Rattle.pt_render.specs.declared.choices.Show.{Show}
-use Rattle.pt_render.specs.declared.choices.Show.TheVariants.{Summary, History, Chart, Mermaid, Json}
+use Rattle.pt_render.specs.declared.choices.Show.TheVariants.{Summary, History, Chart, Mermaid, Json, Steps, Page}
 use Rattle.pt_runner.specs.declared.runner.Runner.{Runner}
 use Rattle.pt_runner.specs.Acting.{RunnerDoes, table}
 use Rattle.pt_runner.specs.Stepping.{processes_here}
@@ -164,7 +164,7 @@ IsWrittenAs History Lines = ⊤
 IsWrittenAs Json Objects = ⊤
 IsWrittenAs _ _ = ⊥
 
--- where the histories of epochs are: written, one line an event; kept for the drawing; or nowhere
+-- where the histories of epochs are: written, one line an event; kept for what is printed of all; or nowhere
 abbrev pub AreAt : {W : Type 0} → (W → Option (List ℕ)) → Show → List Stamped → W → List Stamped → W → Type 0
 AreAt contents History histories old kept new =
     Appends (contents old) (contents new) (lines Lines histories) × (kept ≡ [])
@@ -172,6 +172,8 @@ AreAt contents Json histories old kept new =
     Appends (contents old) (contents new) (lines Objects histories) × (kept ≡ [])
 AreAt contents Chart histories old kept new = (new ≡ old) × (kept ≡ histories)
 AreAt contents Mermaid histories old kept new = (new ≡ old) × (kept ≡ histories)
+AreAt contents Steps histories old kept new = (new ≡ old) × (kept ≡ histories)
+AreAt contents Page histories old kept new = (new ≡ old) × (kept ≡ histories)
 AreAt contents Summary histories old kept new = (new ≡ old) × (kept ≡ [])
 
 -- the histories of one epoch and more are written, and an epoch is still to end

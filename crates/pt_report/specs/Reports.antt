@@ -1,5 +1,5 @@
 -- What a report prints, and when it is refused.
-use Rattle.std.specs.Prelude.{◌≡◌, ◌⊎◌, ℕ, ◌+◌, ◌-◌, ◌<◌, Bool, List, ◌++◌, length, Option, Ok, reverse}
+use Rattle.std.specs.Prelude.{◌≡◌, ◌⊎◌, ℕ, ◌+◌, ◌-◌, ◌<◌, Bool, List, [], ◌++◌, length, Option, Ok, reverse}
 use Rattle.std.specs.Prelude.{⊤}
 use Rattle.std.specs.Io.KnownBytes.{Appends}
 use Rattle.pt_events.specs.declared.event.Stamped.{Stamped}
@@ -18,9 +18,10 @@ use Rattle.pt_script.specs.Called.{names_in}
 use Rattle.pt_script.specs.Plans.{Whole}
 use Rattle.pt_script.specs.Scripts.{reading}
 use Rattle.pt_script.specs.Lists.{ScriptRefuses}
+use Rattle.pt_render.specs.Pages.{page_text, steps_after, steps_text}
 use Rattle.pt_render.specs.declared.choices.Options.{Options}
 use Rattle.pt_render.specs.declared.choices.Show.{Show}
-use Rattle.pt_render.specs.declared.choices.Show.TheVariants.{Summary, History, Chart, Mermaid, Json}
+use Rattle.pt_render.specs.declared.choices.Show.TheVariants.{Summary, History, Chart, Mermaid, Json, Steps, Page}
 use Rattle.pt_script.specs.Nodes.{config_of}
 use Rattle.pt_runner.specs.declared.runner.Runner.{Runner}
 use Rattle.pt_runner.specs.Starting.{StartBegins, AreRunners, BornUntil}
@@ -68,7 +69,8 @@ ReportTells form histories g old new =
     × Appends old new (history_text form (histories ++ h) (all_left g))
 
 -- What stands in the writer now, beyond what stood there before, is what is asked for of the node, and of the histories
--- of the epochs before its own; in a chart processes are called so, and a summary is explained where that is asked for.
+-- of the epochs before its own; in a chart and in a page processes are called so, and a summary is explained where that
+-- is asked for.
 abbrev pub ReportShows : Bool → Show → List Stamped → List (Pid × List ℕ) → GatheredState → Option (List ℕ)
     → Option (List ℕ) → Type 0
 ReportShows explain Summary histories called g old new = SummarizesAs explain g old new
@@ -78,6 +80,12 @@ ReportShows explain Json histories called g old new = ReportTells Objects histor
 ReportShows explain Chart histories called g old new =
     (h : List Stamped) × IsMerge (journals g) (reverse h) × (text : List ℕ) × IsChart (histories ++ h) called text
     × Appends old new text
+ReportShows explain Steps histories called g old new =
+    (h : List Stamped) × IsMerge (journals g) (reverse h)
+    × Appends old new (steps_text (steps_after [] (histories ++ h)) (all_left g))
+ReportShows explain Page histories called g old new =
+    (h : List Stamped) × IsMerge (journals g) (reverse h)
+    × Appends old new (page_text (steps_after [] (histories ++ h)) (all_left g) called)
 
 -- the bytes are a script, and what was printed is what is asked for of a node that it was run on, for as many epochs as
 -- were asked for; its processes are called as in the bytes

@@ -160,7 +160,7 @@ fn put<W: Write>(
     match print {
         Show::History => write_epoch(out, Form::Lines, history),
         Show::Json => write_epoch(out, Form::Objects, history),
-        Show::Chart | Show::Mermaid => {
+        Show::Chart | Show::Mermaid | Show::Steps | Show::Page => {
             kept.extend_from_slice(history)?;
             Ok(())
         }

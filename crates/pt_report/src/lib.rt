@@ -17,12 +17,12 @@
 //! summary the letters left over are delivered first. It has a line for each process and a last line of totals. If it
 //! is to be explained, a second line of each process says what it is doing, or why it exited. The chart is the history
 //! as a drawing by [`pt_chart`], with the names of the script. As JSON and as a Mermaid diagram the lines are those of
-//! [`pt_render`].
+//! [`pt_render`], and so is the page for a browser, with the names too.
 //!
 //! With more than one epoch the node is settled between two of them and resumed with empty journals, and the scripts
 //! continue from their places. The history is then that of all epochs, in order. Each epoch's lines are written as it
-//! ends, and not kept; JSON does the same. For the chart and the diagram all events are kept. The summary is that of
-//! the last epoch.
+//! ends, and not kept; JSON does the same. For the chart, the diagram, the steps and the page all events are kept. The
+//! summary is that of the last epoch.
 //!
 //! # Faults
 //!
@@ -38,8 +38,10 @@
 //!
 //! # What is proved
 //!
-//! - **What is printed.** On success the text is the history, summary, chart or diagram of a node that ran the script,
-//!   with the turns and epochs asked for. (`report`)
+//! - **What is printed.** On success the text is the history, summary, chart, diagram or page of a node that ran the
+//!   script, with the turns and epochs asked for. (`report`)
+//! - **What events changed.** Steps and a page have for each event, over all epochs, the changes that the auditor has for
+//!   it after the events before it. (`steps_after` of `pt_render`)
 //! - **Epochs.** The history of each epoch is in the text once, in order. (`PassEpochs`)
 //! - **Until quiet.** With `--until quiet` an epoch ends once nothing more can happen, or once all turns that can be asked
 //!   for are taken. The desks are run once at least, and take a turn each time. (`RunsUntilQuiet`)
@@ -59,6 +61,7 @@ mod fault;
 mod form;
 mod history;
 mod notes;
+mod pages;
 mod reporting;
 mod running;
 mod summary;

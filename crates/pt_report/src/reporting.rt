@@ -9,6 +9,7 @@ use crate::explained::summarize;
 use crate::fault::ReportFault;
 use crate::form::Form;
 use crate::history::print_history;
+use crate::pages::{print_page, print_steps};
 use crate::running::run_script;
 use pt_render::{Options, Show};
 use pt_script::Script;
@@ -21,12 +22,12 @@ use std::thread::Threads;
 /// On `Ok` the whole text was written and the writer flushed. The text is the history in the form that the options ask
 /// for, the summary or the chart of a node. The node has the script's settings, was run and then gathered. Each of its
 /// desks took all the turns that the options ask for, with the script's budget, and before each of them a step of the
-/// script's operations. In a chart each process has its name of the script. In a summary that is to be explained, a
+/// script's operations. In a chart and in a page each process has its name of the script. In a summary that is to be explained, a
 /// line after each process says what it is doing, or why it exited. What `Mode::Single` prints is the same each time.
 ///
 /// This holds for each epoch that the options ask for. Between two epochs the node is gathered, settled and resumed
 /// with empty journals, and the processes of the script continue from their places. The history and the chart have the
-/// events of all epochs, in order, and the summary is that of the last.
+/// events of all epochs, in order, and so have the steps and the page. The summary is that of the last.
 ///
 /// Fails with `Script` if the bytes are no script, with the first fault and its place. Fails with `Desk` if a process
 /// that the script begins with found no free slot on its desk (`Full`). Fails with `Desk` too if a clock is at its
@@ -106,5 +107,7 @@ fn run_and_report<R: Threads + Sync, W: Write>(
         Show::Mermaid => print_history(Form::Diagram, kept, &gathered, out),
         Show::Json => print_history(Form::Objects, kept, &gathered, out),
         Show::Chart => print_chart(alloc, script, runners.as_slice(), kept, &gathered, out),
+        Show::Steps => print_steps(alloc, kept, &gathered, out),
+        Show::Page => print_page(alloc, script, runners.as_slice(), kept, &gathered, out),
     }
 }

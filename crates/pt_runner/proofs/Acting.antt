@@ -1,12 +1,13 @@
 -- What operations do, and what a step does.
 use Rattle.std.proofs.Common.{◌≡◌, ◌≢◌, inl, inr, ℕ, ◌+◌, ◌<◌, List, [], ◌∷◌, ◌++◌, Bool, true, false, length, map, get_or, set, Option, Some, None, Result, Ok, Err, refl, ap, sym, subst, ◌∙◌, add-one}
 use Rattle.std.specs.Prelude.{is_some}
-use Rattle.std.specs.List.{filter}
+use Rattle.std.specs.List.{filter, position}
 use Rattle.std.proofs.lemmas.List.{map-set, get_or-map, get_or_append_left, get_or_default, length-map}
 use Rattle.pt_signal.specs.declared.ids.Ref.{Ref}
 use Rattle.pt_signal.specs.declared.item.Item.{Item}
 use Rattle.pt_signal.specs.declared.item.Pick.{Pick}
 use Rattle.pt_signal.specs.declared.pid.Pid.{Pid}
+use Rattle.pt_signal.specs.Values.{same_pid}
 use Rattle.pt_events.specs.declared.event.Event.{Event}
 use Rattle.pt_script.specs.Plans.{Plan}
 use Rattle.pt_script.specs.declared.values.Operation.{Operation}
@@ -22,7 +23,7 @@ use Rattle.pt_runner.specs.declared.calls.Progress.TheVariants.{Done, Stays}
 use Rattle.pt_shard.specs.ShardState.{ShardState}
 use Rattle.pt_runner.specs.declared.calls.Progress.{Progress}
 use Rattle.pt_runner.specs.declared.runner.Actor.{Actor}
-use Rattle.pt_runner.specs.Acting.{came_of, CallsTarget, ReachesAt, Takes, taken_of, Demonitors, MonitorsAt, AsksAt, ref_got, Performs, Acting, PidTable, acting, set_acting, with_born, newborn_actor, Plays, DoesOperation, ActsAt, EachActs}
+use Rattle.pt_runner.specs.Acting.{came_of, CallsTarget, ReachesAt, Takes, taken_of, Demonitors, MonitorsAt, AsksAt, ref_got, Performs, Acting, PidTable, acting, set_acting, with_born, newborn_actor, Plays, DoesOperation, ActsAt, ActsIfAt, EachActs}
 
 -- calls on a target ------------------------------------------------------------------------
 
@@ -145,6 +146,15 @@ child_behind process (Err fault) t i d lt = refl
 
 pub each_acts_then : (i : ℕ) (t between u : PidTable) (old mid new : ShardState) → EachActs i t old between mid → ActsAt i between mid u new → EachActs (i + 1) t old u new
 each_acts_then i t between u old mid new each one = subst (λ n. EachActs n t old u new) (sym (add-one i)) (between, mid, each, one)
+
+-- what one process does, by its place in the table
+pub one_acts_at : (p : Pid) (t s u : PidTable) (old new : ShardState) (o : Option ℕ) → s ≡ t → position (λ (a : Acting). same_pid a.pid p) s.actors ≡ o → ActsIfAt o s old u new → ActsIfAt (position (λ (a : Acting). same_pid a.pid p) t.actors) t old u new
+one_acts_at p t s u old new o same at acts =
+    subst (λ (x : PidTable). ActsIfAt (position (λ (a : Acting). same_pid a.pid p) x.actors) x old u new) same (subst (λ (q : Option ℕ). ActsIfAt q s old u new) (sym at) acts)
+
+pub none_of : (o : Option ℕ) → ((i : ℕ) → o ≢ Some i) → o ≡ None
+none_of None h = refl
+none_of (Some i) h = absurd (h i refl)
 
 living_case : (test : Pid → Bool) (a : Actor) (actors : List Actor) (b : Bool) → test a.pid ≡ b → map acting (filter (λ (x : Actor). test x.pid) actors) ≡ filter (λ (x : Acting). test x.pid) (map acting actors) → map acting (filter (λ (x : Actor). test x.pid) (a ∷ actors)) ≡ filter (λ (x : Acting). test x.pid) (map acting (a ∷ actors))
 living_case test a actors true e rest = rw e (ap (λ (xs : List Acting). acting a ∷ xs) rest)

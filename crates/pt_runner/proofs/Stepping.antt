@@ -2,10 +2,13 @@
 use Rattle.std.proofs.Common.{◌≡◌, ◌⊎◌, inl, inr, ℕ, zero, suc, ◌+◌, ◌<◌, ◌≤◌, List, [], ◌∷◌, ◌++◌, Bool, true, false, ◌&&◌, cond, max, length, length-append, map, get_or, take, Option, Some, None, Result, Ok, Err, refl, ap, sym, subst, ◌∙◌, append_assoc, append-nil, add-one, arith}
 use Rattle.std.specs.Prelude.{is_some}
 use Rattle.std.specs.Option.{option_map}
-use Rattle.std.specs.List.{All, filter}
+use Rattle.std.specs.List.{All, filter, position}
 use Rattle.std.proofs.lemmas.List.Elements.{All-head, All-tail}
 use Rattle.std.proofs.lemmas.List.{take_more, take_all, get_or-map, get_or_append_left, length-map, map-append}
+use Rattle.pt_signal.specs.Values.{same_pid}
 use Rattle.pt_signal.proofs.Lists.{map-set_same}
+use Rattle.pt_signal.proofs.Same.{same_pid_is}
+use Rattle.pt_runner.proofs.Finding.{placed}
 use Rattle.pt_signal.specs.declared.pid.Pid.{Pid}
 use Rattle.pt_signal.specs.declared.ids.Ids.{Ids}
 use Rattle.pt_signal.specs.declared.ids.Ref.{Ref}
@@ -27,8 +30,8 @@ use Rattle.pt_runner.specs.declared.calls.Progress.{Progress}
 use Rattle.pt_runner.specs.declared.calls.Progress.TheVariants.{Done, Waits, Stays, Ends}
 use Rattle.pt_runner.specs.declared.runner.Actor.{Actor}
 use Rattle.pt_runner.specs.declared.runner.Runner.{Runner}
-use Rattle.pt_runner.specs.Acting.{came_of, IsCall, CallsTarget, ReachesAt, Takes, taken_of, Demonitors, HasNoRoom, MonitorsAt, AsksAt, Performs, GoesBehind, Acting, PidTable, acting, table, advanced, ended_or_put_off, put_off, set_acting, with_born, newborn_actor, next_of, Plays, Spawns, TriesSpawn, DoesOperation, ActsAt, EachActs, living, EachDoesNext, target_of, pid_if, pick_meant, reference_of}
-use Rattle.pt_runner.specs.Stepping.{actor_of, child_of, IsStampOf, DoesOne, EachDoesOne, processes_here, ProcessesStep}
+use Rattle.pt_runner.specs.Acting.{came_of, IsCall, CallsTarget, ReachesAt, Takes, taken_of, Demonitors, HasNoRoom, MonitorsAt, AsksAt, Performs, GoesBehind, Acting, PidTable, acting, table, advanced, ended_or_put_off, put_off, set_acting, with_born, newborn_actor, next_of, Plays, Spawns, TriesSpawn, DoesOperation, ActsAt, ActsIfAt, EachActs, OneDoesNext, living, EachDoesNext, target_of, pid_if, pick_meant, reference_of}
+use Rattle.pt_runner.specs.Stepping.{actor_of, child_of, IsStampOf, DoesOne, EachDoesOne, processes_here, ProcessSteps, ProcessesStep}
 
 -- one event ---------------------------------------------------------------------------------
 
@@ -404,6 +407,24 @@ steps r s old new does =
     record {
       born = once.0;
       each = subst (λ (ps : List Pid). EachDoesOne ps old new once.0) all once.1;
+      listed = sym (actor_pids s.actors.items) ∙ once.2 ∙ ap (λ (ps : List Pid). ps ++ once.0) (living_pids old r);
+    }
+
+-- so does one process alone
+one_acts : (p : Pid) (t u : PidTable) (old new : ShardState) (at : Option ℕ) → position (λ (a : Acting). same_pid a.pid p) t.actors ≡ at → ActsIfAt at t old u new → ActsOnce p t old u new
+one_acts p t u old new None is (same, still) = ([], inl (still, refl), ap pids_in same ∙ sym (append-nil (pids_in t)))
+one_acts p t u old new (Some i) is acts =
+    let passes : same_pid (get_or t.actors i acts.a).pid p ≡ true = (placed (λ (a : Acting). same_pid a.pid p) t.actors i acts.a is).1 in
+    let that : acts.a.pid ≡ p = ap pid_of (sym acts.is) ∙ same_pid_is (get_or t.actors i acts.a).pid p passes in
+    subst (λ (q : Pid). ActsOnce q t old u new) that (operation_once (next_of t.plans acts.a) i acts.a t u old new acts.within acts.is acts.acts)
+
+pub one_steps : (p : Pid) (r s : Runner) (old new : ShardState) → OneDoesNext p (table r) old (table s) new → ProcessSteps p (processes_here r) old (processes_here s) new
+one_steps p r s old new does =
+    let start : PidTable = living old (table r) in
+    let once : ActsOnce p start old (table s) new = one_acts p start (table s) old new (position (λ (a : Acting). same_pid a.pid p) start.actors) refl does in
+    record {
+      born = once.0;
+      one = once.1;
       listed = sym (actor_pids s.actors.items) ∙ once.2 ∙ ap (λ (ps : List Pid). ps ++ once.0) (living_pids old r);
     }
 

@@ -3,7 +3,7 @@ use Rattle.std.specs.Prelude.{◌≡◌, ◌⊎◌, ℕ, ℤ, zero, suc, ◌+◌
 use Rattle.std.specs.Prelude.{◌∷◌, ◌++◌, length, map, min, slice_get, slice_index_or, slice_set, Option, Some, None}
 use Rattle.std.specs.Prelude.{Result, Ok, Err}
 use Rattle.std.specs.Bool.{then_some}
-use Rattle.std.specs.List.{filter, find}
+use Rattle.std.specs.List.{filter, find, position}
 use Rattle.std.specs.Option.{option_map}
 use Rattle.pt_signal.specs.declared.ids.Ref.{Ref}
 use Rattle.pt_signal.specs.declared.item.Item.{Item}
@@ -349,6 +349,16 @@ living d t = record t { actors = filter (λ (a : Acting). lives d a.pid) t.actor
 -- born by that stands behind them, and has its first operation in the next step.
 abbrev pub EachDoesNext : PidTable → ShardState → PidTable → ShardState → Type 0
 EachDoesNext t old u new = EachActs (length (living old t).actors) (living old t) old u new
+
+-- the process at this place does its next operation; or nothing happens, if there is no place
+abbrev pub ActsIfAt : Option ℕ → PidTable → ShardState → PidTable → ShardState → Type 0
+ActsIfAt None t old u new = (u ≡ t) × (new ≡ old)
+ActsIfAt (Some i) t old u new = ActsAt i t old u new
+
+-- Those that have ended are struck off. Then the process p alone does its next operation, if it is one of the others.
+abbrev pub OneDoesNext : Pid → PidTable → ShardState → PidTable → ShardState → Type 0
+OneDoesNext p t old u new =
+    ActsIfAt (position (λ (a : Acting). same_pid a.pid p) (living old t).actors) (living old t) old u new
 
 -- A step of a runner with its desk: so does each of the runner's processes, and nothing is posted or collected.
 abbrev pub RunnerDoes : Runner → DeskState → Runner → DeskState → Type 0

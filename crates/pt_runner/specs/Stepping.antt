@@ -57,3 +57,11 @@ pub record ProcessesStep (processes : List Pid) (old : ShardState) (now : List P
   pub born : List Pid
   pub each : EachDoesOne (filter (lives old) processes) old new born
   pub listed : now ≡ filter (lives old) processes ++ born
+
+-- The process p has one event at most, and no other has any. Then those of the list that were alive are listed, and that
+-- which p bore stands behind them.
+pub record ProcessSteps (p : Pid) (processes : List Pid) (old : ShardState) (now : List Pid) (new : ShardState)
+    : Type 0 where
+  pub born : List Pid
+  pub one : DoesOne p old new born
+  pub listed : now ≡ filter (lives old) processes ++ born

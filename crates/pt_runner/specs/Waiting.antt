@@ -11,13 +11,13 @@ use Rattle.pt_events.specs.declared.event.Event.TheVariants.{Came, Left}
 use Rattle.pt_events.specs.declared.event.Stamped.{Stamped}
 use Rattle.pt_shard.specs.Calls.{first_match}
 use Rattle.pt_shard.specs.ShardState.{ShardState, lives, state_in}
-use Rattle.pt_desk.specs.DeskState.{DeskState}
+use Rattle.pt_desk.specs.DeskState.{DeskState, HasSameEnds}
 use Rattle.pt_workers.specs.Waking.{came_in}
 use Rattle.pt_script.specs.Plans.{Plan}
 use Rattle.pt_script.specs.declared.values.Operation.{Operation}
 use Rattle.pt_script.specs.declared.values.Operation.TheVariants.{Receive}
 use Rattle.pt_script.specs.declared.values.Pattern.{Pattern}
-use Rattle.pt_runner.specs.Acting.{Acting, RunnerDoes, acting, next_of, pick_meant}
+use Rattle.pt_runner.specs.Acting.{Acting, OneDoesNext, RunnerDoes, acting, next_of, pick_meant, table}
 use Rattle.pt_runner.specs.declared.runner.Actor.{Actor}
 use Rattle.pt_runner.specs.declared.runner.Runner.{Runner}
 use Rattle.pt_events.specs.Since.{after_oldest}
@@ -81,6 +81,12 @@ RunnerAttends r d = IsFresh r ⊎ (length d.journal < r.read) ⊎ RunnerKnows r 
 -- knows is true, and stays so however the desk goes on.
 abbrev pub RunnerSteps : Runner → DeskState → Runner → DeskState → Type 0
 RunnerSteps r old s new = RunnerAttends r old.shard → RunnerDoes r old s new × RunnerKnows s new.shard
+
+-- The same of the next operation of the process p alone.
+abbrev pub RunnerStepsOne : Pid → Runner → DeskState → Runner → DeskState → Type 0
+RunnerStepsOne p r old s new =
+    RunnerAttends r old.shard
+    → OneDoesNext p (table r) old.shard (table s) new.shard × HasSameEnds old new × RunnerKnows s new.shard
 
 -- the steps of the code ----------------------------------------------------------------------
 

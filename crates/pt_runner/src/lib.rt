@@ -18,6 +18,8 @@
 //! failure's number. `"trap":true` is an operation of its own before the others. When the operations of a process are
 //! used up, its last one is to exit with `normal`.
 //!
+//! [`Runner::step_one`] lets one process do its next operation. So a caller can choose any order of operations.
+//!
 //! # Names
 //!
 //! An operation names processes by their numbers in the script, and monitors by their tags. The runner keeps the pid of
@@ -41,7 +43,7 @@
 //! An operation that fails for want of memory or at the clock's limit is tried again in each step. [`Place::refused`]
 //! says how often the next operation of a process failed so. [`are_idle`] says whether no process has anything to do.
 //!
-//! Tests: `checks/examples`.
+//! Tests: `checks/examples` and `checks/tried/pt_scripts/runners.rt.txt`.
 //!
 //! # What is proved
 //!
@@ -50,6 +52,8 @@
 //! - **Failed starts.** It fails with `Full` or `Worn` exactly if the next spawn does, and else only for memory.
 //! - **Steps.** In each step each live process does its next operation, in the order in which they were spawned, and
 //!   only that. (`RunnerDoes`)
+//! - **One at a time.** `step_one` lets one process do its next operation, by the same definition, and nothing else
+//!   happens. (`RunnerStepsOne`)
 //! - **Operations.** Each kind of operation is defined in one line. (`Performs`)
 //! - **Attending.** All this holds if the runner attends its desk: it is new, or has taken each turn of it, or begins
 //!   again. (`RunnerAttends`)

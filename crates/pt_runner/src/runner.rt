@@ -1,9 +1,9 @@
 //! The work of a script on one desk.
 
 ghost use Rattle.std.specs.Prelude.{◌≡◌, ◌≢◌, ◌⊎◌, ℕ, Bool, false, ◌<◌, ◌≤◌, ◌+◌, ◌++◌, ◌∷◌, ◌||◌, [], List, None, Some, Ok};
-ghost use Rattle.std.specs.Prelude.{count_by, map, not, slice_index_or, slice_set, true, vec_capacity, vec_len};
+ghost use Rattle.std.specs.Prelude.{count_by, map, not, position, slice_index_or, slice_set, true, vec_capacity, vec_len};
 ghost use Rattle.std.specs.List.{All, list_all, list_any};
-ghost use Rattle.pt_signal.specs.Values.{fits};
+ghost use Rattle.pt_signal.specs.Values.{fits, same_pid};
 ghost use Rattle.pt_shard.specs.ShardState.{ShardState, lives};
 ghost use Rattle.pt_desk.specs.DeskState.{GoesOn, HasSameEnds};
 ghost use Rattle.pt_script.specs.Plans.{Plan};
@@ -12,8 +12,8 @@ ghost use Rattle.pt_script.specs.declared.values.Pattern.{Pattern};
 ghost use Rattle.pt_runner.specs.declared.runner.Actor.{Actor};
 ghost use Rattle.pt_runner.specs.Acting.{Plays, GoesBehind, ActsAt, acting, table, newborn_actor, next_of};
 ghost use Rattle.pt_runner.specs.Acting.{advanced, living, place_among, place_listed, put_off, with_born, RunnerSpawns};
-ghost use Rattle.pt_runner.specs.Stepping.{ProcessesStep, processes_here};
-ghost use Rattle.pt_runner.specs.Waiting.{RunnerAttends, HasSameRest, IsAbreast, IsFresh, IsTrueOf, IsUnmarked, RunnerKnows, RunnerSteps};
+ghost use Rattle.pt_runner.specs.Stepping.{ProcessSteps, ProcessesStep, processes_here};
+ghost use Rattle.pt_runner.specs.Waiting.{RunnerAttends, HasSameRest, IsAbreast, IsFresh, IsTrueOf, IsUnmarked, RunnerKnows, RunnerSteps, RunnerStepsOne};
 ghost use Rattle.pt_runner.specs.Waiting.{AllRest, idle_runner, is_out_of_work, marked, none_fits, rests, sleeps, takes_none};
 
 use crate::calls::{Progress, References, call, pick_of, progress_of};
@@ -316,6 +316,13 @@ impl<'a> Runner<'a> {
         None
     }
 
+    /// The index of the process among those that are listed.
+    fn index_of(&self, p: Pid) -> Option<usize>
+        ensures { result ≡ position (λ (a : Actor). same_pid a.pid p) self.now.actors.items }
+    {
+        self.actors.iter().position(|actor| actor.pid == p)
+    }
+
     /// The number of its processes that are alive.
     #[tactic(auto, using(crate::proofs::Finding::counted_here))]
     pub fn alive(&self, desk: &Desk) -> usize
@@ -425,6 +432,33 @@ impl<'a> Runner<'a> {
     {
         let came = self.came.as_slice();
         self.actors.retain(|actor| actor.remains(came, desk));
+    }
+
+    /// Begins a step: reads what is new in the desk's journal, and takes out the exited processes.
+    fn attend(&mut self, desk: &Desk)
+        ensures table { RunnerAttends self.old desk.now.shard → table self.new ≡ living desk.now.shard (table self.old) }
+        ensures abreast { RunnerAttends self.old desk.now.shard → IsAbreast self.new desk.now.shard }
+    {
+        self.begin(desk);
+        self.look(desk);
+        self.bury(desk);
+    }
+
+    /// Lets one process do its next operation, and no other. Nothing happens if the process has exited, if it is none of
+    /// the script's that was spawned on this desk, or if it waits for an item that has not arrived.
+    ///
+    /// It is for a caller that chooses the order of operations. [`Work::step`] does the next operation of each process.
+    pub fn step_one(&mut self, p: Pid, desk: &mut Desk)
+        ensures does { RunnerStepsOne p self.old desk.old self.new desk.new }
+        ensures steps { RunnerAttends self.old desk.old.shard
+            → ProcessSteps p (processes_here self.old) desk.old.shard (processes_here self.new) desk.new.shard }
+        ensures ends { HasSameEnds desk.old desk.new }
+        ensures goes_on { GoesOn desk.old desk.new }
+    {
+        self.attend(desk);
+        if let Some(place) = self.index_of(p) {
+            self.act(place, desk);
+        }
     }
 
     /// Does the next operation of the process at this index, unless it is a receive and nothing has arrived for it.
@@ -562,9 +596,7 @@ impl Work for Runner<'_> {
         ensures ends { HasSameEnds desk.old desk.new }
         ensures goes_on { GoesOn desk.old desk.new }
     {
-        self.begin(desk);
-        self.look(desk);
-        self.bury(desk);
+        self.attend(desk);
         for index in 0..self.actors.len() {
             self.act(index, desk);
         }

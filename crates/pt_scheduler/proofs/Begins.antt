@@ -14,7 +14,7 @@ use Rattle.pt_scheduler.specs.Planning.{child_of_post, new_child, post_at, start
 use Rattle.pt_scheduler.specs.Members.{boss_part}
 use Rattle.pt_scheduler.specs.Scheduling.{AreUntold}
 
-is_child_of : (me : Pid) (o : Option Post) (b : Member) (first : Next) → Ok (b, first) ≡ child_of_post me o → (post : Post) × (b ≡ new_child post me)
+pub is_child_of : (me : Pid) (o : Option Post) (b : Member) (first : Next) → Ok (b, first) ≡ child_of_post me o → (post : Post) × (b ≡ new_child post me)
 is_child_of me None b first is = absurd (cc)
 is_child_of me (Some post) b first is =
     let e : (b, first) ≡ (new_child post me, Proceed) = cc in (post, ap (λ (r : Member × Next). r.0) e)

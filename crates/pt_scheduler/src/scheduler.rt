@@ -10,7 +10,7 @@ ghost use Rattle.pt_shard.specs.Extends.{Extends};
 ghost use Rattle.pt_desk.specs.DeskState.{GoesOn};
 ghost use Rattle.pt_crew.specs.Visiting.{AreSame};
 ghost use Rattle.pt_crew.specs.Crews.{AreBorn, Attends, Enters, HasRoom, IsNextTime, IsSame, KeepsRest, IsIdle};
-ghost use Rattle.pt_crew.specs.Crews.{crew_size, left, queue, roles, time_of, was_refused};
+ghost use Rattle.pt_crew.specs.Crews.{crew_size, left, queue, roles, time_of, waiting, was_refused};
 ghost use Rattle.pt_crew.specs.Running.{is_idle};
 ghost use Rattle.pt_crew.specs.Stepping.{BeginsStep, EndsStep, EntersChild, IsAnswered, QueueIsLonger, is_running};
 ghost use Rattle.pt_supervisor.specs.Keeping.{SupervisorBegins};
@@ -52,6 +52,7 @@ impl Scheduler {
         ensures attends { (d : ShardState) → SchedulerAttends result d }
         ensures nobody { (p : Pid) → roles (crew_of result) p ≡ None }
         ensures queue { queue (crew_of result) ≡ [] }
+        ensures born { waiting (crew_of result) ≡ [] }
         ensures time { time_of (crew_of result) ≡ 0 }
         ensures desk { desk_of result ≡ None }
         ensures upholds { (past : Past) (d : ShardState) → SchedulerUpholds past result d }
@@ -147,6 +148,7 @@ impl Scheduler {
             → SchedulerUpholds past self.new d }
         ensures roles { AreSame (roles (crew_of self.old)) (roles (crew_of self.new)) }
         ensures queue { queue (crew_of self.new) ≡ queue (crew_of self.old) }
+        ensures waiting { waiting (crew_of self.new) ≡ waiting (crew_of self.old) }
         ensures refused { was_refused (crew_of self.new) ≡ was_refused (crew_of self.old) }
         ensures desk { desk_of self.new ≡ desk_of self.old }
     {

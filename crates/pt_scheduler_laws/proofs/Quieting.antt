@@ -17,10 +17,10 @@ first_scheduler [] l = absurd (omega (arith, l))
 first_scheduler (t ∷ ts) l = t
 
 module _ (past : Past) (schedulers : List Scheduler) (desks : List DeskState) (u : AllSchedulersUphold past schedulers desks) where
-  any_scheduler : (d : ℕ) → d < length desks → Scheduler
+  pub any_scheduler : (d : ℕ) → d < length desks → Scheduler
   any_scheduler d l = first_scheduler schedulers (let c = u.count in omega (arith, c, l))
 
-  crew_at : (d : ℕ) (c : Crew Member) (t : Scheduler) → d < length desks → get_or (map crew_of schedulers) d c ≡ crew_of (get_or schedulers d t)
+  pub crew_at : (d : ℕ) (c : Crew Member) (t : Scheduler) → d < length desks → get_or (map crew_of schedulers) d c ≡ crew_of (get_or schedulers d t)
   crew_at d c t l = get_or-map crew_of schedulers d t c (let n = u.count in omega (arith, n, l))
 
   pub crews_uphold : AllUphold (Keeps past boss_part) (map crew_of schedulers) desks

@@ -1,2 +1,3 @@
 pub mod Quieting
 pub mod Schedulers
+pub mod Here

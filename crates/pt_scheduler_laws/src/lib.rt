@@ -14,14 +14,19 @@
 //! - **Whole nodes of schedulers.** Once no scheduler of a node has anything to do, and the node was gathered and
 //!   settled, each child that a supervisor wants lives, or unlinked itself; unless the supervisor still ends one that
 //!   traps exits, or waits for one on another desk. (`SchedulersChildrenLive`)
+//! - **Children of their own desk.** If a program asks for no child on another desk, no supervisor waits for one: each child
+//!   that it wants lives, or unlinked itself, unless it still ends one that traps exits. Calls and pauses keep that.
+//!   (`scheduler_children_here_live`)
 //! - **Pauses.** What the supervisors of schedulers uphold, they uphold behind a pause, if each scheduler goes on with the
 //!   node's history. (`SchedulerPausesHold`)
 #![tactic(auto)]
 
+mod here;
 mod living;
 mod pausing;
 mod resting_node;
 
+pub use here::scheduler_children_here_live;
 pub use living::scheduler_children_live;
 pub use pausing::paused_scheduler_children_live;
 pub use resting_node::node_children_live;

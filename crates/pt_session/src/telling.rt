@@ -66,8 +66,31 @@ fn tell_state<W: Write>(
 /// Writes the word at that column of a line, and a line feed.
 fn tell_word<W: Write>(out: &mut W, line: &[u8], column: usize) -> io::Result<()> {
     let start = column.saturating_sub(1).min(line.len());
-    out.write_all(word_in(&line[start..]))?;
+    tell_bytes(out, word_in(&line[start..]))?;
     out.write_all(b"\n")
+}
+
+/// The most bytes of a line that are shown of it.
+const MOST_SHOWN: usize = 200;
+
+/// Writes bytes of a line so that no terminal takes them for commands: one that is no printable ASCII is written as `\x1b`.
+/// A long text is cut.
+fn tell_bytes<W: Write>(out: &mut W, bytes: &[u8]) -> io::Result<()> {
+    for at in 0..bytes.len().min(MOST_SHOWN) {
+        tell_byte(out, bytes[at])?;
+    }
+    if bytes.len() > MOST_SHOWN {
+        return out.write_all(b"..");
+    }
+    Ok(())
+}
+
+fn tell_byte<W: Write>(out: &mut W, byte: u8) -> io::Result<()> {
+    match byte {
+        b' '..=b'~' => out.write_all(&[byte]),
+        b'\t' => out.write_all(b" "),
+        _ => write!(out, "\\x{byte:02x}"),
+    }
 }
 
 /// The text before the first blank.
@@ -87,7 +110,7 @@ fn tell_unexpected<W: Write>(
     line: &[u8],
 ) -> io::Result<()> {
     write!(out, "line {number}: wanted ")?;
-    out.write_all(wanted_in(line))?;
+    tell_bytes(out, wanted_in(line))?;
     out.write_all(b", answered ")?;
     out.write_all(next_line(session))?;
     out.write_all(b"\n")

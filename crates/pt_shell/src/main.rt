@@ -2,6 +2,7 @@
 //!
 //! ```text
 //! pt_shell [--interactive]
+//! pt_shell --help | --version
 //! ```
 //!
 //! The lines come from standard input, one call each, in the words of the API and the printed texts of the values;
@@ -10,13 +11,17 @@
 //!
 //! Where standard input is a terminal, and with `--interactive`, there is a prompt, and the shell goes on behind such a
 //! line. Else it ends there, with the status 1. The status is 2 where the words are refused, and 3 where memory or a
-//! file was wanting.
+//! file was wanting. `--help` and `--version` print on standard output, with the status 0.
 //!
 //! # What is proved
 //!
 //! - **It ends.** The program ends and goes wrong nowhere.
 #![tactic(auto)]
 
+mod bounded;
+
+use crate::bounded::{Bounded, MOST_BYTES};
+use pt_render::VERSION;
 use pt_session::{Fault, run};
 use std::io::{BufReader, BufWriter, IsTerminal, Write};
 use std::process::ExitCode;
@@ -25,50 +30,124 @@ use std::{env, io};
 
 const USAGE: &str = "usage: pt_shell [--interactive]";
 
-/// Whether the words ask for a person to be talked to; `None` where they are no words of the program.
-fn asked<R: Runtime + AllocGlobal>(rt: &R) -> io::Result<Option<bool>> {
+/// What `--help` prints.
+const HELP: &str = "\
+Opens a node and makes every call by hand: reads lines of calls, and prints each answer
+
+Usage: pt_shell [--interactive]
+
+Lines come from standard input, one call each. The line 'help' prints the calls.
+
+Options:
+      --interactive  Print a prompt, and go on after a line that failed, as on a terminal
+  -h, --help         Print help
+  -V, --version      Print version
+
+Status: 0; 1 a line failed; 2 the words are wrong; 3 memory or a file failed
+";
+
+/// What the words ask for.
+#[derive(Clone, Copy)]
+enum Asked {
+    /// To read lines, and whether a person is talked to.
+    Lines(bool),
+    Help,
+    Version,
+}
+
+/// What the words ask for; `None` where they are no words of the program.
+fn read_words<R: Runtime + AllocGlobal>(rt: &R) -> io::Result<Option<Asked>> {
     let words: Vec<String> = env::args(rt)?.collect(rt.alloc())?;
     if words.len() <= 1 {
-        return Ok(Some(false));
+        return Ok(Some(Asked::Lines(false)));
     }
-    if words.len() == 2 && words[1].as_str() == "--interactive" {
-        return Ok(Some(true));
+    if words.len() > 2 {
+        return Ok(None);
     }
-    Ok(None)
+    Ok(asked_by(words[1].as_str()))
+}
+
+fn asked_by(word: &str) -> Option<Asked> {
+    match word {
+        "--interactive" => Some(Asked::Lines(true)),
+        "--help" | "-h" => Some(Asked::Help),
+        "--version" | "-V" => Some(Asked::Version),
+        _ => None,
+    }
+}
+
+/// Why the shell ended before its lines did.
+#[derive(Clone, Copy)]
+enum Stop {
+    Fault(Fault),
+    /// A line is too long.
+    Long,
+}
+
+impl From<io::Error> for Stop {
+    fn from(error: io::Error) -> Stop {
+        Stop::Fault(Fault::from(error))
+    }
 }
 
 fn run_shell<R: Runtime + AllocGlobal, E: Write>(
     rt: &R,
     is_person: bool,
     errors: &mut E,
-) -> Result<(), Fault> {
+) -> Result<(), Stop> {
     let alloc = rt.alloc();
-    let mut from = BufReader::new(alloc, rt.reader())?;
+    let mut from = BufReader::new(alloc, Bounded::new(rt.reader()))?;
     let mut out = BufWriter::new(alloc, io::writer(rt))?;
-    run(alloc, is_person, &mut from, &mut out, errors)
+    match run(alloc, is_person, &mut from, &mut out, errors) {
+        Ok(()) => Ok(()),
+        Err(_) if from.get_ref().is_over() => Err(Stop::Long),
+        Err(fault) => Err(Stop::Fault(fault)),
+    }
 }
 
-fn main(rt: HostRuntime) -> ExitCode {
-    let is_person = match asked(&rt) {
-        Ok(Some(is_person)) => is_person || rt.stdin().is_terminal(),
-        Ok(None) => {
-            let _ = rt.eprintln(USAGE);
-            return ExitCode::from(2);
-        }
-        Err(_) => {
-            let _ = rt.eprintln("memory refused");
-            return ExitCode::from(3);
-        }
-    };
-    match run_shell(&rt, is_person, &mut rt.stderr()) {
+/// The status of what was printed on standard output.
+fn printed<R: Runtime>(rt: &R, done: io::Result<()>) -> ExitCode {
+    if done.is_ok() {
+        ExitCode::SUCCESS
+    } else {
+        let _ = rt.eprintln("file refused");
+        ExitCode::from(3)
+    }
+}
+
+/// Reads lines until they end, and returns the status.
+fn answer<R: Runtime + AllocGlobal, E: Write>(rt: &R, is_person: bool, errors: &mut E) -> ExitCode {
+    match run_shell(rt, is_person, errors) {
         Ok(()) => ExitCode::SUCCESS,
-        Err(Fault::Line) => ExitCode::from(1),
-        Err(Fault::Memory) => {
+        Err(Stop::Fault(Fault::Line)) => ExitCode::from(1),
+        Err(Stop::Long) => {
+            let _ = eprintln!(rt; "a line has more than {MOST_BYTES} bytes");
+            ExitCode::from(1)
+        }
+        Err(Stop::Fault(Fault::Memory)) => {
             let _ = rt.eprintln("memory refused");
             ExitCode::from(3)
         }
-        Err(Fault::File) => {
+        Err(Stop::Fault(Fault::File)) => {
             let _ = rt.eprintln("file refused");
+            ExitCode::from(3)
+        }
+    }
+}
+
+fn main(rt: HostRuntime) -> ExitCode {
+    match read_words(&rt) {
+        Ok(Some(Asked::Lines(is_person))) => {
+            answer(&rt, is_person || rt.stdin().is_terminal(), &mut rt.stderr())
+        }
+        Ok(Some(Asked::Help)) => printed(&rt, rt.print(HELP)),
+        Ok(Some(Asked::Version)) => printed(&rt, println!(rt; "pt_shell {VERSION}")),
+        Ok(None) => {
+            let _ = rt.eprintln(USAGE);
+            ExitCode::from(2)
+        }
+        Err(_) => {
+            let _ = rt.eprintln("memory refused");
             ExitCode::from(3)
         }
     }

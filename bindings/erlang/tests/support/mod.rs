@@ -2,11 +2,11 @@
 
 #![allow(dead_code, reason = "each test takes some of it")]
 
-use pundewo::runtime::{Behaviour, Context, Event, Handle, Next};
+use pundewo::runtime::{Behaviour, CallFault, Context, Event, Handle, Next};
 use pundewo_erlang::{Cookie, Gateway, Incoming, Term};
 use std::fs;
 use std::io::{BufRead, BufReader};
-use std::net::{TcpListener, TcpStream};
+use std::net::{Ipv4Addr, TcpListener, TcpStream};
 use std::os::unix::fs::PermissionsExt;
 use std::path::{Path, PathBuf};
 use std::process::{Child, ChildStdin, Command, Stdio};
@@ -19,8 +19,12 @@ pub const LIMIT: Duration = Duration::from_secs(120);
 pub struct Cluster {
     pub home: PathBuf,
     pub port: u16,
-    // (it ends as its input does, with the test, and removes the home)
-    _epmd: Mutex<Child>,
+    /// The addresses of this program's nodes and of Erlang's, and what starts a program where Erlang's nodes are.
+    pub here: Ipv4Addr,
+    pub there: Ipv4Addr,
+    start: Vec<String>,
+    // (they end as their input does, with the test, and remove the home)
+    _epmd: Mutex<Vec<Child>>,
 }
 
 /// The cluster of this program, or `None` if Erlang is not there.
@@ -40,7 +44,7 @@ fn begin() -> Option<Cluster> {
     write_cookie(&home.join(".erlang.cookie"), &format!("cookie{}", std::process::id()));
     let sources = Path::new(env!("CARGO_MANIFEST_DIR"));
     let compiled = Command::new("erlc")
-        .arg("-o")
+        .args(["-Wall", "-Werror", "-o"])
         .arg(&home)
         .args([
             sources.join("tests/pundewo_peer.erl"),
@@ -50,14 +54,41 @@ fn begin() -> Option<Cluster> {
         .status();
     assert!(compiled.expect("erlc").success());
     let port = free_port();
-    let serves = "epmd -port \"$1\" -address 127.0.0.1 & read -r line; kill $!; rm -rf \"$2\"";
-    let mut shell = Command::new("sh");
-    shell.args(["-c", serves, "sh", &port.to_string()]).arg(&home);
-    let epmd = shell.stdin(Stdio::piped()).spawn().expect("epmd");
     std::env::set_var("ERL_EPMD_PORT", port.to_string());
     std::env::set_var("ERL_EPMD_ADDRESS", "127.0.0.1");
-    until("epmd", || TcpStream::connect(("127.0.0.1", port)).is_ok());
-    Some(Cluster { home, port, _epmd: Mutex::new(epmd) })
+    let (here, there, start) = places();
+    let mut epmds = vec![epmd(&[], port, here, &home)];
+    if !start.is_empty() {
+        epmds.push(epmd(&start, port, there, &home));
+    }
+    until("epmd", || [here, there].iter().all(|host| TcpStream::connect((*host, port)).is_ok()));
+    Some(Cluster { home, port, here, there, start, _epmd: Mutex::new(epmds) })
+}
+
+/// The loopback, or `PUNDEWO_ERLANG_PLACES`: both addresses, and the words that start a program at the second one.
+fn places() -> (Ipv4Addr, Ipv4Addr, Vec<String>) {
+    let Ok(text) = std::env::var("PUNDEWO_ERLANG_PLACES") else {
+        return (Ipv4Addr::LOCALHOST, Ipv4Addr::LOCALHOST, Vec::new());
+    };
+    let words: Vec<String> = text.split_whitespace().map(String::from).collect();
+    let address = |place: usize| words[place].parse().expect("an address");
+    (address(0), address(1), words[2..].to_vec())
+}
+
+/// Starts an `epmd`, which ends as its input does.
+fn epmd(start: &[String], port: u16, address: Ipv4Addr, home: &Path) -> Child {
+    let serves = "epmd -port \"$1\" -address \"$2\" & read -r line; kill $!; rm -rf \"$3\"";
+    let mut shell = started_by(start, "sh");
+    shell.args(["-c", serves, "sh", &port.to_string(), &address.to_string()]).arg(home);
+    shell.stdin(Stdio::piped()).spawn().expect("epmd")
+}
+
+/// A program, behind the words that start it where it is to be.
+fn started_by(start: &[String], program: &str) -> Command {
+    let mut words = start.iter().map(String::as_str).chain([program]);
+    let mut command = Command::new(words.next().expect("a program"));
+    command.args(words);
+    command
 }
 
 pub fn write_cookie(path: &Path, text: &str) {
@@ -83,13 +114,25 @@ impl Cluster {
         Cookie::from_file(self.home.join(".erlang.cookie")).expect("a cookie")
     }
 
+    /// The command of an Erlang node.
+    pub fn erl(&self, alive: &str) -> Command {
+        let mut command = started_by(&self.start, "erl");
+        command.args(["-noshell", "-name", &format!("{alive}@{}", self.there), "-pa"]).arg(&self.home);
+        let address = self.there.octets().map(|byte| byte.to_string()).join(",");
+        command.args(["+S", "2:2", "-kernel", "inet_dist_use_interface", &format!("{{{address}}}")]);
+        command.args(["-s", "pundewo_peer", "main"]);
+        command.env("HOME", &self.home).stdin(Stdio::piped()).stdout(Stdio::piped());
+        command
+    }
+
     /// Starts an Erlang node.
     pub fn node(&self, alive: &str) -> Node {
-        let name = format!("{alive}@127.0.0.1");
-        let mut command = Command::new("erl");
-        command.args(["-noshell", "-name", &name, "-pa"]).arg(&self.home).args(["-s", "pundewo_peer", "main"]);
-        command.args(["+S", "2:2", "-kernel", "inet_dist_use_interface", "{127,0,0,1}"]);
-        command.env("HOME", &self.home).stdin(Stdio::piped()).stdout(Stdio::piped());
+        self.node_by(alive, self.erl(alive))
+    }
+
+    /// Starts one by a command that was made with this name.
+    pub fn node_by(&self, alive: &str, mut command: Command) -> Node {
+        let name = format!("{alive}@{}", self.there);
         let mut child = command.spawn().expect("erl");
         let mut output = BufReader::new(child.stdout.take().expect("its output"));
         let mut line = String::new();
@@ -110,7 +153,7 @@ pub struct Node {
 }
 
 impl Node {
-    /// Sends its process a signal of Unix.
+    /// Sends its process a signal of Unix. (what starts it becomes it)
     pub fn signal(&self, signal: &str) {
         let sent = Command::new("kill").args([signal, &self.child.id().to_string()]).status();
         assert!(sent.expect("kill").success());
@@ -118,6 +161,28 @@ impl Node {
 
     /// Calls a function of a module there: Erlang's `rpc:call`.
     pub fn rpc(&self, gateway: &Gateway, module: &str, function: &str, arguments: impl Into<Vec<Term>>) -> Term {
+        self.asked(gateway, module, function, arguments)
+            .unwrap_or_else(|fault| panic!("{}: {module}:{function}: {fault}", self.name))
+    }
+
+    /// The same, or `None` if the connection breaks meanwhile.
+    pub fn try_rpc(
+        &self,
+        gateway: &Gateway,
+        module: &str,
+        function: &str,
+        arguments: impl Into<Vec<Term>>,
+    ) -> Option<Term> {
+        self.asked(gateway, module, function, arguments).ok()
+    }
+
+    fn asked(
+        &self,
+        gateway: &Gateway,
+        module: &str,
+        function: &str,
+        arguments: impl Into<Vec<Term>>,
+    ) -> Result<Term, CallFault> {
         let request = [
             Term::atom("call"),
             Term::atom(module),
@@ -125,8 +190,7 @@ impl Node {
             Term::List(arguments.into()),
             Term::atom("user"),
         ];
-        let asked = gateway.ask(("rex", self.name.as_str()), LIMIT, Term::tuple(request));
-        asked.unwrap_or_else(|fault| panic!("{module}:{function}: {fault}"))
+        gateway.ask(("rex", self.name.as_str()), LIMIT, Term::tuple(request))
     }
 
     /// Has it run a case of the peer.

@@ -30,6 +30,7 @@ impl<M: Send + 'static> Address<M> {
 
     /// The name of the process in the table. It says nothing of the run, and a process of another run may have the same:
     /// where a call takes a [`Target`](super::Target), give it the address.
+    #[inline]
     #[must_use]
     pub fn pid(&self) -> Pid {
         self.mailbox.pid()
@@ -154,6 +155,7 @@ impl<M: Send + 'static> Address<M> {
     }
 
     /// Has the process crash if more messages wait than may.
+    #[inline]
     pub(crate) fn look_at_bound(&self) {
         if self.mailbox.bound != Bound::None && self.mailbox.is_beyond() {
             let pid = self.pid();

@@ -191,6 +191,7 @@ impl Next {
     }
 
     /// The same for a crew, whose times are points in time.
+    #[inline(always)]
     pub(crate) fn for_crew(self, hub: &Hub, gone: &Gone) -> crew::Next {
         match self {
             Next::Wait => crew::Next::Wait(Pick::Any),

@@ -3,7 +3,7 @@
 use super::ANSWER;
 use super::asked::{Asked, request_dropped};
 use super::hub::{Hub, Origin};
-use super::numbers::Numbered;
+use super::numbers::Few;
 use super::payloads::{Given, Slot};
 use super::timing::Key;
 use crate::{Fault, Pid, Reason, Ref};
@@ -189,7 +189,7 @@ pub(crate) struct Open {
 }
 
 /// The open calls of a process, by their numbers: those of their monitors, or numbers that no monitor has.
-pub(crate) type Calls = Numbered<Open>;
+pub(crate) type Calls = Few<Open>;
 
 /// The number of the call with this monitor. (a stamp is at most 2^62)
 pub(crate) fn number_of(monitor: Ref) -> i64 {

@@ -11,7 +11,6 @@ use super::hub::Origin;
 use super::inbox::Task;
 use super::payloads::{News, Slot};
 use super::process::keep_older;
-use super::room::Ticket;
 use super::target::Target;
 use super::timing::{Alarm, Key, Timer};
 use super::worker::{Parent, Worker};
@@ -359,7 +358,7 @@ impl Worker {
             return to.send(message);
         }
         let kind = to.mailbox.letter_of(&message);
-        let Ok(number) = to.mailbox.put(message, Ticket::FREE) else { return false };
+        let Ok(number) = to.mailbox.put_free(message) else { return false };
         let sent = self.say(from, to.pid(), kind, number);
         if sent {
             to.look_at_bound();

@@ -1,6 +1,6 @@
 //! What the threads of a runtime share: the places of the desks, where they meet, and the orders of those outside.
 
-use super::inbox::{Place, Task};
+use super::inbox::{Apart, Place, Task};
 use super::meeting::Meeting;
 use super::payloads::{Slot, quietly};
 use super::report::{Report, Reporter};
@@ -46,9 +46,9 @@ pub(crate) struct Hub {
     pub(crate) places: Vec<Place>,
     pub(crate) meeting: Meeting,
     order: AtomicU8,
-    /// How many processes live.
-    pub(crate) alive: AtomicUsize,
-    pub(crate) spawned: AtomicU64,
+    /// How many processes live, and how many were spawned.
+    pub(crate) alive: Apart<AtomicUsize>,
+    pub(crate) spawned: Apart<AtomicU64>,
     pub(crate) panics: AtomicU64,
     next_desk: AtomicUsize,
     pub(crate) every: usize,
@@ -73,8 +73,8 @@ impl Hub {
             places: (0..desks).map(|_| Place::default()).collect(),
             meeting,
             order: AtomicU8::new(GO_ON),
-            alive: AtomicUsize::new(0),
-            spawned: AtomicU64::new(0),
+            alive: Apart(AtomicUsize::new(0)),
+            spawned: Apart(AtomicU64::new(0)),
             panics: AtomicU64::new(0),
             next_desk: AtomicUsize::new(0),
             every,
@@ -135,17 +135,15 @@ impl Hub {
         self.places.iter().for_each(Place::ring);
     }
 
-    /// Wakes the other desks, to which this one has posted.
-    pub(crate) fn ring_others(&self, desk: u8) {
-        let others = (0..).zip(&self.places).filter(|&(number, _)| number != desk);
-        others.for_each(|(_, place)| place.ring());
-    }
-
-    /// Wakes the desks that wait for room in a lane, since this one has made some.
-    pub(crate) fn ring_short(&self) {
-        // (what was taken out of the lanes is seen by a desk that this does not see waiting)
+    /// Wakes the desks to which one has posted, a bit for each, and those that wait for room in a lane, if one has made some.
+    pub(crate) fn ring_others(&self, posted: u64, has_made_room: bool) {
+        // (what was put into the lanes or taken out is seen by a desk that this does not see listening or waiting)
         fence(SeqCst);
-        self.places.iter().filter(|place| place.waits_for_room()).for_each(Place::ring);
+        for (number, place) in self.places.iter().enumerate() {
+            if posted >> number & 1 == 1 || has_made_room && place.waits_for_room() {
+                place.ring();
+            }
+        }
     }
 
     /// The run is over: nothing comes in any more, and all that is kept for processes is dropped.

@@ -3,12 +3,18 @@
 use super::calls::CallFault;
 use super::group::Table;
 use super::hub::Origin;
+use super::numbers::ByPid;
 use super::payloads::{Slot, drop_quietly};
 use super::room::Room;
 use super::worker::Worker;
 use crate::Pid;
-use std::collections::{HashMap, VecDeque};
-use std::sync::atomic::{AtomicBool, AtomicU64, Ordering::SeqCst};
+use std::collections::VecDeque;
+use std::ops::Deref;
+use std::sync::atomic::{
+    AtomicBool, AtomicU64,
+    Ordering::{Acquire, Release, SeqCst},
+    fence,
+};
 use std::sync::{Arc, Condvar, Mutex, MutexGuard, OnceLock, PoisonError};
 use std::time::Duration;
 
@@ -29,9 +35,6 @@ pub(crate) type Work = Box<dyn FnOnce(&mut Worker) + Send>;
 
 #[derive(Default)]
 struct Inbox {
-    /// Whether something may be to do that the thread has not looked for: it does not rest then.
-    rung: bool,
-    resting: bool,
     /// Whether nobody does anything now.
     halted: bool,
     /// Whether nobody ever will.
@@ -55,20 +58,48 @@ impl Inbox {
     }
 }
 
+/// A value that has lines of a processor's cache to itself. (processors fetch them in pairs)
+#[derive(Default)]
+#[repr(align(128))]
+pub(crate) struct Apart<T>(pub(crate) T);
+
+impl<T> Deref for Apart<T> {
+    type Target = T;
+
+    fn deref(&self) -> &T {
+        &self.0
+    }
+}
+
+/// What the threads of other desks read of a desk in each of their steps. It is seldom written.
+#[derive(Default)]
+struct Signs {
+    /// Whether the thread is to be rung for what others give it. It says so before it looks for the last time, and then rests.
+    /// (a thread that is at work looks in each round, and nobody need ring)
+    listens: AtomicBool,
+    /// Whether the desk waits for room in a lane.
+    short: AtomicBool,
+}
+
 /// The place of a desk's thread.
 #[derive(Default)]
+#[repr(align(128))]
 pub(crate) struct Place {
     inbox: Mutex<Inbox>,
     bell: Condvar,
+    /// Whether something may be to do that the thread has not looked for: it does not rest then. If a task waits, it is set.
+    rung: AtomicBool,
+    /// Whether the thread rests. It is written under the lock of the inbox. (who has set `rung` and sees that the thread does not
+    /// rest need not lock: the thread looks at `rung` after it has written this)
+    resting: AtomicBool,
+    signs: Apart<Signs>,
     pub(crate) room: Room,
     /// The live processes of the desk.
-    live: Mutex<HashMap<Pid, Arc<dyn Slot>>>,
+    live: Mutex<ByPid<Arc<dyn Slot>>>,
     /// Which of them is in which group.
     pub(crate) groups: Mutex<Table>,
-    /// Whether the desk waits for room in a lane.
-    short: AtomicBool,
-    /// Whose handler runs, by its slot and its version, and 0 if none does.
-    running: AtomicU64,
+    /// Whose handler runs, by its slot and its version, and 0 if none does. (it is written with each handler)
+    running: Apart<AtomicU64>,
     /// The process of the desk in whose name things are sent from outside, once it is spawned.
     pub(crate) porter: OnceLock<Pid>,
 }
@@ -91,13 +122,27 @@ impl Place {
         true
     }
 
+    /// Wakes the thread, if it does not look by itself. Who has given it something that is none of `SeqCst` fences that first.
+    #[inline]
     pub(crate) fn ring(&self) {
-        self.wake(locked(&self.inbox));
+        if self.signs.listens.load(SeqCst) {
+            self.ring_surely();
+        }
     }
 
-    fn wake(&self, mut inbox: MutexGuard<'_, Inbox>) {
-        inbox.rung = true;
-        let resting = inbox.resting;
+    #[cold]
+    fn ring_surely(&self) {
+        self.rung.store(true, SeqCst);
+        if self.resting.load(SeqCst) {
+            // (so the thread waits for the bell, or does not rest any more)
+            drop(locked(&self.inbox));
+            self.bell.notify_one();
+        }
+    }
+
+    fn wake(&self, inbox: MutexGuard<'_, Inbox>) {
+        self.rung.store(true, SeqCst);
+        let resting = self.resting.load(SeqCst);
         drop(inbox);
         // (a bell costs a call of the system)
         if resting {
@@ -105,10 +150,24 @@ impl Place {
         }
     }
 
+    /// Says whether the thread is to be rung. It looks for what others have given it once more before it rests.
+    pub(crate) fn listen(&self, listens: bool) {
+        self.signs.listens.store(listens, SeqCst);
+        // (what others gave it is seen by the looks that follow, or they see this)
+        fence(SeqCst);
+    }
+
+    /// Whether somebody has rung since the last `take`. (mostly nobody has, and nothing is locked for that)
+    #[inline]
+    pub(crate) fn is_rung(&self) -> bool {
+        self.rung.load(SeqCst)
+    }
+
     /// Takes all tasks. Who rings from here on is heard by the next `rest`.
     pub(crate) fn take(&self) -> VecDeque<Task> {
         let mut inbox = locked(&self.inbox);
-        inbox.rung = false;
+        // (it reads who has rung, so that what that one did before is seen)
+        self.rung.swap(false, SeqCst);
         std::mem::take(&mut inbox.tasks)
     }
 
@@ -122,19 +181,20 @@ impl Place {
         let mut inbox = locked(&self.inbox);
         tasks.append(&mut inbox.tasks);
         inbox.tasks = tasks;
+        self.rung.store(true, SeqCst);
     }
 
     /// Rests until somebody rings, for so long at most.
     pub(crate) fn rest(&self, most: Option<Duration>, owed: usize) {
         let mut inbox = locked(&self.inbox);
-        inbox.resting = true;
+        self.resting.store(true, SeqCst);
         inbox.owed = owed;
-        let quiet = |inbox: &mut Inbox| !inbox.rung;
+        let quiet = |_: &mut Inbox| !self.rung.load(SeqCst);
         let mut inbox = match most {
             Some(most) => self.bell.wait_timeout_while(inbox, most, quiet).unwrap_or_else(PoisonError::into_inner).0,
             None => self.bell.wait_while(inbox, quiet).unwrap_or_else(PoisonError::into_inner),
         };
-        inbox.resting = false;
+        self.resting.store(false, SeqCst);
         inbox.rests += 1;
     }
 
@@ -153,7 +213,8 @@ impl Place {
     /// open.
     pub(crate) fn quiet(&self) -> Option<u64> {
         let inbox = locked(&self.inbox);
-        let quiet = inbox.resting && !inbox.rung && inbox.tasks.is_empty() && inbox.owed == 0 && !self.waits_for_room();
+        let rests = self.resting.load(SeqCst) && !self.is_rung();
+        let quiet = rests && inbox.tasks.is_empty() && inbox.owed == 0 && !self.waits_for_room();
         quiet.then_some(inbox.rests)
     }
 
@@ -165,6 +226,7 @@ impl Place {
         let tasks = std::mem::take(&mut inbox.tasks);
         let (asked, kept) = tasks.into_iter().partition(|task| halted && matches!(task, Task::Ask(_)));
         inbox.tasks = kept;
+        self.rung.store(true, SeqCst);
         drop(inbox);
         let asked: VecDeque<Task> = asked;
         asked.into_iter().for_each(drop_quietly);
@@ -209,26 +271,27 @@ impl Place {
 
     /// Whether the desk waits for room.
     pub(crate) fn waits_for_room(&self) -> bool {
-        self.short.load(SeqCst)
+        self.signs.short.load(SeqCst)
     }
 
     /// Says that the desk waits for room, and returns whether it had said so before.
     pub(crate) fn is_short(&self) -> bool {
-        self.short.swap(true, SeqCst)
+        self.signs.short.swap(true, SeqCst)
     }
 
     pub(crate) fn has_room(&self) {
-        self.short.store(false, SeqCst);
+        self.signs.short.store(false, SeqCst);
     }
 
     pub(crate) fn runs(&self, pid: Option<Pid>) {
         // (a slot has 16 bits)
         let word = pid.map_or(0, |pid| u64::from(pid.slot) << 32 | u64::from(pid.version));
-        self.running.store(word, SeqCst);
+        // (what is told of it need not be in the order of anything else)
+        self.running.store(word, Release);
     }
 
     pub(crate) fn running(&self, shard: u8) -> Option<Pid> {
-        let word = self.running.load(SeqCst);
+        let word = self.running.load(Acquire);
         (word != 0).then_some(Pid { shard, slot: (word >> 32) as u32, version: word as u32 })
     }
 }

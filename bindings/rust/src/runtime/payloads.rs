@@ -8,7 +8,7 @@ use super::behaviour::Bound;
 use super::calls::CallFault;
 use super::group::AnyMailbox;
 use super::name::Names;
-use super::numbers::Numbered;
+use super::numbers::{Few, Numbered, Row};
 use super::paces::touch;
 use super::room::Ticket;
 use super::selection::letter;
@@ -20,6 +20,9 @@ use std::collections::HashMap;
 use std::panic::{AssertUnwindSafe, catch_unwind};
 use std::sync::atomic::AtomicBool;
 use std::sync::{Arc, Mutex, MutexGuard, PoisonError};
+
+/// The texts of panics, each with the epoch in which it was put.
+type Panics = HashMap<News, (u64, Arc<str>)>;
 
 /// What a call was answered, whatever its type.
 pub(crate) type Given = Result<Box<dyn Any + Send>, CallFault>;
@@ -47,28 +50,27 @@ pub(crate) struct Values<M> {
 }
 
 struct Kept<M> {
-    last: i64,
     /// No message has a smaller number. (it is known only where the oldest is dropped)
     oldest: i64,
-    messages: Numbered<M>,
+    messages: Row<M>,
     /// The room that messages take in an inbox with a bound.
     tickets: Numbered<Ticket>,
     /// The open calls from outside.
-    calls: Numbered<Arc<dyn Fails>>,
+    calls: Few<Arc<dyn Fails>>,
     /// The text of its own panic.
     crash: Option<Arc<str>>,
     /// The answers of calls, each with the number of the last message before it.
-    answers: Numbered<(i64, Given)>,
-    /// The texts of panics, each with the epoch in which it was put.
-    panics: HashMap<News, (u64, Arc<str>)>,
+    answers: Few<(i64, Given)>,
+    /// The texts of panics, if there ever were some.
+    panics: Option<Box<Panics>>,
 }
 
 impl<M> Kept<M> {
     /// Takes the oldest message out, with its room.
     fn take_oldest(&mut self) -> Option<(M, Option<Ticket>)> {
-        while self.oldest < self.last {
+        while self.oldest < self.messages.last() {
             self.oldest += 1;
-            if let Some(message) = self.messages.remove(&self.oldest) {
+            if let Some(message) = self.messages.remove(self.oldest) {
                 return Some((message, self.tickets.remove(&self.oldest)));
             }
         }
@@ -109,20 +111,20 @@ pub(crate) trait Slot: Send + Sync {
 impl<M> Values<M> {
     pub(crate) fn new(pid: Pid, name: &'static str, bound: Bound, kind: fn(&M) -> u32) -> Values<M> {
         let kept = Kept {
-            last: 0,
             oldest: 0,
-            messages: Numbered::default(),
+            messages: Row::new(),
             tickets: Numbered::default(),
-            calls: Numbered::default(),
+            calls: Few::default(),
             crash: None,
-            answers: Numbered::default(),
-            panics: HashMap::new(),
+            answers: Few::default(),
+            panics: None,
         };
         let (kept, is_in_groups) = (Mutex::new(Some(kept)), AtomicBool::new(false));
         Values { pid, name, bound, kind, kept, is_in_groups, names: Names::default() }
     }
 
     /// (nothing of the program's own runs under the lock: values are moved, and dropped outside of it)
+    #[inline]
     fn lock(&self) -> MutexGuard<'_, Option<Kept<M>>> {
         touch(1 << self.pid.shard);
         self.kept.lock().unwrap_or_else(PoisonError::into_inner)
@@ -137,18 +139,32 @@ impl<M> Values<M> {
             Bound::DropOldest(most) if kept.messages.len() >= most => kept.take_oldest(),
             _ => None,
         };
-        kept.last += 1;
-        let number = kept.last;
-        kept.messages.insert(number, message);
+        let number = kept.messages.push(message);
         if !ticket.is_free() {
             kept.tickets.insert(number, ticket);
         }
         drop(state);
-        drop(oldest.map(|(message, ticket)| (drop_quietly(message), ticket)));
+        if let Some((message, ticket)) = oldest {
+            drop_quietly(message);
+            drop(ticket);
+        }
         Ok(number)
     }
 
+    /// The same of a message that needs no room in an inbox. (most mailboxes have no bound either)
+    #[inline]
+    pub(crate) fn put_free(&self, message: M) -> Result<i64, SendFault<M>> {
+        if self.bound != Bound::None {
+            return self.put(message, Ticket::FREE);
+        }
+        match &mut *self.lock() {
+            Some(kept) => Ok(kept.messages.push(message)),
+            None => Err(SendFault::Exited(message)),
+        }
+    }
+
     /// The kind of the letter of a message.
+    #[inline]
     pub(crate) fn letter_of(&self, message: &M) -> u32 {
         letter((self.kind)(message))
     }
@@ -160,7 +176,7 @@ impl<M> Values<M> {
         let dropped = match &mut *state {
             Some(kept) => {
                 kept.oldest = kept.oldest.min(number - 1);
-                kept.messages.insert(number, message);
+                kept.messages.put_back(number, message);
                 match self.bound {
                     Bound::DropOldest(most) if kept.messages.len() > most => kept.take_oldest(),
                     _ => None,
@@ -185,7 +201,10 @@ impl<M> Values<M> {
     pub(crate) fn open_call(&self, number: i64, call: Arc<dyn Fails>) -> bool {
         match &mut *self.lock() {
             // (one that has crashed is still here until its exit is told)
-            Some(kept) if kept.crash.is_none() => kept.calls.insert(number, call).is_none(),
+            Some(kept) if kept.crash.is_none() => {
+                kept.calls.insert(number, call);
+                true
+            }
             Some(_) | None => false,
         }
     }
@@ -195,26 +214,29 @@ impl<M> Values<M> {
         self.lock().is_some()
     }
 
+    #[inline]
     pub(crate) fn take(&self, number: i64) -> Option<M> {
         let mut kept = self.lock();
         let kept_now = kept.as_mut()?;
+        let message = kept_now.messages.remove(number);
         // (an inbox without a bound has no tickets)
-        let ticket = if kept_now.tickets.is_empty() { None } else { kept_now.tickets.remove(&number) };
-        let message = kept_now.messages.remove(&number);
-        drop(kept);
-        drop(ticket);
+        if !kept_now.tickets.is_empty() {
+            let ticket = kept_now.tickets.remove(&number);
+            drop(kept);
+            drop(ticket);
+        }
         message
     }
 
     pub(crate) fn take_answer(&self, call: i64) -> Option<Given> {
-        self.lock().as_mut()?.answers.remove(&call).map(|(_, given)| given)
+        self.lock().as_mut()?.answers.remove(call).map(|(_, given)| given)
     }
 
     /// The age of a message or of an answer: what a process has sent later has a greater one.
     pub(crate) fn age_of(&self, item: &Item) -> Option<i64> {
         match *item {
             Item::User(_, Body { kind: ANSWER, num, .. }) => {
-                self.lock().as_ref()?.answers.get(&num).map(|(age, _)| *age)
+                self.lock().as_ref()?.answers.get(num).map(|(age, _)| *age)
             }
             Item::User(_, Body { kind: OVER | MORE | GONE | GONE_LINK, .. }) => None,
             Item::User(_, Body { num, .. }) => Some(num),
@@ -223,7 +245,7 @@ impl<M> Values<M> {
     }
 
     pub(crate) fn take_panic(&self, news: News) -> Option<Arc<str>> {
-        self.lock().as_mut()?.panics.remove(&news).map(|(_, text)| text)
+        self.lock().as_mut()?.panics.as_mut()?.remove(&news).map(|(_, text)| text)
     }
 }
 
@@ -243,7 +265,7 @@ impl<M: Send + 'static> Slot for Values<M> {
     fn put_answer(&self, call: i64, given: Given) -> bool {
         let back = match &mut *self.lock() {
             Some(kept) => {
-                kept.answers.insert(call, (kept.last, given));
+                kept.answers.insert(call, (kept.messages.last(), given));
                 None
             }
             None => Some(given),
@@ -253,13 +275,13 @@ impl<M: Send + 'static> Slot for Values<M> {
 
     fn put_panic(&self, news: News, text: Arc<str>, epoch: u64) {
         if let Some(kept) = &mut *self.lock() {
-            kept.panics.insert(news, (epoch, text));
+            kept.panics.get_or_insert_default().insert(news, (epoch, text));
         }
     }
 
     fn keep_panics(&self, epoch: u64, of: &dyn Fn(&News) -> bool) {
-        if let Some(kept) = &mut *self.lock() {
-            kept.panics.retain(|news, (put, _)| *put >= epoch || of(news));
+        if let Some(Kept { panics: Some(panics), .. }) = &mut *self.lock() {
+            panics.retain(|news, (put, _)| *put >= epoch || of(news));
         }
     }
 
@@ -272,13 +294,13 @@ impl<M: Send + 'static> Slot for Values<M> {
     }
 
     fn forget_call(&self, number: i64) {
-        let call = self.lock().as_mut().and_then(|kept| kept.calls.remove(&number));
+        let call = self.lock().as_mut().and_then(|kept| kept.calls.remove(number));
         drop(call);
     }
 
     fn fail_calls(&self, fault: &CallFault) {
         let calls = self.lock().as_mut().map(|kept| std::mem::take(&mut kept.calls));
-        calls.into_iter().flatten().for_each(|(_, call)| call.fail(fault.clone()));
+        calls.into_iter().flat_map(Few::into_values).for_each(|call| call.fail(fault.clone()));
     }
 
     fn crashed(&self, text: &Arc<str>) {
@@ -292,9 +314,15 @@ impl<M: Send + 'static> Slot for Values<M> {
         let kept = self.lock().take();
         if let Some(kept) = kept {
             let fault = why.map_or(CallFault::Over, |why| CallFault::Down(why, kept.crash));
-            kept.calls.into_values().for_each(|call| call.fail(fault.clone()));
-            kept.messages.into_values().for_each(drop_quietly);
-            kept.answers.into_values().for_each(|(_, given)| drop_quietly(given));
+            if !kept.calls.is_empty() {
+                kept.calls.into_values().for_each(|call| call.fail(fault.clone()));
+            }
+            if kept.messages.len() > 0 {
+                kept.messages.into_values().for_each(drop_quietly);
+            }
+            if !kept.answers.is_empty() {
+                kept.answers.into_values().for_each(|(_, given)| drop_quietly(given));
+            }
         }
     }
 

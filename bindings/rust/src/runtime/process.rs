@@ -2,13 +2,13 @@
 
 use super::address::Address;
 use super::aside::{Aside, Held, Told, older};
-use super::behaviour::{Behaviour, Bound, Down, Event, Exit};
+use super::behaviour::{self, Behaviour, Bound, Down, Event, Exit};
 use super::calls::{Answer, CallFault, Calls, number_of};
 use super::context::{Context, demonitor};
 use super::gone::{Gone, gone_monitor};
 use super::observing::Outline;
 use super::payloads::{Slot, quietly};
-use super::selection::Wanted;
+use super::selection::{Wanted, is_message};
 use super::supervisor::is_supervisor;
 use super::worker::{Worker, news_of};
 use super::{ANSWER, GONE, GONE_LINK, MORE, OVER};
@@ -23,6 +23,8 @@ use std::sync::atomic::Ordering::SeqCst;
 pub(crate) trait Actor: Send {
     /// It is told this, by which its handler may panic.
     fn told(&mut self, worker: &mut Worker, what: What) -> Next;
+    /// The same of a letter from this process.
+    fn letter(&mut self, worker: &mut Worker, from: Pid, body: Body) -> Next;
     /// It has exited.
     fn ended(self: Box<Self>, worker: &mut Worker, why: Reason);
     /// Whether it is a supervisor.
@@ -67,6 +69,23 @@ impl<B: Behaviour> Process<B> {
             aside: Aside::new(),
             takes_aside: false,
         }
+    }
+
+    /// Runs a handler, and says what the process does next.
+    #[inline(always)]
+    fn run(
+        &mut self,
+        worker: &mut Worker,
+        told: Option<Told<'_>>,
+        handles: impl FnOnce(&mut B, &mut Context<'_, B::Message>) -> behaviour::Next,
+    ) -> Next {
+        let Process { behaviour, me, calls, aside, gone, parent, .. } = self;
+        worker.record.handles();
+        let mut cx = Context { worker, me, calls, aside, told, gone, parent: *parent };
+        let next = handles(behaviour, &mut cx);
+        self.wanted = next.wanted();
+        self.next = next.for_crew(&self.me.hub, &self.gone);
+        if self.aside.is_empty() { self.next } else { self.next_with_aside() }
     }
 
     /// Whether the library picks out what the process takes.
@@ -142,7 +161,7 @@ impl<B: Behaviour> Process<B> {
 
     /// The process whose handler runs on the desk that was asked, if that is another desk than this one.
     fn holder(&self, worker: &Worker, number: i64) -> Option<(Pid, &'static str)> {
-        let desk = self.calls.get(&number)?.desk;
+        let desk = self.calls.get(number)?.desk;
         if desk == worker.number { None } else { worker.hub.running(usize::from(desk)) }
     }
 
@@ -158,7 +177,7 @@ impl<B: Behaviour> Process<B> {
 
     /// Ends a call, and returns whether it was open.
     fn close(&mut self, worker: &mut Worker, number: i64) -> bool {
-        let Some(open) = self.calls.remove(&number) else { return false };
+        let Some(open) = self.calls.remove(number) else { return false };
         self.aside.look_again();
         if let Some(alarm) = open.alarm {
             worker.alarms.cancel(alarm);
@@ -196,8 +215,8 @@ pub(crate) fn keep_older<M: Send + 'static>(
 /// Whether an item ends a call that is open.
 fn ends_call(calls: &Calls, item: &Item) -> bool {
     match *item {
-        Item::User(_, Body { kind: ANSWER | OVER, num, .. }) => calls.contains_key(&num),
-        Item::Down(monitor, ..) => calls.contains_key(&number_of(monitor)),
+        Item::User(_, Body { kind: ANSWER | OVER, num, .. }) => calls.contains(num),
+        Item::Down(monitor, ..) => calls.contains(number_of(monitor)),
         Item::User(..) | Item::Exit(..) | Item::Alive(..) => false,
     }
 }
@@ -227,22 +246,20 @@ impl<B: Behaviour> Actor for Process<B> {
                 }
             }
         };
-        let Process { me, calls, aside, gone, parent, .. } = self;
-        let mut cx = Context { worker, me, calls, aside, told, gone, parent: *parent };
-        let next = match event {
-            // (each counts by itself: before the two part, the event would be copied once more)
-            Some(event) => {
-                cx.worker.record.handles();
-                self.behaviour.handle(&mut cx, event)
-            }
-            None => {
-                cx.worker.record.handles();
-                self.behaviour.started(&mut cx)
-            }
+        match event {
+            Some(event) => self.run(worker, told, |behaviour, cx| behaviour.handle(cx, event)),
+            None => self.run(worker, told, Behaviour::started),
+        }
+    }
+
+    fn letter(&mut self, worker: &mut Worker, from: Pid, body: Body) -> Next {
+        let item = Item::User(from, body);
+        let is_plain = matches!(self.wanted, Wanted::All) && is_message(body.kind);
+        let Some(message) = (if is_plain { self.me.mailbox.take(body.num) } else { None }) else {
+            return self.told(worker, What::Item(item));
         };
-        self.wanted = next.wanted();
-        self.next = next.for_crew(&self.me.hub, &self.gone);
-        if self.aside.is_empty() { self.next } else { self.next_with_aside() }
+        let told = Some(Told { item: &item, age: None, is_picked: self.picks() });
+        self.run(worker, told, |behaviour, cx| behaviour.handle(cx, Event::Message(message)))
     }
 
     fn ended(self: Box<Self>, worker: &mut Worker, why: Reason) {

@@ -62,8 +62,16 @@ impl Ticket {
 }
 
 impl Drop for Ticket {
+    #[inline]
     fn drop(&mut self) {
-        let Some((hub, desk)) = self.0.take() else { return };
+        if let Some((hub, desk)) = self.0.take() {
+            Ticket::give_back(&hub, desk);
+        }
+    }
+}
+
+impl Ticket {
+    fn give_back(hub: &Arc<Hub>, desk: u8) {
         let room = &hub.places[usize::from(desk)].room;
         while let Some(next) = room.next() {
             match next.give(Some(Ticket(Some((hub.clone(), desk))))) {

@@ -52,6 +52,11 @@ pub(crate) const fn letter(kind: u32) -> u32 {
     if kind == 0 { MESSAGE } else { kind.saturating_add(FIRST_KIND) }
 }
 
+/// Whether the letter of a message has this kind.
+pub(crate) const fn is_message(kind: u32) -> bool {
+    kind == MESSAGE || kind > FIRST_KIND
+}
+
 impl Selection {
     /// It takes whatever comes.
     pub const ALL: Selection = Selection { kinds: u64::MAX, downs: true, exits: true, answers: true };

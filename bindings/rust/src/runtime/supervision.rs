@@ -301,7 +301,7 @@ impl Worker {
         if supervision.strategy != Strategy::OneForOne {
             supervision.held = Held::Behind(place, pid);
         }
-        self.answers.push((pid, Next::Stop(PANIC)));
+        self.crew.note_answer(pid, Next::Stop(PANIC));
     }
 
     /// Tells the one who has asked for a child that it was not started. It returns whether its supervisor does not want it any

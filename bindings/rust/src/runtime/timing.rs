@@ -69,6 +69,11 @@ impl Alarms {
         if self.timers.cancel(key.timer) { self.take(key.place) } else { None }
     }
 
+    /// Whether there may be one. (else the clock need not be read)
+    pub(crate) fn any(&self) -> bool {
+        self.none_before != u64::MAX
+    }
+
     /// The time of the earliest.
     pub(crate) fn next(&self) -> Option<u64> {
         self.timers.next()
@@ -96,9 +101,8 @@ impl Worker {
         self.noted(set)
     }
 
-    /// Does what was to be done by now.
-    pub(crate) fn go_off(&mut self) -> bool {
-        let now = self.hub.now();
+    /// Does what was to be done by this time.
+    pub(crate) fn go_off(&mut self, now: u64) -> bool {
         let mut some = false;
         while self.go_off_one(now) {
             some = true;

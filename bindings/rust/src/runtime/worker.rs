@@ -20,6 +20,7 @@ use std::collections::HashMap;
 use std::panic::{AssertUnwindSafe, catch_unwind};
 use std::sync::Arc;
 use std::sync::atomic::Ordering::SeqCst;
+use std::time::Instant;
 
 /// How many letters a turn handles at most, and how many jobs a step has.
 const BUDGET: u32 = 256;
@@ -119,10 +120,13 @@ pub(crate) struct Worker {
     whole: bool,
     /// Whether the desk is that of a node that has just gone on.
     resumed: bool,
-    pub(super) jobs: Vec<Job>,
-    pub(super) answers: Vec<(Pid, Next)>,
+    /// Whether a process may wait until a time. (else the crew need not be told what time it is)
+    timed: bool,
+    /// The exits of which the losses of the last step tell, in order, and the place of the next one that is asked for.
+    exits: Vec<(Pid, Reason)>,
+    next_exit: usize,
     /// What it counts.
-    pub(super) record: Record,
+    pub(crate) record: Record,
 }
 
 impl Worker {
@@ -151,8 +155,9 @@ impl Worker {
             fault: None,
             whole: true,
             resumed: false,
-            jobs: Vec::new(),
-            answers: Vec::new(),
+            timed: false,
+            exits: Vec::new(),
+            next_exit: 0,
             record: Record::default(),
         })
     }
@@ -171,6 +176,7 @@ impl Worker {
 
     /// Runs until the run is over or halts, and returns what the thread had.
     pub(crate) fn run(mut self) -> Worker {
+        let mut listens = false;
         loop {
             let busy = self.round();
             if self.has_to_meet() {
@@ -178,22 +184,35 @@ impl Worker {
                     self.place().halt(true);
                     return self;
                 }
-            } else if !busy {
+            } else if !busy && listens {
                 self.rest();
+            }
+            // (it rests behind a round that found nothing since it said that it is to be rung)
+            if listens == busy {
+                listens = !busy;
+                self.place().listen(listens);
             }
         }
     }
 
     /// Does what is to be done, and returns whether anything was.
     fn round(&mut self) -> bool {
-        let tasks = self.perform();
-        let alarms = self.go_off();
+        let tasks = self.place().is_rung() && self.perform();
+        let now = self.clock();
+        let alarms = now.is_some_and(|now| self.go_off(now));
         self.tell_order();
-        let some = self.step(MOST) || tasks || alarms;
+        let some = self.step(MOST, now) || tasks || alarms;
         let some = !self.arriving.is_empty() && self.begin_linked() || some;
         self.pass_on();
         // (a supervisor may have something to do of which nobody is told)
         self.serve_all() && self.crew.queued() > 0 || some
+    }
+
+    /// What time it is, if anything is to be done at a time.
+    #[inline]
+    fn clock(&self) -> Option<u64> {
+        let asks = self.timed || self.alarms.any() || !self.supervisions.is_empty();
+        asks.then(|| self.hub.now())
     }
 
     /// Serves the supervisors, and returns whether there is one.
@@ -234,64 +253,99 @@ impl Worker {
     }
 
     /// A step of the crew: a turn, and then the handlers of those who have something to do.
-    fn step(&mut self, most: usize) -> bool {
-        let turned = self.turn(most);
-        if turned.posted > 0 {
-            self.hub.ring_others(self.number);
+    fn step(&mut self, most: usize, now: Option<u64>) -> bool {
+        if let Some(now) = now {
+            self.crew.set_time(now);
         }
-        if turned.handled > 0 {
-            self.hub.ring_short();
+        let several = self.hub.places.len() > 1;
+        let out = if several { self.desk().letters_out() & !(1 << self.number) } else { 0 };
+        let (turned, count) = self.hand_out(BUDGET, most);
+        if several && turned.posted + turned.handled > 0 {
+            self.hub.ring_others(if turned.posted > 0 { out } else { 0 }, turned.handled > 0);
         }
-        if self.crew.refused() || turned.stopped.is_some() {
+        if self.crew.was_refused() || turned.stopped.is_some() {
             self.fault = turned.stopped.or(Some(Fault::Memory));
         }
-        let mut jobs = std::mem::take(&mut self.jobs);
-        self.whole = jobs.len() < most;
-        let some = !jobs.is_empty() || turned.posted + turned.handled > 0;
-        jobs.drain(..).for_each(|job| self.tell(job));
-        self.jobs = jobs;
+        self.whole = count < most;
+        if self.resumed {
+            self.handed(count).into_iter().for_each(|job| self.tell(job));
+        } else {
+            (0..count).for_each(|place| self.tell_in(place));
+        }
         self.answer();
-        some
+        count > 0 || turned.posted + turned.handled > 0
     }
 
-    /// Turns the desk, and has the crew say who has something to do. What was lost is taken in between, so that each
-    /// exit is told with its reason.
-    fn turn(&mut self, most: usize) -> Turned {
-        self.crew.set_time(self.hub.now());
-        let turned = self.desk().turn(BUDGET);
-        self.hand_out(most, turned)
-    }
-
-    /// Has the crew say who has something to do, after a turn.
+    /// Turns the desk, and has the crew say who has something to do. It returns how many jobs these are.
+    ///
+    /// What was lost is taken right after that: it tells the reason of an exit which the crew does not know yet.
     #[inline]
-    pub(super) fn hand_out(&mut self, most: usize, mut turned: Turned) -> Turned {
+    pub(super) fn hand_out(&mut self, budget: u32, most: usize) -> (Turned, usize) {
         let desk = self.desk.as_mut().expect("a desk, outside of a meeting");
-        let (resumed, mut left) = (std::mem::take(&mut self.resumed), Vec::new());
-        while let Some(Loss { pid, items, .. }) = self.crew.next_loss(desk).expect("the crew of this desk") {
+        let stepped = self.crew.step_over(desk, budget, most).expect("the crew of this desk");
+        self.exits.clear();
+        self.next_exit = 0;
+        while let Some(Loss { pid, reason, items }) = self.crew.next_loss(desk).expect("the crew of this desk") {
             self.record.lost(&items);
-            if resumed {
-                left.push(pid);
+            self.exits.extend(reason.map(|reason| (pid, reason)));
+        }
+        stepped
+    }
+
+    /// The job in this place of those that the crew has handed out.
+    #[inline(always)]
+    pub(super) fn job(&mut self, place: usize) -> Job {
+        let mut job = self.crew.job(place);
+        if let What::Exit(reason @ Reason::Noproc, _) = &mut job.what {
+            *reason = self.exit_of(job.pid).unwrap_or(Reason::Noproc);
+        }
+        job
+    }
+
+    /// The reason of an exit of which a loss of this step tells. (exits are told in the order of their losses, mostly)
+    #[inline(never)]
+    fn exit_of(&mut self, pid: Pid) -> Option<Reason> {
+        let count = self.exits.len();
+        let mut places = (0..count).map(|place| (self.next_exit + place) % count);
+        let found = places.find(|&place| self.exits[place].0 == pid)?;
+        self.next_exit = found + 1;
+        Some(self.exits[found].1)
+    }
+
+    /// The jobs that the crew has handed out. On the desk of a node that has just gone on those that have exited come first, in
+    /// the order of their exits. (a crew that begins again comes to its processes in another)
+    #[cold]
+    pub(super) fn handed(&mut self, count: usize) -> Vec<Job> {
+        let mut jobs: Vec<Job> = (0..count).map(|place| self.job(place)).collect();
+        if std::mem::take(&mut self.resumed) {
+            let order: HashMap<Pid, usize> = self.exits.iter().map(|&(pid, _)| pid).zip(0..).collect();
+            let first = |job: &Job| matches!(job.what, What::Exit(..)).then(|| order.get(&job.pid).copied());
+            jobs.sort_by_key(|job| first(job).flatten().unwrap_or(usize::MAX));
+        }
+        jobs
+    }
+
+    /// Tells the process of the job in this place what it is to be told.
+    #[inline(always)]
+    fn tell_in(&mut self, place: usize) {
+        // (most jobs are letters: these do not become a job first)
+        match self.crew.letter(place) {
+            Some((pid, tag, from, body)) if tag < SUPERVISOR => self.deliver(pid, tag as usize, from, body),
+            _ => {
+                let job = self.job(place);
+                self.tell(job);
             }
         }
-        let stepped = self.crew.step(desk, 0, most, &mut self.jobs).expect("the crew of this desk");
-        if resumed {
-            self.tell_first(left);
-        }
-        turned.posted += stepped.posted;
-        turned.stopped = turned.stopped.or(stepped.stopped);
-        turned
     }
 
-    /// Those that have exited are told first, in this order. (a crew that begins again comes to its processes in another)
-    #[cold]
-    fn tell_first(&mut self, left: Vec<Pid>) {
-        let order: HashMap<Pid, usize> = left.into_iter().zip(0..).collect();
-        let first = |job: &Job| matches!(job.what, What::Exit(..)).then(|| order.get(&job.pid).copied());
-        self.jobs.sort_by_key(|job| first(job).flatten().unwrap_or(usize::MAX));
+    /// Has a process handle a letter.
+    #[inline(always)]
+    fn deliver(&mut self, pid: Pid, place: usize, from: Pid, body: Body) {
+        self.work(pid, place, |record| record.begin_letter(), |actor, worker| actor.letter(worker, from, body));
     }
 
     /// Tells a process of the crew what it is to be told. A child that was not made is told nothing.
-    #[inline(always)]
+    #[inline(never)]
     pub(super) fn tell(&mut self, job: Job) {
         let Some(place) = (if job.tag < SUPERVISOR { usize::try_from(job.tag).ok() } else { self.supervised(&job) })
         else {
@@ -332,14 +386,28 @@ impl Worker {
         self.seats.iter().position(|seat| seat.as_ref().is_some_and(|seat| seat.pid == pid))
     }
 
-    /// Runs the handler of a process. (one call of it is in each step, so there it is inlined)
-    #[inline(always)]
+    /// Runs the handler of a process.
     pub(super) fn handle(&mut self, pid: Pid, place: usize, what: What) {
+        self.work(pid, place, |record| record.begin(&what), |actor, worker| actor.told(worker, what));
+    }
+
+    /// Has a process work: it runs its handler, which may panic.
+    #[inline(always)]
+    fn work(
+        &mut self,
+        pid: Pid,
+        place: usize,
+        begin: impl FnOnce(&mut Record) -> Option<Instant>,
+        works: impl FnOnce(&mut dyn Actor, &mut Worker) -> Next,
+    ) {
         let mut actor = self.seats[place].as_mut().and_then(|seat| seat.actor.take()).expect("a process of this desk");
         self.runs(Some(pid));
-        let begun = self.record.begin(&what);
-        match catch_unwind(AssertUnwindSafe(|| actor.told(self, what))) {
-            Ok(next) => self.answers.push((pid, next)),
+        let begun = begin(&mut self.record);
+        match catch_unwind(AssertUnwindSafe(|| works(&mut *actor, self))) {
+            Ok(next) => {
+                self.timed |= matches!(next, Next::WaitUntil(..));
+                self.crew.note_answer(pid, next);
+            }
             Err(what) => self.panicked(pid, place, what),
         }
         self.runs(None);
@@ -354,7 +422,7 @@ impl Worker {
     fn panicked(&mut self, pid: Pid, place: usize, what: Box<dyn Any + Send>) {
         let text = text_of(&*what).into();
         if self.crash(pid, place, text).is_err() {
-            self.answers.push((pid, Next::Stop(PANIC)));
+            self.crew.note_answer(pid, Next::Stop(PANIC));
         }
         drop_quietly(what);
         tell_dropped();
@@ -400,10 +468,7 @@ impl Worker {
 
     #[inline(always)]
     pub(super) fn answer(&mut self) {
-        let answers = std::mem::take(&mut self.answers);
-        self.crew.answer(&answers).expect("each of them was told something");
-        self.answers = answers;
-        self.answers.clear();
+        self.crew.answer_noted().expect("each of them was told something");
     }
 
     /// A process crashes: it exits at once, and those who hear of it find the text. If that is refused, there is no
@@ -587,7 +652,7 @@ impl Worker {
 
     /// Whether all threads are to meet, of which this one tells the others if it wants to.
     fn has_to_meet(&mut self) -> bool {
-        let full = self.desk().event_count() > self.hub.every;
+        let full = self.desk().events_now() > self.hub.every;
         if full || self.fault.is_some() || self.hub.is_over() {
             self.hub.meet();
         }
@@ -599,7 +664,7 @@ impl Worker {
     fn meet(&mut self) -> bool {
         // (a crew goes on over another journal once it has told all exits that it knows of)
         if !self.whole {
-            self.step(self.crew.len() + 1);
+            self.step(self.crew.len() + 1, Some(self.hub.now()));
         }
         let desk = self.desk.take().expect("a desk, outside of a meeting");
         let fault = self.fault.take();
@@ -643,6 +708,8 @@ impl Worker {
             return;
         }
         let times = [self.crew.next_time(), self.alarms.next()];
+        // (those who wait until a time have a timer of the crew, as nobody is in its queue)
+        self.timed = times[0].is_some();
         let until = times.into_iter().flatten().min();
         let seats = || self.seats.iter().flatten().filter_map(|seat| seat.actor.as_ref());
         let owed = if self.place().drains() { seats().map(|actor| actor.owed()).sum() } else { 0 };

@@ -5,6 +5,8 @@ use super::run::{Ended, Scenario, Wrong};
 use super::shorten::{Wanted, shortest};
 use std::collections::BTreeMap;
 use std::fmt;
+use std::io;
+use std::path::Path;
 use std::sync::Arc;
 
 /// What some runs came to.
@@ -67,9 +69,15 @@ pub struct Failure {
     wrong: Wrong,
     schedule: Schedule,
     history: Vec<String>,
+    panics: Vec<String>,
 }
 
 impl Failure {
+    /// One that cannot be made again.
+    fn untold(wrong: Wrong, moves: &[Move]) -> Failure {
+        Failure { wrong, schedule: Schedule(moves.to_vec()), history: Vec::new(), panics: Vec::new() }
+    }
+
     /// What is wrong.
     #[must_use]
     pub fn wrong(&self) -> &Wrong {
@@ -87,11 +95,30 @@ impl Failure {
     pub fn history(&self) -> &[String] {
         &self.history
     }
+
+    /// The panics of behaviours in the run, a line each: the process, the type of its behaviour, and the text.
+    #[must_use]
+    pub fn panics(&self) -> &[String] {
+        &self.panics
+    }
+
+    /// Writes the history to a file, which `pt_audit` judges, and of which `pt_audit --print chart` draws an SVG.
+    ///
+    /// # Errors
+    ///
+    /// Those of writing the file.
+    pub fn save(&self, file: impl AsRef<Path>) -> io::Result<()> {
+        std::fs::write(file, self.history.iter().fold(String::new(), |text, line| text + line + "\n"))
+    }
 }
 
 impl fmt::Display for Failure {
     fn fmt(&self, f: &mut fmt::Formatter<'_>) -> fmt::Result {
         writeln!(f, "{}", self.wrong)?;
+        // (that of a run which no panic may have is told above)
+        if !matches!(self.wrong, Wrong::Panicked(_)) {
+            self.panics.iter().try_for_each(|panic| writeln!(f, "a behaviour panicked: {panic}"))?;
+        }
         writeln!(f, "the shortest schedule found: {}", self.schedule)?;
         writeln!(f, "its history:")?;
         self.history.iter().try_for_each(|line| writeln!(f, "  {line}"))?;
@@ -233,7 +260,7 @@ impl Found {
 pub(crate) fn failure(scenario: &dyn Scenario, wrong: Wrong, moves: &[Move]) -> Failure {
     let wanted = match &wrong {
         Wrong::Differs(_) | Wrong::NoMove(_) => {
-            return Failure { wrong, schedule: Schedule(moves.to_vec()), history: Vec::new() };
+            return Failure::untold(wrong, moves);
         }
         Wrong::Outcome(text) => Wanted::Outcome(text.clone()),
         wrong => Wanted::Wrong(std::mem::discriminant(wrong)),
@@ -241,9 +268,9 @@ pub(crate) fn failure(scenario: &dyn Scenario, wrong: Wrong, moves: &[Move]) -> 
     match shortest(scenario, &wanted, moves) {
         Some(ended) => {
             let schedule = ended.schedule();
-            Failure { wrong: ended.wrong.unwrap_or(wrong), schedule, history: ended.history }
+            Failure { wrong: ended.wrong.unwrap_or(wrong), schedule, history: ended.history, panics: ended.panics }
         }
         // (a second run ends in another way)
-        None => Failure { wrong: Wrong::Differs(1), schedule: Schedule(moves.to_vec()), history: Vec::new() },
+        None => Failure::untold(Wrong::Differs(1), moves),
     }
 }

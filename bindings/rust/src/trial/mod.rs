@@ -55,7 +55,8 @@
 //!
 //! - **Whose move comes next.** A thread goes round a loop: the tasks of its inbox, alarms, the post, letters, handlers. Where an
 //!   idle thread may be in several places of it, each of its next moves is a choice: `0` is the first of them, `0'` the second.
-//!   What the scenario sends from outside comes at any time, in order for each desk.
+//!   Letters of several desks come in any order, and each of them is a choice. What the scenario sends from outside comes at any
+//!   time, in order for each desk.
 //! - **Time** stands still while something is to be done, and then goes on until the next timer is due. With
 //!   [`Trial::time_goes_on`] it also goes on before that, so many times at most: `t`.
 //! - **Kills**, with [`Trial::kills`]: a process that the scenario names is killed at any step: `k<0.1.1>`.
@@ -63,8 +64,6 @@
 //!
 //! # What it does not vary
 //!
-//! - A desk posts its letters to all desks by one move, and a desk with letters in several lanes takes them in the table's order.
-//!   So where a process sends to two others at once, and the second tells the first, only some of the orders are tried.
 //! - The scenario spawns all that it spawns before the first move.
 //! - Threads share nothing here but what the runtime shares. A lock or an atomic of the program's own is touched within a
 //!   handler, as one move.
@@ -74,6 +73,7 @@ mod chance;
 mod explore;
 mod found;
 mod moves;
+mod races;
 mod run;
 mod settings;
 mod shorten;
@@ -134,6 +134,8 @@ pub struct Replay {
     pub schedule: Schedule,
     /// What happened, a line an event.
     pub history: Vec<String>,
+    /// The panics of behaviours, a line each: the process, the type of its behaviour, and the text.
+    pub panics: Vec<String>,
 }
 
 impl<S: 'static> Trial<S> {
@@ -208,23 +210,33 @@ impl<S: 'static> Trial<S> {
 
     /// A move of a desk is a whole round of its thread's loop: all tasks and alarms that are there, its post, all letters that
     /// have come, and a handler for each process that has something to do. So there are far fewer schedules. Left out are those
-    /// in which another desk does something between the parts of a round.
+    /// in which another desk does something between the parts of a round, or in which letters do not come in the order of desks.
     #[must_use]
     pub fn coarse(self) -> Trial<S> {
         self.with(|it| it.is_coarse = true)
     }
 
-    /// Leaves out schedules that differ from one that is run only by the order of moves that do not meet (sleep sets). So each
-    /// outcome is found by fewer moves, and the numbers of runs are those that were made.
+    /// Leaves out schedules that differ from one that is run only by the order of moves that do not meet. So each outcome is
+    /// found by fewer runs, and the numbers of runs are those that were made.
+    ///
+    /// A move of another desk is tried in the place of one only if a move behind it meets that one (source sets). A move that was
+    /// tried sleeps until one is made that it meets (sleep sets).
     ///
     /// It is right if behaviours share nothing but what the runtime shares for them: messages, calls, names, groups, exits.
     /// Two moves meet if they are of one desk; if one of them sends to a process of the other's desk, looks whether it lives, or
     /// puts something there; if both put something into mailboxes or the inbox of the same desk; or if both touch names or
-    /// groups. A scenario whose behaviours share a lock or an atomic does without this. [`Trial::always`] looks between all
-    /// moves: with it nothing is left out.
+    /// groups. Time that goes on and a kill meet all. If behaviours share a lock or an atomic, the scenario says so by
+    /// [`shares`](Trial::shares), and nothing is left out.
+    /// [`Trial::always`] and [`Trial::may_be_cut_off`] look between moves: with one of them nothing is left out.
     #[must_use]
     pub fn reduced(self) -> Trial<S> {
         self.with(|it| it.reduced = true)
+    }
+
+    /// Behaviours share something of their own, such as a lock or an atomic: [`reduced`](Trial::reduced) leaves nothing out.
+    #[must_use]
+    pub fn shares(self) -> Trial<S> {
+        self.with(|it| it.shares = true)
     }
 
     /// No behaviour may panic.
@@ -243,6 +255,12 @@ impl<S: 'static> Trial<S> {
     #[must_use]
     pub fn none_kept(self) -> Trial<S> {
         self.with(|it| it.none_kept = true)
+    }
+
+    /// No message and no answer is [lost](World::lost).
+    #[must_use]
+    pub fn none_lost(self) -> Trial<S> {
+        self.with(|it| it.none_lost = true)
     }
 
     /// What the outcome of a run is, at rest. Outcomes are counted by their texts.
@@ -275,14 +293,17 @@ impl<S: 'static> Trial<S> {
     /// schedule is compared with the runs before that began so.
     pub fn every(&self) -> Found {
         self.found(|scenario| {
-            let reduced = self.settings.reduced && !scenario.looks_always();
-            explore::every(scenario, Bounds { reduced, preemptions: None })
+            let Settings { reduced, shares, all_rest, .. } = self.settings;
+            let reduced = reduced && !shares && all_rest && !scenario.looks_always();
+            explore::every(scenario, Bounds { reduced, preemptions: None, split: false })
         })
     }
 
     /// The same, but only the schedules in which at most so many desks lose their turn while they could go on.
     pub fn bounded(&self, preemptions: u32) -> Found {
-        self.found(|scenario| explore::every(scenario, Bounds { reduced: false, preemptions: Some(preemptions) }))
+        self.found(|scenario| {
+            explore::every(scenario, Bounds { reduced: false, preemptions: Some(preemptions), split: false })
+        })
     }
 
     /// So many runs, each move of which is drawn by chance from those that may come. The same seed gives the same runs.
@@ -309,11 +330,12 @@ impl<S: 'static> Trial<S> {
     #[must_use]
     pub fn replay(&self, schedule: &str) -> Replay {
         let moves: Schedule = schedule.parse().unwrap_or_else(|fault: NotSchedule| panic!("{fault}"));
-        let Ended { outcome, mut wrong, moves, history, prints, said, was_cut } = chance::follow(self, &moves.0, true);
+        let ended = chance::follow(self, &moves.0, true);
+        let Ended { outcome, mut wrong, moves, history, panics, prints, said, was_cut } = ended;
         if !matches!(wrong, Some(Wrong::NoMove(_))) {
             let first = Ended { moves: moves.clone(), prints, said, was_cut, ..Ended::default() };
             wrong = chance::compare(self, &first).or(wrong);
         }
-        Replay { outcome, wrong, schedule: Schedule(moves), history }
+        Replay { outcome, wrong, schedule: Schedule(moves), history, panics }
     }
 }

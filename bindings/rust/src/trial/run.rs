@@ -69,6 +69,8 @@ pub enum Wrong {
     Waits(String),
     /// So many tokens were neither handled nor dropped, though all that the run had is dropped.
     Kept(u64),
+    /// So many messages or answers were lost, and none was to be.
+    Lost(u64),
     /// A desk had no memory or no stamp.
     Table,
     /// A second run of the same schedule differs from this move on: a behaviour reads the clock, draws by chance, iterates over
@@ -90,6 +92,7 @@ impl fmt::Display for Wrong {
             Wrong::NoRest(steps) => write!(f, "the run does not come to rest in {steps} moves"),
             Wrong::Waits(who) => write!(f, "all processes are to end, and there wait for ever: {who}"),
             Wrong::Kept(count) => write!(f, "{count} tokens were neither handled nor dropped"),
+            Wrong::Lost(count) => write!(f, "{count} messages were lost: their receivers had exited"),
             Wrong::Table => f.write_str("a desk had no memory or no stamp"),
             Wrong::Differs(step) => write!(f, "a second run of the same schedule differs from move {step} on"),
             Wrong::NoMove(text) => f.write_str(text),
@@ -109,6 +112,8 @@ pub(crate) struct Ended {
     pub(crate) said: usize,
     pub(crate) prints: Vec<u64>,
     pub(crate) history: Vec<String>,
+    /// The panics of behaviours, as lines, beside the history.
+    pub(crate) panics: Vec<String>,
     pub(crate) was_cut: bool,
 }
 
@@ -190,6 +195,7 @@ impl<S: 'static> Scenario for Trial<S> {
                 world.begin();
                 self.go(&mut world, &state, chooser, &mut ended);
                 if with_history {
+                    ended.panics = world.panics().iter().map(ToString::to_string).collect();
                     ended.history = world.history();
                 }
                 drop(world);
@@ -212,7 +218,7 @@ impl<S: 'static> Trial<S> {
         loop {
             world.ready(&mut ready);
             if ready.is_empty() {
-                if world.advance() {
+                if world.rest() {
                     continue;
                 }
                 break;
@@ -241,7 +247,7 @@ impl<S: 'static> Trial<S> {
     fn wrong_now(&self, world: &World, state: &S) -> Option<Wrong> {
         if self.settings.no_panics {
             if let Some(panic) = world.panic() {
-                return Some(Wrong::Panicked(format!("{}, a {}: {}", panic.pid, panic.behaviour, panic.text)));
+                return Some(Wrong::Panicked(panic.to_string()));
             }
         }
         looked(&self.always, world, state).err().map(Wrong::Always)
@@ -272,6 +278,9 @@ impl<S: 'static> Trial<S> {
                 let names: Vec<String> = living.iter().map(|(pid, name)| format!("{pid}, a {name}")).collect();
                 return Some(Wrong::Waits(names.join("; ")));
             }
+        }
+        if self.settings.none_lost && world.lost() > 0 {
+            return Some(Wrong::Lost(world.lost()));
         }
         looked(&self.at_rest, world, state).err().map(Wrong::AtRest)
     }

@@ -17,10 +17,13 @@ pub(crate) struct Settings {
     /// Whether a move of a desk is a whole round of its loop.
     pub(crate) is_coarse: bool,
     pub(crate) reduced: bool,
+    /// Whether behaviours share something of their own, so that nothing is left out.
+    pub(crate) shares: bool,
     pub(crate) no_panics: bool,
     pub(crate) all_end: bool,
     pub(crate) all_rest: bool,
     pub(crate) none_kept: bool,
+    pub(crate) none_lost: bool,
 }
 
 impl Default for Settings {
@@ -36,10 +39,12 @@ impl Default for Settings {
             kills: 0,
             is_coarse: false,
             reduced: false,
+            shares: false,
             no_panics: false,
             all_end: false,
             all_rest: true,
             none_kept: false,
+            none_lost: false,
         }
     }
 }

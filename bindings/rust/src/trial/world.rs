@@ -7,13 +7,12 @@ use crate::runtime::hub::Hub;
 use crate::runtime::inbox::{Task, locked};
 use crate::runtime::mailbox::Reader;
 use crate::runtime::meeting::Meeting;
-use crate::runtime::paces::{ALL, Pace, Paced, Paces, tasks};
+use crate::runtime::paces::{ALL, Pace, Paces, count_tasks};
 use crate::runtime::start::{Closing, go_inside};
 use crate::runtime::worker::{Parent, Worker};
 use crate::runtime::{Address, Behaviour, Handle, Mailbox, Reply, Report};
-use crate::{Config, Desk, Fault, Happened, Item, Pid, Reason, Signal, gather, open};
+use crate::{Config, Desk, Fault, Pid, Reason, gather, open};
 use std::fmt;
-use std::hash::{DefaultHasher, Hash, Hasher};
 use std::ops::Deref;
 use std::sync::atomic::{AtomicU64, Ordering::SeqCst};
 use std::sync::{Arc, Mutex};
@@ -33,6 +32,12 @@ pub struct Panic {
     pub text: String,
 }
 
+impl fmt::Display for Panic {
+    fn fmt(&self, f: &mut fmt::Formatter<'_>) -> fmt::Result {
+        write!(f, "{}, a {}: {}", self.pid, self.behaviour, self.text)
+    }
+}
+
 /// A run of a scenario. A scenario spawns its processes here, and the closures of a [`Trial`](super::Trial) look at them.
 ///
 /// It is a [`Handle`] too: what that does works here, but for calls that wait. Those fail at once:
@@ -50,6 +55,13 @@ pub struct World {
     kills: u32,
     times: u32,
     is_coarse: bool,
+    /// The moves of each desk, and the desks that may have other ones by now, a bit for each.
+    paces: Vec<Vec<Pace>>,
+    stale: u64,
+    /// How many tasks each inbox had before a move and behind it.
+    tasks: [Vec<usize>; 2],
+    /// How often time went on since nothing else was to be done.
+    rested: u32,
 }
 
 impl fmt::Debug for World {
@@ -76,10 +88,12 @@ pub(crate) struct Step {
     pub(crate) met: u64,
     /// A number for what happened, by which two runs are compared.
     pub(crate) print: u64,
+    /// How often all desks have rested before.
+    pub(crate) rested: u32,
 }
 
 impl Step {
-    const ALL: Step = Step { own: ALL, touched: ALL, met: ALL, print: 0 };
+    const ALL: Step = Step { own: ALL, touched: ALL, met: ALL, print: 0, rested: 0 };
 
     /// Whether the order of two moves may matter.
     pub(crate) fn meets(self, other: Step) -> bool {
@@ -108,7 +122,23 @@ impl World {
         let desks: Result<Vec<_>, Fault> = desks.into_iter().map(worker).collect();
         let (handle, counts, mortal) = (Handle::of(hub.of()), Arc::default(), Vec::new());
         let Settings { kills, times, is_coarse, .. } = *settings;
-        Ok(World { desks: desks?, hub, handle, panics, counts, mortal, kills, times, is_coarse })
+        let (desks, stale) = (desks?, ALL);
+        let paces = desks.iter().map(|_| Vec::new()).collect();
+        Ok(World {
+            desks,
+            hub,
+            handle,
+            panics,
+            counts,
+            mortal,
+            kills,
+            times,
+            is_coarse,
+            paces,
+            stale,
+            tasks: Default::default(),
+            rested: 0,
+        })
     }
 
     /// A handle, for behaviours that keep one.
@@ -204,6 +234,12 @@ impl World {
         self.desk(process.pid()).is_some_and(|desk| desk.alive(process.pid()))
     }
 
+    /// How many messages and answers were lost so far: they waited for a process as it exited, or came after that.
+    #[must_use]
+    pub fn lost(&self) -> u64 {
+        self.desks.iter().map(|paces| paces.worker.record.losses()).sum()
+    }
+
     /// The panics of behaviours so far.
     #[must_use]
     pub fn panics(&self) -> Vec<Panic> {
@@ -220,6 +256,13 @@ impl World {
         self.desks[usize::from(pid.shard)].behaviour(pid)?.downcast_ref().map(look)
     }
 
+    /// The names that a process has, in the order in which they were given: none if it has exited.
+    #[must_use]
+    pub fn names(&self, pid: Pid) -> Vec<String> {
+        let place = self.hub.of().places.get(usize::from(pid.shard));
+        place.and_then(|place| place.slot(pid)).map_or_else(Vec::new, |slot| slot.names())
+    }
+
     /// The desk of a process, which says its links, its monitors and what waits in its mailbox.
     #[must_use]
     pub fn desk(&self, pid: Pid) -> Option<&Desk> {
@@ -234,14 +277,17 @@ impl World {
     /// The moves of desks that may come next, and with them what else may be chosen.
     pub(crate) fn ready(&mut self, ready: &mut Vec<(Move, Option<Pace>)>) {
         ready.clear();
-        for (desk, paces) in (0..).zip(&mut self.desks) {
-            let mut all = paces.ready();
-            if self.is_coarse {
-                all.dedup_by_key(|pace| *pace != Pace::Outside);
+        for (desk, (paces, all)) in (0..).zip(self.desks.iter_mut().zip(&mut self.paces)) {
+            if self.stale >> desk & 1 == 1 {
+                paces.ready(all);
+                if self.is_coarse {
+                    all.dedup_by_key(|pace| *pace != Pace::Outside);
+                }
             }
-            let all = (0..).zip(all);
-            ready.extend(all.map(|(place, pace)| (Move::Desk(desk, place), Some(pace))));
+            let all = (0..).zip(all.iter());
+            ready.extend(all.map(|(place, &pace)| (Move::Desk(desk, place), Some(pace))));
         }
+        self.stale = 0;
         if ready.is_empty() {
             return;
         }
@@ -261,13 +307,24 @@ impl World {
     }
 
     /// Lets time go on until the next timer is due. It returns `false` if there is none.
-    pub(crate) fn advance(&mut self) -> bool {
+    fn advance(&mut self) -> bool {
         let Some(at) = self.next_time() else { return false };
         self.hub.of().trial.as_ref().expect("the time of a trial").store(at, SeqCst);
+        self.stale = ALL;
         true
     }
 
-    pub(crate) fn take(&mut self, (it, pace): (Move, Option<Pace>)) -> Step {
+    /// Nothing is to be done now: time goes on until something is. It returns `false` if nothing ever is.
+    pub(crate) fn rest(&mut self) -> bool {
+        self.rested += 1;
+        self.advance()
+    }
+
+    pub(crate) fn take(&mut self, next: (Move, Option<Pace>)) -> Step {
+        Step { rested: self.rested, ..self.taken(next) }
+    }
+
+    fn taken(&mut self, (it, pace): (Move, Option<Pace>)) -> Step {
         let hub = self.hub.of().clone();
         match (it, pace) {
             (Move::Desk(desk, _), Some(pace)) => self.pace(&hub, usize::from(desk), pace),
@@ -275,6 +332,7 @@ impl World {
                 self.kills -= 1;
                 let work = move |worker: &mut Worker| worker.signal(pid, Reason::Kill);
                 hub.place(pid).post(Task::Do(Box::new(work)), crate::runtime::hub::Origin::Run);
+                self.stale = ALL;
                 Step::ALL
             }
             _ => {
@@ -286,52 +344,63 @@ impl World {
     }
 
     fn pace(&mut self, hub: &Arc<Hub>, desk: usize, pace: Pace) -> Step {
-        let (before, order) = (tasks(hub), hub.order());
-        let from = self.desks[desk].worker.desk().event_count();
+        let order = hub.order();
+        let [mut before, mut after] = std::mem::take(&mut self.tasks);
+        count_tasks(hub, &mut before);
         go_inside(Some(hub));
+        let rounds = self.desks[desk].rounds;
         let mut step = self.take_pace(desk, pace);
         if self.is_coarse && pace != Pace::Outside {
-            step = self.rest_of_round(desk, step);
+            step = self.rest_of_round(desk, rounds, step);
         }
         go_inside(None);
-        let more = tasks(hub).into_iter().zip(before).zip(0..).filter(|((now, before), _)| now > before);
+        count_tasks(hub, &mut after);
+        let more = after.iter().zip(&before).zip(0..).filter(|((now, before), _)| now > before);
         step.touched |= more.fold(0, |more, (_, desk)| more | 1 << desk);
+        self.tasks = [before, after];
         if hub.order() != order {
             step.touched = ALL;
         }
-        Step { print: self.print(desk, from), ..step }
-    }
-
-    fn take_pace(&mut self, desk: usize, pace: Pace) -> Step {
-        let Paced { mut touched, met, made_room, posted } = self.desks[desk].take(pace);
-        for paces in &mut self.desks {
-            if (made_room && paces.is_short) || (posted && paces.is_deaf) {
-                touched = ALL;
-                (paces.is_short, paces.is_deaf) = (paces.is_short && !made_room, paces.is_deaf && !posted);
-            }
-        }
-        Step { own: 1 << desk, touched, met, print: 0 }
-    }
-
-    /// Goes on until the desk has come round.
-    fn rest_of_round(&mut self, desk: usize, mut step: Step) -> Step {
-        let rounds = self.desks[desk].rounds;
-        while self.desks[desk].rounds == rounds {
-            let next = self.desks[desk].ready().into_iter().find(|&pace| pace != Pace::Outside);
-            let Some(next) = next else { break };
-            let more = self.take_pace(desk, next);
-            step = Step { touched: step.touched | more.touched, met: step.met | more.met, ..step };
-        }
+        self.stale |= step.own | step.touched | step.met;
         step
     }
 
-    /// A number for the events of a desk from this one on.
-    fn print(&mut self, desk: usize, from: usize) -> u64 {
-        let mut hasher = DefaultHasher::new();
-        for event in self.desks[desk].worker.desk().events(from) {
-            (event.stamp, nameless(event.happened)).hash(&mut hasher);
+    fn take_pace(&mut self, desk: usize, pace: Pace) -> Step {
+        let (empty, mut met) = (self.before_pace(desk, pace), 0);
+        let took = self.desks[desk].take(pace);
+        let mut touched = took.touched;
+        for (to, paces) in self.desks.iter_mut().enumerate() {
+            if took.made_room && paces.is_short {
+                (touched, paces.is_short) = (ALL, false);
+            }
+            // (a thread that has moved on has posted everywhere)
+            met |= (paces.fresh >> desk & 1) << to;
+            paces.fresh = paces.fresh & !(1 << desk) | (empty >> to & 1) << desk;
         }
-        hasher.finish()
+        Step { own: 1 << desk, touched, met: met | took.met, print: took.print, rested: 0 }
+    }
+
+    /// The desks to which a pace posts by and by, and in whose lanes from there is no letter yet.
+    fn before_pace(&mut self, desk: usize, pace: Pace) -> u64 {
+        let out = if pace == Pace::Post { self.desks[desk].worker.desk().letters_out() & !(1 << desk) } else { 0 };
+        if out.count_ones() < 2 {
+            return 0;
+        }
+        let is_empty = |(to, paces): &mut (usize, &mut Paces)| out >> *to & 1 == 1 && paces.lanes() >> desk & 1 == 0;
+        self.desks.iter_mut().enumerate().filter_map(|mut it| is_empty(&mut it).then_some(1 << it.0)).sum()
+    }
+
+    /// Goes on until the desk has come round, if it has done so many rounds.
+    fn rest_of_round(&mut self, desk: usize, rounds: u64, mut step: Step) -> Step {
+        let mut all = Vec::new();
+        while self.desks[desk].rounds == rounds {
+            self.desks[desk].ready(&mut all);
+            let Some(&next) = all.iter().find(|pace| **pace != Pace::Outside) else { break };
+            let more = self.take_pace(desk, next);
+            let print = step.print.rotate_left(1) ^ more.print;
+            step = Step { touched: step.touched | more.touched, met: step.met | more.met, print, ..step };
+        }
+        step
     }
 
     /// Whether a desk had no memory or no stamp.
@@ -348,16 +417,4 @@ impl World {
             Err(fault) => vec![format!("there is no history: {fault}")],
         }
     }
-}
-
-/// What happened, without the numbers that calls have in all of the program.
-fn nameless(mut happened: Happened) -> Happened {
-    match &mut happened {
-        Happened::Said(.., Signal::Message(body)) | Happened::Came(.., Signal::Message(body)) if body.num < 0 => {
-            body.num = -1;
-        }
-        Happened::Took(.., Item::User(_, body)) if body.num < 0 => body.num = -1,
-        _ => {}
-    }
-    happened
 }

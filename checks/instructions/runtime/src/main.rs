@@ -1,15 +1,22 @@
-//! runtime_counts WORKLOAD TIMES: does a workload of `pundewo::runtime` so many times on one desk, and prints nothing.
-//! `checks/instructions/count.py` counts the instructions.
+//! runtime_counts WORKLOAD TIMES [DESKS [EVERY]]: does a workload of `pundewo::runtime` so many times on one desk, or on so
+//! many, and prints nothing. The node goes on once a journal has more than EVERY events. `checks/instructions/count.py` counts
+//! the instructions, and `bench/beside.py` measures the time.
+//!
+//! `message`, `call` and `spawn` are of two processes. `own` and `all` are messages between 64 processes on each desk: `own` in
+//! pairs of one desk, `all` each to one of the next desk.
 
 use pundewo::Fault;
-use pundewo::runtime::{Address, Behaviour, Call, Context, Event, Next, Reply, Runtime};
+use pundewo::runtime::{Address, Behaviour, Call, Context, Event, Next, Reply, Runtime, SpawnFault};
 use std::error::Error;
 use std::time::Duration;
+
+/// How many processes `own` and `all` have on each desk.
+const MANY: u64 = 64;
 
 /// How long a call may take: longer than a run under valgrind.
 const LIMIT: Duration = Duration::from_secs(600);
 
-/// One of two processes that send each other a message.
+/// One of two processes that send each other a message. One of them knows the other from the first, and tells it.
 struct Player {
     other: Option<Address<Ball>>,
 }
@@ -23,6 +30,14 @@ enum Ball {
 
 impl Behaviour for Player {
     type Message = Ball;
+
+    fn started(&mut self, cx: &mut Context<'_, Ball>) -> Next {
+        if let Some(other) = &self.other {
+            let me = cx.me().clone();
+            cx.send(other, Ball::Of(me));
+        }
+        Next::Wait
+    }
 
     fn handle(&mut self, cx: &mut Context<'_, Ball>, event: Event<Ball>) -> Next {
         match event {
@@ -146,17 +161,36 @@ impl Behaviour for Parent {
     }
 }
 
+/// Pairs of processes that send each other a message, so many in all. The second of each pair is so many desks further on.
+fn pairs(runtime: &Runtime, desks: u8, further: u8, times: u64) -> Result<(), SpawnFault> {
+    let count = u64::from(desks) * MANY / 2;
+    for place in 0..count {
+        let desk = (place % u64::from(desks)) as u8;
+        let other = runtime.spawn_on((desk + further) % desks, Player { other: None })?;
+        let one = runtime.spawn_on(desk, Player { other: Some(other) })?;
+        one.send(Ball::Left(times / count));
+    }
+    Ok(())
+}
+
 fn main() -> Result<(), Box<dyn Error + Send + Sync>> {
     let words: Vec<String> = std::env::args().collect();
-    let [_, workload, times] = &words[..] else { return Err("wanted: runtime_counts WORKLOAD TIMES".into()) };
+    let [_, workload, times, rest @ ..] = &words[..] else {
+        return Err("wanted: runtime_counts WORKLOAD TIMES [DESKS [EVERY]]".into());
+    };
     let times: u64 = times.parse()?;
-    let runtime = Runtime::builder().desks(1).start()?;
+    let desks: u8 = rest.first().map_or(Ok(1), |desks| desks.parse())?;
+    let builder = Runtime::builder().desks(desks.into());
+    let runtime = match rest.get(1) {
+        Some(every) => builder.going_on_every(every.parse()?).start()?,
+        None => builder.start()?,
+    };
     match workload.as_str() {
+        "own" => pairs(&runtime, desks, 0, times)?,
+        "all" => pairs(&runtime, desks, 1, times)?,
         "message" => {
-            let (one, other) = (runtime.spawn(Player { other: None })?, runtime.spawn(Player { other: None })?);
-            other.send(Ball::Of(one.clone()));
-            one.send(Ball::Of(other.clone()));
-            one.send(Ball::Left(times));
+            let other = runtime.spawn(Player { other: None })?;
+            runtime.spawn(Player { other: Some(other) })?.send(Ball::Left(times));
         }
         "call" => {
             let server = runtime.spawn(Server)?;

@@ -9,7 +9,7 @@ use Rattle.pt_options.proofs.command.Goals as goal
 pub returns : goal.returns
 returns c =
     let modes_are : map (λ s. s.now) c.as_slice.result.now ≡ codes "single" ∷ codes "many" ∷ [] = ap (map (λ s. s.now)) c.as_slice.ensures in
-    let shows_are : map (λ s. s.now) c.as_slice-3.result.now ≡ codes "summary" ∷ codes "history" ∷ codes "chart" ∷ codes "mermaid" ∷ codes "json" ∷ [] = ap (map (λ s. s.now)) c.as_slice-3.ensures in
+    let shows_are : map (λ s. s.now) c.as_slice-3.result.now ≡ codes "summary" ∷ codes "history" ∷ codes "chart" ∷ codes "mermaid" ∷ codes "json" ∷ codes "steps" ∷ codes "page" ∷ [] = ap (map (λ s. s.now)) c.as_slice-3.ensures in
     let untils_are : map (λ s. s.now) c.as_slice-2.result.now ≡ codes "turns" ∷ codes "quiet" ∷ [] = ap (map (λ s. s.now)) c.as_slice-2.ensures in
     let one = c.in_ok-arg.ensures.shape c.file.ensures.1 ∙ ap₂ with_rule (ap app_of_fields c.version.ensures ∙ ap with_version (ap app_of_fields c.about.ensures ∙ c.new.ensures.app)) c.file.ensures.0 in
     let two = c.in_ok-arg-2.ensures.shape c.choice.ensures.1 ∙ ap₂ with_rule one c.choice.ensures.0 in

@@ -3,6 +3,7 @@
 use super::super::calls::CallFault;
 use super::super::hub::{Hub, Origin};
 use super::super::inbox::Task;
+use super::super::paces::{is_trial, no_wait};
 use super::super::run::Handle;
 use super::super::selection::Wanted;
 use super::super::target::Target;
@@ -69,6 +70,9 @@ impl Handle {
     /// It is for threads outside. In a handler it waits for its own desk until the time is over.
     #[must_use]
     pub fn look(&self, look: &Look) -> View {
+        if is_trial() {
+            no_wait("Handle::look", "World::living, World::behaviour or World::desk");
+        }
         let (begun, hub) = (Instant::now(), self.hub());
         let is_over = self.is_over();
         // (a run that has halted keeps what it is asked until it goes on)
@@ -107,6 +111,9 @@ impl Handle {
     /// [`CallFault::Timeout`], if its desk does not answer in time; [`CallFault::Dropped`], if the behaviour panics as it is
     /// asked, which does not end its process; [`CallFault::Over`].
     pub fn inspect(&self, process: impl Into<Target>, limit: Duration) -> Result<String, CallFault> {
+        if is_trial() {
+            no_wait("Handle::inspect", "World::behaviour");
+        }
         let hub = self.hub();
         let pid = process.into().pid_in(hub).map_err(|_| CallFault::OtherRun)?;
         let gone = CallFault::Down(Reason::Noproc, None);

@@ -1,6 +1,7 @@
 //! The page of a run, over HTTP. It only reads.
 
 use super::super::calls::CallFault;
+use super::super::paces::{is_trial, no_wait};
 use super::super::run::Handle;
 use super::request::{self, Request, Response};
 use super::view::{Look, Place};
@@ -84,6 +85,9 @@ impl Handle {
     ///
     /// As [`observe`](Handle::observe).
     pub fn observe_at(&self, address: impl ToSocketAddrs) -> io::Result<Observer> {
+        if is_trial() {
+            no_wait("Handle::observe", "World::living, or Replay::history");
+        }
         let listener = TcpListener::bind(address)?;
         let address = listener.local_addr()?;
         let served = Arc::new(Served {

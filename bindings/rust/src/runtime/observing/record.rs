@@ -33,6 +33,13 @@ impl Record {
         self.times.then(Instant::now)
     }
 
+    /// The same of a letter.
+    #[inline]
+    pub(crate) fn begin_letter(&mut self) -> Option<Instant> {
+        self.messages += 1;
+        self.times.then(Instant::now)
+    }
+
     /// The process that was told something then has done with it.
     #[inline]
     pub(crate) fn end(&mut self, begun: Option<Instant>, pid: Pid, behaviour: impl FnOnce() -> &'static str) {
@@ -64,6 +71,11 @@ impl Record {
     /// These items are lost.
     pub(crate) fn lost(&mut self, items: &[Item]) {
         self.losses += items.iter().filter(|item| is_message(item)).count() as u64;
+    }
+
+    /// How many messages and answers were lost so far.
+    pub(crate) fn losses(&self) -> u64 {
+        self.losses
     }
 
     /// A supervisor has started a child again by itself.

@@ -2,6 +2,7 @@
 
 use super::super::hub::Origin;
 use super::super::inbox::{Task, locked};
+use super::super::paces::{is_trial, no_wait};
 use super::super::run::Handle;
 use super::super::target::Target;
 use super::super::worker::Worker;
@@ -216,6 +217,9 @@ impl Handle {
     }
 
     fn tap_of(&self, of: Option<Pid>, most: usize) -> Tap {
+        if is_trial() {
+            no_wait("a Tap", "Replay::history");
+        }
         let hub = self.hub();
         let passed = vec![None; hub.places.len()];
         let state = State { waiting: VecDeque::new(), left_out: 0, passed, is_ended: false, is_dropped: false };

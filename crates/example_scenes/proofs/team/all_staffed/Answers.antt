@@ -1,4 +1,4 @@
--- `all_staffed`: its clauses `upholds` and `from`, and its loop over `place`.
+-- `all_staffed`: its clauses `upholds`, `here` and `from`, and its loop over `place`.
 use Rattle.std.proofs.Common.{◌≡◌, ◌<◌, ◌++◌, ◌∷◌, [], List, length, set, sym, ap, subst, ◌∙◌, length-append, arith}
 use Rattle.std.proofs.lemmas.List.{length-set}
 use Rattle.pt_crew.specs.declared.crew.Crew.{Crew}
@@ -7,7 +7,8 @@ use Rattle.pt_crew.specs.Running.{UpholdsOn}
 use Rattle.pt_supervisor.specs.Keeping.{Keeps}
 use Rattle.example_scenes.specs.declared.team.Teammate.{Teammate}
 use Rattle.example_scenes.specs.Team.{boss_of}
-use Rattle.example_scenes.proofs.Staffing.{one_keeps}
+use Rattle.pt_pauses.specs.Here.{CrewHere, CrewsHere}
+use Rattle.example_scenes.proofs.Staffing.{more_here, one_keeps}
 use Rattle.example_scenes.proofs.team.all_staffed.Goals as goal
 
 pub loop-place-preserved : goal.loop-place-preserved
@@ -28,6 +29,8 @@ loop-place-preserved c =
       same = length-set desks place desk ∙ inv.same;
       first = subst (λ (cs : List (Crew Teammate)). FirstUphold (Keeps [] boss_of) cs (set desks place desk)) (sym more)
           (subst (λ n. FirstUphold (Keeps [] boss_of) (crews ++ crew ∷ []) (set desks n desk)) inv.count grown);
+      here = subst (CrewsHere boss_of) (sym more)
+          (more_here boss_of crews crew inv.here (subst (CrewHere boss_of) (sym c.new-work.ensures) c.in_ok-crew.ensures.here));
       from = λ f. one_keeps desks place c.index_mut.result.now desk within c.index_mut.ensures.value c.staffed.ensures.goes_on (inv.from f);
     }
 
@@ -36,6 +39,9 @@ returns-clause-upholds c =
     let inv = c.loop-place.invariant in
     let count : length c.loop-place.crews.items ≡ length c.loop-place.desks.items = omega (arith, inv.count, inv.same, c.loop-place-test.false, c.loop-place.auto.place-end, c.len-place-end.ensures) in
     record { count = count; each = λ d crew x l. inv.first d crew x (omega (arith, l, count)) }
+
+pub returns-clause-here : goal.returns-clause-here
+returns-clause-here c = c.loop-place.invariant.here
 
 pub returns-in_err-crew-clause-from : goal.returns-in_err-crew-clause-from
 returns-in_err-crew-clause-from c =

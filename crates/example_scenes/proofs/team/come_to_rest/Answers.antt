@@ -12,8 +12,11 @@ none_of (Some x) h = absurd (cc)
 
 pub returns-clause-holds : goal.returns-clause-holds
 returns-clause-holds c =
-    λ past a. c.paused_children_live.ensures.rests past 256 c.run_single.new.self c.turn_until_still.new.self c.run_single.new.works.items c.turn_until_still.result c.turn_until_still.ensures.rounds
-    (c.paused_children_live.ensures.rounds past 8 256 c.args.node.now c.run_single.new.self c.args.crews.now.items c.run_single.new.works.items c.run_single.result c.run_single.ensures a)
+    λ past a. record {
+      hold = c.paused_children_live.ensures.rests past 256 c.run_single.new.self c.turn_until_still.new.self c.run_single.new.works.items c.turn_until_still.result c.turn_until_still.ensures.rounds
+          (c.paused_children_live.ensures.rounds past 8 256 c.args.node.now c.run_single.new.self c.args.crews.now.items c.run_single.new.works.items c.run_single.result c.run_single.ensures a.hold);
+      here = (c.children_here_live.ensures.runs (λ time b d me item next now e births h. (h.1, h.2))).rounds past 8 256 c.args.node.now c.run_single.new.self c.args.crews.now.items c.run_single.new.works.items c.run_single.result c.run_single.ensures a.hold.uphold a.here;
+    }
 
 pub returns-clause-still : goal.returns-clause-still
 returns-clause-still c =

@@ -1,9 +1,10 @@
--- `list_sayings`: its loop over `place`.
+-- `list_sayings`: its loop over `letter`.
 use Rattle.std.proofs.Common.{rules, arith}
-use Rattle.pt_chart.proofs.Numbering.{one_more}
-use Rattle.pt_chart.specs.Drawing.{sayings}
+use Rattle.pt_chart.specs.declared.part.Part.TheVariants.{Saying}
+use Rattle.pt_chart.proofs.Rows.{no_letter, one_more_given}
 use Rattle.pt_chart.proofs.drawing.list_sayings.Goals as goal
 
-pub loop-place-preserved : goal.loop-place-preserved
-loop-place-preserved c =
-    one_more (sayings c.args.rows.now) c.args.parts.now.items c.loop-place.parts.items c.list_sayings_of.new.parts.items c.args.columns.now c.loop-place.place c.index-columns-place.result (omega arith) (search rules) c.loop-place.invariant c.in_ok-list_sayings_of.ensures
+pub loop-letter-preserved : goal.loop-letter-preserved
+loop-letter-preserved c =
+    one_more_given Saying c.args.parts.now.items c.loop-letter.parts.items c.push.new.self.items c.args.letters.now c.loop-letter.letter-index no_letter
+    (omega arith) c.loop-letter.invariant (search rules)

@@ -6,4 +6,4 @@ use Rattle.pt_chart.proofs.elements.write_curve.Goals as goal
 
 pub returns : goal.returns
 unfolding curve_text
-returns c = reads_as _ _ _ _ (curve_text c.args.stroke c.args.from c.args.bent c.args.to) c.write.ensures.bytes (simp append_assoc)
+returns c = reads_as _ _ _ _ (curve_text c.args.bent c.args.to) c.write.ensures.bytes (simp append_assoc)

@@ -6,4 +6,4 @@ use Rattle.pt_chart.proofs.elements.write_name.Goals as goal
 
 pub returns : goal.returns
 unfolding name_text
-returns c = reads_as _ _ _ _ (name_text c.args.at c.args.fit.now c.args.name.now) c.write.ensures.bytes (simp append_assoc)
+returns c = reads_as _ _ _ _ (name_text c.args.at c.args.name.now) c.write.ensures.bytes (simp append_assoc)

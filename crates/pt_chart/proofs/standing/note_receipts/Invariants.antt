@@ -5,4 +5,4 @@ use Rattle.pt_chart.specs.Standing.{Notes}
 use Rattle.pt_chart.proofs.standing.note_receipts.Given as goal
 
 abbrev pub invariant-loop-column : goal.invariant-loop-column
-invariant-loop-column l = Notes (follows_sending (take l.column-index l.columns)) l.fn.follows l.follows
+invariant-loop-column l = Notes (follows_sending l.events (take l.column-index l.columns)) l.fn.follows l.follows

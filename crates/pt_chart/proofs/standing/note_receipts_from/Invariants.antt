@@ -6,4 +6,4 @@ use Rattle.pt_chart.specs.Standing.{Notes}
 use Rattle.pt_chart.proofs.standing.note_receipts_from.Given as goal
 
 abbrev pub invariant-loop-arrow : goal.invariant-loop-arrow
-invariant-loop-arrow l = Notes (λ i. list_any (comes_next i) (take l.arrow-index l.column.arrows.items)) l.fn.follows l.follows
+invariant-loop-arrow l = Notes (λ i. list_any (comes_next l.events i) (take l.arrow-index l.column.arrows.items)) l.fn.follows l.follows

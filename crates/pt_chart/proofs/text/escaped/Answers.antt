@@ -5,4 +5,4 @@ use Rattle.pt_chart.proofs.Writing.{written_next}
 use Rattle.pt_chart.proofs.text.escaped.Goals as goal
 
 pub loop-byte-preserved : goal.loop-byte-preserved
-loop-byte-preserved c = written_next escape_one c.as_bytes-bytes.result.now c.loop-byte.byte-index 0 [] _ _ c.loop-byte-test.true c.loop-byte.invariant c.in_ok-push_escaped.ensures
+loop-byte-preserved c = written_next escape_one c.args.bytes.now c.loop-byte.byte-index 0 [] _ _ c.loop-byte-test.true c.loop-byte.invariant c.in_ok-push_escaped.ensures

@@ -3,7 +3,7 @@ use Rattle.std.proofs.Common.{◌-◌, sym, ◌∙◌}
 use Rattle.std.proofs.lemmas.Result.{IfErr-weaker}
 use Rattle.pt_report.specs.Reports.{IsRun}
 use Rattle.pt_report.proofs.Faults.{of_summary}
-use Rattle.pt_report.proofs.Passing.{chart_reported, history_reported, json_reported, mermaid_reported, summary_reported, untouched}
+use Rattle.pt_report.proofs.Passing.{chart_reported, history_reported, json_reported, mermaid_reported, page_reported, steps_reported, summary_reported, untouched}
 use Rattle.pt_report.proofs.reporting.run_and_report.Goals as goal
 
 pub returns-in-Summary-clause-text : goal.returns-in-Summary-clause-text
@@ -39,8 +39,23 @@ returns-in-Json-clause-text g c =
     let node = c.in_ok-gathered.ensures.node in
     json_reported g.W.Write.contents c.print_history-in-Json.result c.args.script.now c.args.options.now c.in_ok-read.read node.0 c.in_ok-gathered.gathered c.args.out.now c.run_script.new.out c.print_history-in-Json.new.out c.run_script.new.kept.items c.in_ok-read.ensures node.1.0 node.2 c.in-Json.is c.print_history-in-Json.ensures.text c.in_ok-gathered.behind node.3
 
-pub returns-clause-text : goal.returns-clause-text
-returns-clause-text g c =
+pub returns-in-Chart-clause-text : goal.returns-in-Chart-clause-text
+returns-in-Chart-clause-text g c =
     let node = c.in_ok-gathered.ensures.node in
     let run : IsRun (c.args.options.now.epochs - 1) c.args.options.now c.in_ok-read.read node.0 c.in_ok-gathered.gathered c.as_slice-in-Chart.result.now = (node.1.0, node.1.1 ∙ sym c.as_slice-in-Chart.ensures.value) in
     chart_reported g.W.Write.contents c.print_chart.result c.args.script.now c.args.options.now c.in_ok-read.read node.0 c.in_ok-gathered.gathered c.as_slice-in-Chart.result.now c.args.out.now c.run_script.new.out c.print_chart.new.out c.run_script.new.kept.items c.in_ok-read.ensures run node.2 c.in-Chart.is c.print_chart.ensures.text c.in_ok-gathered.behind node.3
+
+pub returns-in-Steps-clause-untouched : goal.returns-in-Steps-clause-untouched
+returns-in-Steps-clause-untouched g c =
+    untouched g.W.Write.contents c.print_steps.result c.args.script.now c.args.options.now c.in_ok-read.read c.args.out.now c.run_script.new.out c.print_steps.new.out c.in_ok-read.ensures c.in_ok-gathered.ensures.told c.print_steps.ensures.untouched
+
+pub returns-in-Steps-clause-text : goal.returns-in-Steps-clause-text
+returns-in-Steps-clause-text g c =
+    let node = c.in_ok-gathered.ensures.node in
+    steps_reported g.W.Write.contents c.print_steps.result c.args.script.now c.args.options.now c.in_ok-read.read node.0 c.in_ok-gathered.gathered c.args.out.now c.run_script.new.out c.print_steps.new.out c.run_script.new.kept.items c.in_ok-read.ensures node.1.0 node.2 c.in-Steps.is c.print_steps.ensures.text c.in_ok-gathered.behind node.3
+
+pub returns-clause-text : goal.returns-clause-text
+returns-clause-text g c =
+    let node = c.in_ok-gathered.ensures.node in
+    let run : IsRun (c.args.options.now.epochs - 1) c.args.options.now c.in_ok-read.read node.0 c.in_ok-gathered.gathered c.as_slice-in-Page.result.now = (node.1.0, node.1.1 ∙ sym c.as_slice-in-Page.ensures.value) in
+    page_reported g.W.Write.contents c.print_page.result c.args.script.now c.args.options.now c.in_ok-read.read node.0 c.in_ok-gathered.gathered c.as_slice-in-Page.result.now c.args.out.now c.run_script.new.out c.print_page.new.out c.run_script.new.kept.items c.in_ok-read.ensures run node.2 c.in-Page.is c.print_page.ensures.text c.in_ok-gathered.behind node.3

@@ -1,9 +1,0 @@
--- `list_letters`: its loop over `place`.
-use Rattle.std.proofs.Common.{rules, arith}
-use Rattle.pt_chart.proofs.Numbering.{one_more}
-use Rattle.pt_chart.specs.Drawing.{letters}
-use Rattle.pt_chart.proofs.drawing.list_letters.Goals as goal
-
-pub loop-place-preserved : goal.loop-place-preserved
-loop-place-preserved c =
-    one_more (letters c.args.rows.now) c.args.parts.now.items c.loop-place.parts.items c.list_letters_from.new.parts.items c.args.columns.now c.loop-place.place c.index-columns-place.result (omega arith) (search rules) c.loop-place.invariant c.in_ok-list_letters_from.ensures
