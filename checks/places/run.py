@@ -114,15 +114,15 @@ def monitor(script: Script, process: Process) -> Value:
 
 def some_operation(script: Script, process: Process) -> Value:
     """An operation that is right where it is."""
-    make = script.chance.choice([
+    makers: list[Callable[[Script, Process], Value]] = [
         send, receive, monitor,
         lambda s, p: operation("link", ("to", s.name(p))),
         lambda s, p: operation("trap", ("on", Value(text="true"))),
         lambda s, p: operation("signal", ("to", s.name(p)), ("reason", text("kill"))),
         lambda s, p: operation("exit", ("reason", text("other:7"))),
         lambda s, p: operation("pass"),
-    ])
-    return make(script, process)
+    ]
+    return script.chance.choice(makers)(script, process)
 
 
 def fill(script: Script, process: Process, names: list[str]) -> None:
