@@ -56,4 +56,10 @@ is_same "$work/out/race_history" "$work/out/race_again" race_again "the history 
 ran[watched]=1
 python3 "$here/watched.py" "$root/bin/pt_explore" "$here/race.json" || wrong watched "a terminal is told nothing"
 
+# On a terminal a refused script is explained.
+refused=$here/../examples/refused/explained_scope.json
+ran[on_a_terminal]=1
+"$here/../examples/explained_on_a_terminal.py" "$root/bin/pt_explore" "$refused" >"$work/terminal"
+cmp "$refused.stderr" "$work/terminal" || wrong on_a_terminal "it says something else"
+
 verdict explore
