@@ -1,10 +1,10 @@
--- `names_of`: its loop over `column`.
+-- `names_by`: its loop over `column`.
 use Rattle.std.proofs.Common.{[], ◌∷◌, ◌++◌, map, ap, ◌∙◌, List, ℕ, arith}
 use Rattle.std.proofs.lemmas.List.{map-append}
 use Rattle.pt_chart.specs.declared.layout.Column.{Column}
 use Rattle.pt_chart.specs.Drawing.{called_given, column_name}
 use Rattle.pt_chart.proofs.Rows.{one_more_given}
-use Rattle.pt_chart.proofs.called.names_of.Goals as goal
+use Rattle.pt_chart.proofs.called.names_by.Goals as goal
 
 pub loop-column-preserved : goal.loop-column-preserved
 loop-column-preserved c =
