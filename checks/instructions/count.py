@@ -13,6 +13,8 @@ workload in a run, and the row is what all its threads take. On one desk that di
 run. Another rustc makes other code, so these rows are compared if the rustc is that of the table. Without cargo they are
 left out.
 
+A restart among 10,000 children may take at most 1.2 times that of one among 10 (`ALIKE`).
+
 A row that is more than 2 % above the table is a loss, and fails. One that is more than 2 % below it fails too, until the table
 is written anew: a later loss would not be seen otherwise. The last line is 'N passed, M failed', and the status is 0 if nothing
 failed.
@@ -58,6 +60,8 @@ ROWS = {
     "crews::ring": "crew: a message, one for each process in a step",
     "crews::idle": "crew: a step with one message, beside 10 that wait",
     "crews::child": "crew: a step with a child that is spawned, and one that exits",
+    "supervisors::among_10": "supervisor: a restart among 10 children",
+    "supervisors::among_10_000": "supervisor: a restart among 10,000 children",
     "as_c::message": "as C: pt_send, pt_turn and pt_receive of a message",
     "as_c::spawn": "as C: pt_spawn and pt_exit",
     "as_c::crew_of_64": "as C: a message of a crew, 64 a step",
@@ -66,6 +70,9 @@ ROWS = {
     "kept::name": "a name that is registered, looked up and given up",
     "kept::timer": "a timer that fires and one that is cancelled, beside 1,000",
 }
+# Rows that take about what another one takes, whatever differs in their names: at most so many hundredths of it.
+ALIKE = {"supervisor: a restart among 10,000 children": "supervisor: a restart among 10 children"}
+MOST_ALIKE = 120
 # The workloads of Rust's runtime, and what one of each is.
 RUNTIME_ROWS = {
     "message": "Rust's runtime: a message between two processes",
@@ -221,11 +228,18 @@ def fault(row: str, number: int, known: dict[str, int]) -> str | None:
     return None
 
 
+def growth(counts: dict[str, int]) -> list[str]:
+    """Which rows take more than they may beside another one."""
+    both = [(row, counts[row], counts[other]) for row, other in ALIKE.items() if row in counts and other in counts]
+    return [f"{row}: {number:,} instructions, which is more than {MOST_ALIKE / 100} times {other:,}"
+            for row, number, other in both if number * 100 > other * MOST_ALIKE]
+
+
 def faults(counts: dict[str, int], known: dict[str, int]) -> list[str]:
     """What is wrong with the rows and with the table."""
     found = [fault(row, number, known) for row, number in counts.items()]
     gone = [f"{row}: the table has a row that is not counted: write it anew (--write)" for row in known if row not in counts]
-    return [*(it for it in found if it), *gone]
+    return [*(it for it in found if it), *gone, *growth(counts)]
 
 
 def main(words: list[str]) -> int:
