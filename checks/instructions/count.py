@@ -4,8 +4,8 @@
     checks/instructions/count.py             compares
     checks/instructions/count.py --write     writes the table anew, and the pages that quote it
 
-It builds bench/rattle/pt_bench_counts without proofs, as a proved program is compiled (`.ci/as_proved.py`), and runs it under
-callgrind twice: each workload 1,024 times, and 2,048 times. A row is what a workload's function takes more in the second
+It builds bench/rattle/pt_bench_counts and pt_bench_restarts without proofs, as a proved program is compiled
+(`.ci/as_proved.py`), and runs each under callgrind twice: each workload 1,024 times, and 2,048 times. A row is what a workload's function takes more in the second
 run, divided by 1,024. So it is the same whatever else the machine does.
 
 The rows of Rust's runtime are of checks/instructions/runtime, over a library that is compiled in the same way. It does one
@@ -41,6 +41,7 @@ KEPT = ROOT / "bin" / "counted"
 RUNTIME = ROOT / "checks" / "instructions" / "runtime"
 TABLE = ROOT / "docs" / "instructions.txt"
 PROGRAM = "pt_bench_counts"
+RESTARTS = "pt_bench_restarts"
 TIMES = 1_024
 # How many hundredths a row may differ from the table.
 SLACK = 2
@@ -60,8 +61,6 @@ ROWS = {
     "crews::ring": "crew: a message, one for each process in a step",
     "crews::idle": "crew: a step with one message, beside 10 that wait",
     "crews::child": "crew: a step with a child that is spawned, and one that exits",
-    "supervisors::among_10": "supervisor: a restart among 10 children",
-    "supervisors::among_10_000": "supervisor: a restart among 10,000 children",
     "as_c::message": "as C: pt_send, pt_turn and pt_receive of a message",
     "as_c::spawn": "as C: pt_spawn and pt_exit",
     "as_c::crew_of_64": "as C: a message of a crew, 64 a step",
@@ -69,6 +68,11 @@ ROWS = {
     "kept::call": "a call with its answer, by a monitor",
     "kept::name": "a name that is registered, looked up and given up",
     "kept::timer": "a timer that fires and one that is cancelled, beside 1,000",
+}
+# The workloads of pt_bench_restarts.
+RESTART_ROWS = {
+    "restarts::among_10": "supervisor: a restart among 10 children",
+    "restarts::among_10_000": "supervisor: a restart among 10,000 children",
 }
 # Rows that take about what another one takes, whatever differs in their names: at most so many hundredths of it.
 ALIKE = {"supervisor: a restart among 10,000 children": "supervisor: a restart among 10 children"}
@@ -101,28 +105,28 @@ def run(words: list[str], **variables: str) -> str:
     return ran.stdout
 
 
-def lay_out(place: Path) -> None:
+def lay_out(place: Path, program: str) -> None:
     """Lays out the repository's crates as links, with the program beside them. Programs that are built stay in bin/counted."""
     KEPT.mkdir(parents=True, exist_ok=True)
     (place / "bin").symlink_to(KEPT)
-    sources = place / "crates" / PROGRAM / "src"
+    sources = place / "crates" / program / "src"
     sources.mkdir(parents=True)
     for crate in (ROOT / "crates").iterdir():
         (place / "crates" / crate.name).symlink_to(crate)
-    for file in [*(BENCH / PROGRAM).glob("*.rt.txt"), BENCH / "pt_bench_desk" / "tools.rt.txt"]:
+    for file in [*(BENCH / program).glob("*.rt.txt"), BENCH / "pt_bench_desk" / "tools.rt.txt"]:
         shutil.copyfile(file, sources / file.stem)
-    listed = re.search(rf"^{PROGRAM}: .*$", (BENCH / "crates").read_text(), re.M)
+    listed = re.search(rf"^{program}: .*$", (BENCH / "crates").read_text(), re.M)
     if not listed:
-        raise Fault(f"bench/rattle/crates has no line '{PROGRAM}:'")
+        raise Fault(f"bench/rattle/crates has no line '{program}:'")
     (place / "crates.txt").write_text(f"{(ROOT / 'crates.txt').read_text()}\n{listed[0]}\n")
 
 
-def built() -> Path:
-    """The program, which is built anew if a source has changed."""
+def built(program: str) -> Path:
+    """A program, which is built anew if a source has changed."""
     with tempfile.TemporaryDirectory(prefix="counted-") as folder:
-        lay_out(Path(folder))
-        run([str(ROOT / ".ci" / "build"), "--in", folder, "--as-proved", PROGRAM])
-    return KEPT / PROGRAM
+        lay_out(Path(folder), program)
+        run([str(ROOT / ".ci" / "build"), "--in", folder, "--as-proved", program])
+    return KEPT / program
 
 
 def built_runtime() -> Path:
@@ -252,7 +256,8 @@ def main(words: list[str]) -> int:
     known, rustc = read(TABLE), run(["rustc", "--version"]).strip() if shutil.which("cargo") else ""
     if asked.write and not rustc:
         raise Fault("no cargo, and the table has rows of Rust's runtime, too")
-    counts = count(built(), {f"{PROGRAM}::{name}": row for name, row in ROWS.items()})
+    counts = count(built(PROGRAM), {f"{PROGRAM}::{name}": row for name, row in ROWS.items()})
+    counts.update(count(built(RESTARTS), {f"{RESTARTS}::{name}": row for name, row in RESTART_ROWS.items()}))
     if asked.write or rustc == rustc_of(TABLE):
         counts.update(count_runs(built_runtime(), RUNTIME_ROWS))
     else:

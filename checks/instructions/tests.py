@@ -108,7 +108,7 @@ def without_valgrind(folder: Path) -> None:
 def by_another_rustc() -> None:
     """Without cargo, or by another rustc, the rows of Rust's runtime are left out. They are compared by that of the table."""
     known = count.read(count.TABLE)
-    rows = {row: known[row] for row in count.ROWS.values()}
+    rows = {row: known[row] for row in (*count.ROWS.values(), *count.RESTART_ROWS.values())}
     runtime = {row: known[row] for row in count.RUNTIME_ROWS.values()}
     here = count.rustc_of(count.TABLE)
     for cargo, rustc, counted, status in (

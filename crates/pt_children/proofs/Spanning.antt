@@ -9,7 +9,6 @@ use Rattle.std.proofs.lemmas.Option.{slice_get_within, slice_get-get_or, get_or_
 use Rattle.pt_signal.specs.declared.pid.Pid.{Pid}
 use Rattle.pt_children.specs.declared.children.Child.{Child}
 use Rattle.pt_children.specs.declared.children.Shutdown.{Shutdown}
-use Rattle.pt_children.specs.declared.spans.Kind.{Kind}
 use Rattle.pt_children.specs.declared.spans.Kind.TheVariants.{Alive, Unwanted, Coming, Missing, Over}
 use Rattle.pt_children.specs.declared.spans.Span.{Span}
 use Rattle.pt_children.specs.declared.spans.Spans.{Spans}

@@ -1,5 +1,5 @@
 -- `ChildList::place_over`: its clause `place`.
-use Rattle.std.proofs.Common.{List, ◌∙◌, ap}
+use Rattle.std.proofs.Common.{◌∙◌, ap}
 use Rattle.std.specs.Prelude.{position}
 use Rattle.pt_children.specs.declared.children.Child.{Child}
 use Rattle.pt_children.specs.Trying.{has_failed_first}

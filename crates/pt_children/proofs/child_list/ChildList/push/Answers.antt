@@ -1,5 +1,5 @@
 -- `ChildList::push`: what `with` and `moves` require.
-use Rattle.std.proofs.Common.{◌≡◌, ℕ, List, [], ◌∷◌, ◌++◌, length, subst, sym, ◌∙◌, arith}
+use Rattle.std.proofs.Common.{◌≡◌, ℕ, length, subst, sym, ◌∙◌, arith}
 use Rattle.indexmap.specs.IndexMap.{get}
 use Rattle.pt_signal.specs.Values.{same_pid}
 use Rattle.pt_children.specs.Spans.{AreSpansBut, KnowsBut}
