@@ -19,7 +19,7 @@ ghost use Rattle.pt_scheduler.specs.Planning.{again_at, posts_heard, posts_of, s
 use crate::member::Member;
 use crate::plan::{Plan, delete_child, mark, start_child};
 use pt_behaviour::{Births, Next};
-use pt_children::{Child, ChildCounts, ChildFault, ChildSpec, GaveUp, place_of};
+use pt_children::{Child, ChildCounts, ChildFault, ChildSpec, GaveUp};
 use pt_supervisor::Supervisor;
 use pt_workers::{Desk, Fault, Item, Pid};
 use std::alloc::{AllocError, Global};
@@ -191,7 +191,7 @@ fn heed_exit(boss: &mut Supervisor<Plan>, from: Pid)
     ensures posts { posts_of (program_of boss.new)
         ≡ again_at (position (λ c. is_pid c.pid from) (standing boss.old).children) (posts_of (program_of boss.old)) }
 {
-    if let Some(place) = place_of(boss.children(), from) {
+    if let Some(place) = boss.place_of(from) {
         mark(boss, place);
     }
 }
