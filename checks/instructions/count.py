@@ -14,8 +14,8 @@ run. Another rustc makes other code, so these rows are compared if the rustc is 
 left out.
 
 Four times as many of a workload may take 4.5 times its instructions at most, if it is one that is to grow as its number does:
-the chart of a history. So a walk through all processes for each of them fails, although the table may have its row. A restart
-among 10,000 children may take 1.2 times the instructions of one among 10 at most.
+the chart of a history. So a walk through all processes for each of them fails, although the table may have its row. A child is
+restarted 16,384 and 32,768 times. A restart among 10,000 children may take 1.2 times the instructions of one among 10 at most.
 
 A row that is more than 2 % above the table is a loss, and fails. One that is more than 2 % below it fails too, until the table
 is written anew: a later loss would not be seen otherwise. The last line is 'N passed, M failed', and the status is 0 if nothing
@@ -45,6 +45,8 @@ TABLE = ROOT / "docs" / "instructions.txt"
 PROGRAM = "pt_bench_counts"
 RESTARTS = "pt_bench_restarts"
 TIMES = 1_024
+# How often a child is restarted: tables of ten thousand are laid out anew some times meanwhile.
+RESTARTED = 16 * TIMES
 # How many hundredths a row may differ from the table.
 SLACK = 2
 
@@ -196,13 +198,13 @@ def count_runs(program: Path, workloads: dict[str, str]) -> dict[str, int]:
     return {row: round((whole(program, name, 2 * TIMES) - whole(program, name, TIMES)) / TIMES) for name, row in workloads.items()}
 
 
-def count(program: Path, functions: dict[str, str]) -> dict[str, int]:
+def count(program: Path, functions: dict[str, str], times: int = TIMES) -> dict[str, int]:
     """The instructions of one of each workload, by its row."""
-    few, many = counted(program, TIMES), counted(program, 2 * TIMES)
+    few, many = counted(program, times), counted(program, 2 * times)
     missing = [name for name in functions if name not in few or name not in many]
     if missing:
         raise Fault(f"{program.name} has no function {missing[0]}")
-    return {row: round((many[name] - few[name]) / TIMES) for name, row in functions.items()}
+    return {row: round((many[name] - few[name]) / times) for name, row in functions.items()}
 
 
 def steep(program: Path, bounds: dict[str, float]) -> list[str]:
@@ -272,7 +274,7 @@ def main(words: list[str]) -> int:
         raise Fault("no cargo, and the table has rows of Rust's runtime, too")
     program = built(PROGRAM)
     counts = count(program, {f"{PROGRAM}::{name}": row for name, row in ROWS.items()})
-    counts.update(count(built(RESTARTS), {f"{RESTARTS}::{name}": row for name, row in RESTART_ROWS.items()}))
+    counts.update(count(built(RESTARTS), {f"{RESTARTS}::{name}": row for name, row in RESTART_ROWS.items()}, RESTARTED))
     if asked.write or rustc == rustc_of(TABLE):
         counts.update(count_runs(built_runtime(), RUNTIME_ROWS))
     else:
