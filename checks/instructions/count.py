@@ -13,9 +13,8 @@ workload in a run, and the row is what all its threads take. On one desk that di
 run. Another rustc makes other code, so these rows are compared if the rustc is that of the table. Without cargo they are
 left out.
 
-Four times as many of a workload may take 4.5 times its instructions at most, if it is one that is to grow as its number does:
-the chart of a history. So a walk through all processes for each of them fails, although the table may have its row. A child is
-restarted 16,384 and 32,768 times. A restart among 10,000 children may take 1.2 times the instructions of one among 10 at most.
+A child is restarted 16,384 and 32,768 times. A restart among 10,000 children may take 1.2 times the instructions of one among
+10 at most.
 
 A row that is more than 2 % above the table is a loss, and fails. One that is more than 2 % below it fails too, until the table
 is written anew: a later loss would not be seen otherwise. The last line is 'N passed, M failed', and the status is 0 if nothing
@@ -72,11 +71,7 @@ ROWS = {
     "kept::call": "a call with its answer, by a monitor",
     "kept::name": "a name that is registered, looked up and given up",
     "kept::timer": "a timer that fires and one that is cancelled, beside 1,000",
-    "charts::draw": "a chart: a process that is born, sends, receives and exits",
 }
-# How often more of a workload are done, and how many times the instructions they may take at most.
-MORE = 4
-GROWTH = {"charts::draw": 4.5}
 # The workloads of pt_bench_restarts.
 RESTART_ROWS = {
     "restarts::among_10": "supervisor: a restart among 10 children",
@@ -207,14 +202,6 @@ def count(program: Path, functions: dict[str, str], times: int = TIMES) -> dict[
     return {row: round((many[name] - few[name]) / times) for name, row in functions.items()}
 
 
-def steep(program: Path, bounds: dict[str, float]) -> list[str]:
-    """The workloads that grow faster than they may, by what four times as many take."""
-    few, many = counted(program, TIMES), counted(program, MORE * TIMES)
-    grown = {name: many[name] / few[name] for name in bounds}
-    return [f"{name}: {MORE * TIMES:,} take {grown[name]:.2f} times the instructions of {TIMES:,}, and {most} is the most"
-            for name, most in bounds.items() if grown[name] > most]
-
-
 def read(table: Path) -> dict[str, int]:
     """The rows of a table."""
     lines = table.read_text().splitlines() if table.exists() else []
@@ -272,8 +259,7 @@ def main(words: list[str]) -> int:
     known, rustc = read(TABLE), run(["rustc", "--version"]).strip() if shutil.which("cargo") else ""
     if asked.write and not rustc:
         raise Fault("no cargo, and the table has rows of Rust's runtime, too")
-    program = built(PROGRAM)
-    counts = count(program, {f"{PROGRAM}::{name}": row for name, row in ROWS.items()})
+    counts = count(built(PROGRAM), {f"{PROGRAM}::{name}": row for name, row in ROWS.items()})
     counts.update(count(built(RESTARTS), {f"{RESTARTS}::{name}": row for name, row in RESTART_ROWS.items()}, RESTARTED))
     if asked.write or rustc == rustc_of(TABLE):
         counts.update(count_runs(built_runtime(), RUNTIME_ROWS))
@@ -284,9 +270,9 @@ def main(words: list[str]) -> int:
         write(TABLE, counts, rustc)
         run([str(ROOT / "tools" / "quotes.py"), "--write", str(TABLE.relative_to(ROOT))])
         known = read(TABLE)
-    wrong = faults(counts, known) + steep(program, {f"{PROGRAM}::{name}": most for name, most in GROWTH.items()})
+    wrong = faults(counts, known)
     print("".join(f"WRONG: {it}\n" for it in wrong), end="")
-    print(f"instructions: {len(counts) + len(GROWTH) - len(wrong)} passed, {len(wrong)} failed")
+    print(f"instructions: {len(counts) - len(wrong)} passed, {len(wrong)} failed")
     return 1 if wrong else 0
 
 

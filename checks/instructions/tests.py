@@ -20,7 +20,7 @@ HERE = Path(__file__).resolve().parent
 sys.path.insert(0, str(HERE))
 import count  # noqa: E402
 
-# A program with three workloads. The last one takes as many steps as the square of their number. PLANTED is how often the second one goes through a loop besides.
+# A program with two workloads. PLANTED is how often the second one goes through a loop besides.
 PROGRAM = """\
 #include <stdlib.h>
 #include <string.h>
@@ -31,12 +31,10 @@ __attribute__((noinline)) static void step(void) {
     for (int k = 0; k < PLANTED; k++) sum ^= k;
 }
 __attribute__((noinline)) void walk(long times) { while (times-- > 0) step(); }
-__attribute__((noinline)) void pair(long times) { for (long k = 0; k < times * times; k++) sum += 3; }
 int main(int argc, char **argv) {
     long times = argc > 1 ? atol(argv[argc - 1]) : 0;
     if (argc < 3 || !strcmp(argv[1], "add")) add(times);
     if (argc < 3 || !strcmp(argv[1], "walk")) walk(times);
-    if (argc < 3 || !strcmp(argv[1], "pair")) pair(times);
     return 0;
 }
 """
@@ -83,14 +81,6 @@ def planted_loops(folder: Path) -> None:
     holds("a workload that takes less asks for the table", len(told) == 1 and "--write" in told[0] and "less" in told[0])
 
 
-def steep(folder: Path) -> None:
-    """A workload that grows with the square of its number is found, and one that grows as its number does is not."""
-    program(folder, 10)
-    told = count.steep(folder / "program_10", {"walk": 4.5, "pair": 4.5})
-    holds("the square fails, and alone", len(told) == 1 and told[0].startswith("pair: 4,096 take 1"))
-    holds("more may be allowed", not count.steep(folder / "program_10", {"pair": 17}))
-
-
 def tables() -> None:
     """What is compared, and what is not."""
     known = {"a": 1_000, "b": 50}
@@ -127,12 +117,12 @@ def by_another_rustc() -> None:
     ):
         with (
             mock.patch.object(count.shutil, "which", lambda name: cargo if name == "cargo" else "/"),
-            mock.patch.multiple(count, run=lambda *_: rustc, built=Path, built_runtime=Path, count=lambda *_: dict(rows), steep=lambda *_: [],
+            mock.patch.multiple(count, run=lambda *_: rustc, built=Path, built_runtime=Path, count=lambda *_: dict(rows),
                                 count_runs=lambda *_: counted),
             contextlib.redirect_stdout(io.StringIO()) as said,
         ):
             ended = count.main([])
-        wanted = f"instructions: {len(rows) + len(count.GROWTH) + (0 if status else len(counted))} passed, {len(counted) if status else 0} failed"
+        wanted = f"instructions: {len(rows) + (0 if status else len(counted))} passed, {len(counted) if status else 0} failed"
         holds(f"rows by '{rustc}': {said.getvalue()}", ended == status and said.getvalue().splitlines()[-1] == wanted)
         holds(f"'{rustc}' is told", ("no rows of Rust's runtime" in said.getvalue()) == (not counted))
 
@@ -144,7 +134,6 @@ def main() -> int:
         without_valgrind(Path(folder))
         if shutil.which("valgrind"):
             planted_loops(Path(folder))
-            steep(Path(folder))
         else:
             print("no valgrind: no loop is planted")
     print(f"instructions: {passed} passed, {failed} failed")
