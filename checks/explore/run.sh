@@ -56,4 +56,8 @@ is_same "$work/out/race_history" "$work/out/race_again" race_again "the history 
 ran[watched]=1
 python3 "$here/watched.py" "$root/bin/pt_explore" "$here/race.json" || wrong watched "a terminal is told nothing"
 
+# Of random scripts it counts the states and the schedules of moves that a model apart from it has.
+ran[moves]=1
+python3 "$here/moves.py" "$root/bin/pt_explore" || wrong moves "the model counts otherwise"
+
 verdict explore
