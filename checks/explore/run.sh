@@ -62,4 +62,8 @@ ran[on_a_terminal]=1
 "$here/../examples/explained_on_a_terminal.py" "$root/bin/pt_explore" "$refused" >"$work/terminal"
 cmp "$refused.stderr" "$work/terminal" || wrong on_a_terminal "it says something else"
 
+# Of random scripts it counts the states and the schedules of moves that a model apart from it has.
+ran[moves]=1
+python3 "$here/moves.py" "$root/bin/pt_explore" || wrong moves "the model counts otherwise"
+
 verdict explore
