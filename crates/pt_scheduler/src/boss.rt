@@ -166,6 +166,8 @@ impl Boss {
 }
 
 /// Handles an item, or none, once it has noted which child has exited.
+// (not inlined: few items are those of supervisors, and a step that has this in it takes longer for each message)
+#[inline(never)]
 fn run(
     boss: &mut Supervisor<Plan>,
     desk: &mut Desk,
