@@ -1,5 +1,5 @@
 -- The first of a list that passes a test, and the list without it.
-use Rattle.std.proofs.Common.{◌≡◌, Bool, true, false, cond, List, [], ◌∷◌, ◌++◌, Some, None, filter, refl, ap}
+use Rattle.std.proofs.Common.{◌≡◌, Bool, true, false, cond, List, [], ◌∷◌, Some, filter, refl, ap}
 use Rattle.std.specs.List.{find}
 use Rattle.pt_signal.specs.Values.{without_first}
 
@@ -13,25 +13,6 @@ module _ {X : Type 0} (P : X → Bool) where
           → filter P (x ∷ xs) ≡ y ∷ filter P (without_first P (x ∷ xs))
       go true e h ih = let k : Some x ≡ Some y = rw e at h in let k2 : x ≡ y = cc in rw e (ap (λ z. z ∷ filter P xs) k2)
       go false e h ih = let k : find P xs ≡ Some y = rw e at h in simp e (ih k)
-
-  -- none passes
-  pub filter_none : (xs : List X) → find P xs ≡ None → filter P xs ≡ []
-  filter_none [] h = refl
-  filter_none (x ∷ xs) h = go (P x) refl h (filter_none xs)
-    where
-      go : (b : Bool) → P x ≡ b → cond (P x) (Some x) (find P xs) ≡ None → (find P xs ≡ None → filter P xs ≡ [])
-          → filter P (x ∷ xs) ≡ []
-      go true e h ih = let k : Some x ≡ None = rw e at h in absurd (cc)
-      go false e h ih = let k : find P xs ≡ None = rw e at h in simp e (ih k)
-
-  pub first-append_some : (xs ys : List X) (y : X) → find P xs ≡ Some y → find P (xs ++ ys) ≡ Some y
-  first-append_some [] ys y h = absurd (cc)
-  first-append_some (x ∷ xs) ys y h = go (P x) refl h (first-append_some xs ys y)
-    where
-      go : (b : Bool) → P x ≡ b → cond (P x) (Some x) (find P xs) ≡ Some y → (find P xs ≡ Some y → find P (xs ++ ys) ≡ Some y)
-          → find P (x ∷ xs ++ ys) ≡ Some y
-      go true e h ih = let k : Some x ≡ Some y = rw e at h in rw e k
-      go false e h ih = let k : find P xs ≡ Some y = rw e at h in rw e (ih k)
 
 module _ {X : Type 0} (P Q : X → Bool) where
   -- what the one test takes out, the other does not keep
