@@ -1,5 +1,5 @@
 -- What a mailbox knows of the references that its items answer. No public clause cites this module.
-use Rattle.std.specs.Prelude.{ℕ, zero, suc, ◌+◌, ◌-◌, ◌<◌, ⊤, Bool, cond, ltb, max, List, [], ◌∷◌, length, Option, Some, None, IfSome}
+use Rattle.std.specs.Prelude.{ℕ, zero, suc, ◌+◌, ◌-◌, ◌<◌, ⊤, cond, ltb, max, List, [], ◌∷◌, length, Option, Some, None, IfSome}
 use Rattle.pt_signal.specs.declared.item.Item.{Item}
 
 -- the number of the reference that an item answers, if it answers one

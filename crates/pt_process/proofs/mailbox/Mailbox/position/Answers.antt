@@ -1,7 +1,5 @@
 -- `Mailbox::position`: its contract, where it begins at the mark.
 use Rattle.std.proofs.Common.{◌∙◌}
-use Rattle.pt_signal.specs.Values.{fits}
-use Rattle.pt_signal.specs.declared.item.Pick.TheVariants.{DownOf, AliveOf}
 use Rattle.pt_process.proofs.MarkLemmas.{position-past, down_of_other, alive_of_other}
 use Rattle.pt_process.proofs.mailbox.Mailbox.position.Goals as goal
 
