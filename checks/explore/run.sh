@@ -5,7 +5,8 @@
 #
 # NAME.args has the words of a case, one a line; files are named from the top of the repository. NAME.stdout is what the
 # program must print, NAME.stderr what it must print on standard error (nothing if it is not there), and NAME.status its
-# status (0 if it is not there). NAME.expected has the outcomes that a case expects.
+# status (0 if it is not there). NAME.expected has the outcomes that a case expects. race_page.names has the counts and the names
+# on the page of the race's schedule.
 #
 # The scripts of checks/examples have one case each, with the numbers of schedules and
 # outcomes that a model apart from this program counted; docs/EXPLORE.md has the race and how it is mended. In apart.json
@@ -51,6 +52,17 @@ done
 
 # The schedule that is told can be run again: the same history, byte for byte.
 is_same "$work/out/race_history" "$work/out/race_again" race_again "the history of the schedule"
+
+# The page of a schedule is the frame that each page has, with its steps, its counts and the names of the script.
+for name in race_page named_page; do
+    words=(checks/explore/race.json --print page)
+    [ "$name" = race_page ] || words+=(--schedule 0,1,1,1,0)
+    run pt_explore "$name" /dev/null "${words[@]}"
+    python3 "$here/held.py" <"$work/out/$name" >"$work/out/$name-held" || wrong "$name" "it is no page"
+    cat "$here/race_steps.stdout" "$here/race_page.names" | is_same - "$work/out/$name-held" "$name" "what the page holds"
+    is_same /dev/null "$work/err/$name" "$name" "standard error"
+    has_status "$name" 0
+done
 
 # A person who looks on is told how many schedules were run so far; a file of standard error (above) is told nothing.
 ran[watched]=1
