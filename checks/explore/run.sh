@@ -38,7 +38,8 @@ for case in "$here"/*.args; do
 done
 
 # On several threads the same is printed, where all schedules are run and where there are more than the limit.
-for name in race race_all race_budget race_chart race_either race_limit race_one race_turns race_waiting unlink threads; do
+for name in mended_first race race_all race_budget race_chart race_either race_first race_first_at_limit race_first_limit race_first_one \
+    race_first_steps race_limit race_one race_turns race_waiting unlink threads; do
     mapfile -t words <"$here/$name.args"
     for jobs in 2 4; do
         run pt_explore "$name-$jobs" /dev/null "${words[@]}" --jobs "$jobs"
