@@ -1,12 +1,13 @@
 -- A history with what each event changed, and its page for a browser, as lists of characters.
-use Rattle.std.specs.Prelude.{◌≡◌, ℕ, List, [], ◌∷◌, ◌++◌, codes, decimal, length, map, reverse}
+use Rattle.std.specs.Prelude.{◌≡◌, ◌⊎◌, ℕ, List, [], ◌∷◌, ◌++◌, Err, codes, decimal, length, map, reverse}
 use Rattle.std.specs.List.{flat_map}
 use Rattle.pt_signal.specs.declared.pid.Pid.{Pid}
 use Rattle.pt_signal.specs.declared.letter.LeftOver.{LeftOver}
 use Rattle.pt_signal.specs.Text.{pid_text}
 use Rattle.pt_events.specs.declared.event.Stamped.{Stamped}
-use Rattle.pt_events.specs.History.{Past, life}
-use Rattle.pt_judge.specs.Judge.{IsAfter}
+use Rattle.pt_events.specs.History.{Past, May, life}
+use Rattle.pt_judge.specs.declared.cause.Cause.{Cause}
+use Rattle.pt_judge.specs.Judge.{IsAfter, Judges}
 use Rattle.pt_judge.specs.Judging.{JudgeState}
 use Rattle.pt_auditor.specs.Changes.{event_changes}
 use Rattle.pt_auditor.specs.Hearings.{desks_of}
@@ -30,8 +31,15 @@ steps_after past (s ∷ more) = (s, event_changes (life [] past) s.event) ∷ st
 
 -- one event more is in the list, with what it changes, and the judge is behind it
 pub record IsStepAdded (past : Past) (s : Stamped) (old new : List Step) (next : JudgeState) : Type 0 where
+  pub may : May [] past s.event
   pub told : map step_told new ≡ map step_told old ++ (s, event_changes (life [] past) s.event) ∷ []
   pub goes_on : IsAfter [] (s.event ∷ past) next
+
+-- one of the events is refused for this cause: the first, or a later one if the first may come
+abbrev pub StepsFail : Past → List Stamped → Cause → Type 0
+StepsFail past [] c = ⊥
+StepsFail past (s ∷ more) c =
+    Judges [] past s.event (Err c) ⊎ (May [] past s.event × StepsFail (s.event ∷ past) more c)
 
 -- lines ---------------------------------------------------------------------------------------
 
@@ -78,11 +86,8 @@ abbrev pub names_json : List (Pid × List ℕ) → List ℕ
 names_json [] = codes "{}"
 names_json (c ∷ cs) = codes "{" ++ name_member c ++ more_names cs ++ codes "}"
 
-abbrev pub line_of : List ℕ → List ℕ
-line_of text = text ++ codes "\n"
-
 -- the page's frame, with the history, its verdict and the names between its parts
 abbrev pub page_text : List ToldStep → List LeftOver → List (Pid × List ℕ) → List ℕ
 page_text steps letters called =
-    line_of PAGE_HEAD.now ++ (steps_text steps letters ++ (verdict_line steps letters
-    ++ (line_of PAGE_NAMES.now ++ (line_of (names_json called) ++ line_of PAGE_END.now))))
+    (PAGE_HEAD.now ++ codes "\n") ++ (steps_text steps letters ++ (verdict_line steps letters
+    ++ ((PAGE_NAMES.now ++ codes "\n") ++ ((names_json called ++ codes "\n") ++ (PAGE_END.now ++ codes "\n")))))

@@ -31,7 +31,7 @@
 //! - **JSON.** An event or a letter left over is written as the one line of JSON that its definition gives.
 //! - **Steps.** An event with what it changed is written as the one line of JSON that its definition gives.
 //! - **Whole histories.** Each event of a history has the changes that the auditor has for it after the events before it.
-//!   (`steps_of`)
+//!   A history is refused only for a cause that the judge has for one of its events. (`steps_of`)
 //! - **The page.** It is the files of the page, with these lines, the counts and the names between them. (`write_page`)
 //! - **Mermaid.** It is written as the line of a sequence diagram that its definition gives.
 //! - **Limits.** At most 1,000,000 turns and 1,000,000 epochs can be asked for. (`limits_stand`)

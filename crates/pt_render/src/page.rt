@@ -6,7 +6,7 @@ pub const PAGE_HEAD: &str = "<!doctype html>
 <head>
 <meta charset=\"utf-8\">
 <meta name=\"viewport\" content=\"width=device-width, initial-scale=1\">
-<meta http-equiv=\"Content-Security-Policy\" content=\"default-src 'none'; style-src 'sha256-D8ZkgwAH3fvl6nnaTwepRzdnnt/UuE5xtdCxtSZBNbA='; script-src 'sha256-mw/qyxtHAzpjfRbaU7KotmuO431bRBBVE6jjbylb+9E='\">
+<meta http-equiv=\"Content-Security-Policy\" content=\"default-src 'none'; style-src 'sha256-OE8a0qlcFmVKpY/yUYejEaeeqFydM/QBWGcrJvBQPGw='; script-src 'sha256-mw/qyxtHAzpjfRbaU7KotmuO431bRBBVE6jjbylb+9E='\">
 <title>A history</title>
 <style>
 :root { --back:#fff; --band:#f5f7fa; --text:#1f2328; --dim:#59636e; --line:#d1d9e0; --life:#8c959f; --pick:#ddf4ff; --picked:#0969da;
@@ -34,15 +34,15 @@ main { flex:1; display:flex; min-height:0 }
 #view { position:sticky; top:0; left:0; overflow:hidden }
 #lanes { position:absolute; top:0 }
 #rows { position:absolute; top:0; left:0; font-family:ui-monospace, \"DejaVu Sans Mono\", monospace; overflow:hidden }
-.row { position:absolute; left:0; white-space:pre; overflow:hidden; text-overflow:ellipsis; padding-left:12px; cursor:pointer }
+.row { position:absolute; left:0; contain:strict; white-space:pre; overflow:hidden; text-overflow:ellipsis; padding-left:12px; cursor:pointer }
 .row b { font-weight:normal; color:var(--dim); display:inline-block }
 .row.at { background:var(--pick) }
 .c-message { color:var(--message) } .c-exit { color:var(--exit) } .c-link { color:var(--link) } .c-monitor { color:var(--monitor) } .c-question { color:var(--question) }
-#side { width:360px; flex:none; border-left:1px solid var(--line); overflow:auto; padding:8px 12px }
+#side { width:360px; flex:none; contain:strict; border-left:1px solid var(--line); overflow:auto; padding:8px 12px }
 #side code, .mono { font-family:ui-monospace, \"DejaVu Sans Mono\", monospace; font-size:12px }
 .steps { display:flex; gap:4px; margin:8px 0; flex-wrap:wrap }
 .what { color:var(--dim) }
-.proc { border:1px solid var(--line); border-radius:6px; padding:4px 8px; margin:6px 0; contain:content }
+.proc { border:1px solid var(--line); border-radius:6px; padding:4px 8px; margin:6px 0; contain:content; content-visibility:auto; contain-intrinsic-height:auto 66px }
 .proc.at { border-color:var(--picked); box-shadow:0 0 0 1px var(--picked) }
 .proc.gone { opacity:.65 }
 .proc h3 { display:flex; gap:8px; align-items:baseline } .proc h3 span { font-weight:normal; color:var(--dim) }

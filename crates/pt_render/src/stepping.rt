@@ -1,11 +1,11 @@
 //! The events of a history, each with what it changed.
 
-ghost use Rattle.std.specs.Prelude.{◌≡◌, ◌∷◌, ◌++◌, [], None, IfOk, OnOk, map};
+ghost use Rattle.std.specs.Prelude.{◌≡◌, ◌∷◌, ◌++◌, [], Err, None, IfErr, IfOk, OnOk, map};
 ghost use Rattle.pt_events.specs.History.{Past, life};
-ghost use Rattle.pt_judge.specs.Judge.{IsAfter};
+ghost use Rattle.pt_judge.specs.Judge.{IsAfter, Judges};
 ghost use Rattle.pt_judge.specs.Judging.{cause, known_state, now_is};
 ghost use Rattle.pt_auditor.specs.Changes.{event_changes};
-ghost use Rattle.pt_render.specs.Pages.{IsStepAdded, step_told, steps_after};
+ghost use Rattle.pt_render.specs.Pages.{IsStepAdded, StepsFail, step_told, steps_after};
 
 use pt_auditor::{Begun, Did};
 use pt_events::Stamped;
@@ -25,7 +25,8 @@ pub struct Step {
 /// Fails with the lowest cause that fits if an event may not come after those before it: no node has such a history.
 /// Fails with [`Cause::Memory`] if there is no memory.
 pub fn steps_of(alloc: Global, events: &[Stamped]) -> Result<Vec<Step>, Cause>
-    ensures { IfOk result (λ list. map step_told list.items ≡ steps_after [] events.now) }
+    ensures told { IfOk result (λ list. map step_told list.items ≡ steps_after [] events.now) }
+    ensures fails { IfErr result (StepsFail [] events.now) }
 {
     let mut state = State::new(alloc);
     let mut list = Vec::new(alloc);
@@ -41,14 +42,17 @@ pub fn steps_of(alloc: Global, events: &[Stamped]) -> Result<Vec<Step>, Cause>
 }
 
 /// The state after an event that is judged first. What it changed is added to the list.
+#[tactic(auto, using(pt_judge::proofs::Trial::judged_some, pt_judge::proofs::Trial::judged_none))]
 fn take_step(
     alloc: Global,
     state: State,
     stamped: Stamped,
     list: &mut Vec<Step>,
 ) -> Result<State, Cause>
-    ensures { (past : Past) → IsAfter [] past state
+    ensures adds { (past : Past) → IsAfter [] past state
         → IfOk result (λ next. IsStepAdded past stamped list.old.items list.new.items next) }
+    ensures fails { (past : Past) → IsAfter [] past state
+        → IfErr result (λ cause. Judges [] past stamped.event (Err cause)) }
 {
     if let Some(cause) = state.cause(stamped.event) {
         return Err(cause);

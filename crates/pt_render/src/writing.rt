@@ -1,6 +1,6 @@
 //! A history that is written with what each event changed: by lines, or as a page for a browser.
 
-ghost use Rattle.std.specs.Prelude.{◌≡◌, OnOk, map};
+ghost use Rattle.std.specs.Prelude.{◌≡◌, ◌++◌, OnOk, codes, map};
 ghost use Rattle.std.specs.Io.KnownBytes.{Appends};
 ghost use Rattle.pt_chart.specs.Drawing.{called_given};
 ghost use Rattle.pt_render.specs.Pages as spec;
@@ -44,7 +44,7 @@ pub fn write_page<W: Write>(
 }
 
 fn write_line<W: Write>(out: &mut W, text: &str) -> io::Result<()>
-    ensures { OnOk result (Appends (W.contents out.old) (W.contents out.new) (spec.line_of text.now)) }
+    ensures { OnOk result (Appends (W.contents out.old) (W.contents out.new) (text.now ++ codes "\n")) }
 {
     writeln!(out, "{text}")
 }
@@ -115,7 +115,7 @@ fn desks_of(steps: &[Step]) -> u16
 
 fn write_names<W: Write>(out: &mut W, called: &[Called<'_>]) -> io::Result<()>
     ensures { OnOk result (Appends (W.contents out.old) (W.contents out.new)
-        (spec.line_of (spec.names_json (map called_given called.now)))) }
+        (spec.names_json (map called_given called.now) ++ codes "\n")) }
 {
     let names = JsonNames(called);
     writeln!(out, "{names}")

@@ -1,12 +1,17 @@
 -- `steps_of`: its contract, and its loop.
 use Rattle.std.proofs.lemmas.List.{nil_from_length}
-use Rattle.pt_render.proofs.OneByOne.{ended, goes_on}
+use Rattle.pt_render.proofs.OneByOne.{ended, goes_on, stopped}
 use Rattle.pt_render.proofs.stepping.steps_of.Goals as goal
 
 pub loop-first-preserved : goal.loop-first-preserved
 loop-first-preserved c =
     let k = c.loop-first.invariant in
-    goes_on c.args.events.now c.loop-first.rest.now c.in-Some.more.now c.in-Some.first.now c.loop-first.list.items c.take_step.new.list.items c.loop-first.state c.in-Ok.next k c.in-Some.ensures.cases.0 (c.in-Ok.ensures k.past k.after)
+    goes_on c.args.events.now c.loop-first.rest.now c.in-Some.more.now c.in-Some.first.now c.loop-first.list.items c.take_step.new.list.items c.loop-first.state c.in-Ok.next k c.in-Some.ensures.cases.0 (c.in-Ok.ensures.adds k.past k.after)
 
-pub returns : goal.returns
-returns c = ended c.args.events.now c.loop-first.rest.now c.loop-first.list.items c.loop-first.state c.loop-first.invariant (nil_from_length c.loop-first.rest.now c.in_default.ensures.cases)
+pub returns-clause-told : goal.returns-clause-told
+returns-clause-told c = ended c.args.events.now c.loop-first.rest.now c.loop-first.list.items c.loop-first.state c.loop-first.invariant (nil_from_length c.loop-first.rest.now c.in_default.ensures.cases)
+
+pub returns-in-Err-clause-fails : goal.returns-in-Err-clause-fails
+returns-in-Err-clause-fails c =
+    let k = c.loop-first.invariant in
+    stopped c.args.events.now c.loop-first.rest.now c.in-Some.more.now c.in-Some.first.now c.loop-first.list.items c.loop-first.state c.in-Err.cause k c.in-Some.ensures.cases.0 (c.in-Err.ensures.fails k.past k.after)
