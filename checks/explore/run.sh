@@ -11,13 +11,13 @@
 # The scripts of checks/examples have one case each, with the numbers of schedules and
 # outcomes that a model apart from this program counted; docs/EXPLORE.md has the race and how it is mended. In apart.json
 # three desks take three turns each and never meet, so there are 9! / (3! 3! 3!) schedules. Some cases are run on two and on
-# four threads too. The program is bin/pt_explore, which is built first if it is not up to date.
+# four threads too. The programs are bin/pt_explore and bin/pt_run, which are built first if they are not up to date.
 set -euo pipefail
 shopt -s nullglob
 
 here=$(cd "$(dirname "$0")" && pwd)
 source "$here/../../.ci/cases"
-"$root/.ci/build" pt_explore
+"$root/.ci/build" pt_explore pt_run
 room=$root
 
 for case in "$here"/*.args; do
@@ -68,5 +68,20 @@ done
 # A person who looks on is told how many schedules were run so far; a file of standard error (above) is told nothing.
 ran[watched]=1
 python3 "$here/watched.py" "$root/bin/pt_explore" "$here/race.json" || wrong watched "a terminal is told nothing"
+
+# On a terminal a refused script is explained.
+refused=$here/../examples/refused/explained_scope.json
+ran[on_a_terminal]=1
+"$here/../examples/explained_on_a_terminal.py" "$root/bin/pt_explore" "$refused" >"$work/terminal"
+cmp "$refused.stderr" "$work/terminal" || wrong on_a_terminal "it says something else"
+
+# Of random scripts it counts the states and the schedules of moves that a model apart from it has.
+ran[moves]=1
+python3 "$here/moves.py" "$root/bin/pt_explore" || wrong moves "the model counts otherwise"
+
+# A run on threads ends as a schedule of moves does.
+ran[on_threads]=1
+scripts=("$here"/moves_{causal,cross,glare,same_desk}.json "$here"/{race,mended}.json)
+python3 "$here/on_threads.py" "$root/bin/pt_run" "${scripts[@]}" --runs 60 || wrong on_threads "a run on threads ends otherwise"
 
 verdict explore

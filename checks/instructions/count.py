@@ -4,14 +4,17 @@
     checks/instructions/count.py             compares
     checks/instructions/count.py --write     writes the table anew, and the pages that quote it
 
-It builds bench/rattle/pt_bench_counts without proofs, as a proved program is compiled (`.ci/as_proved.py`), and runs it under
-callgrind twice: each workload 1,024 times, and 2,048 times. A row is what a workload's function takes more in the second
-run, divided by 1,024. So it is the same whatever else the machine does.
+It builds bench/rattle/pt_bench_counts and pt_bench_restarts without proofs, as a proved program is compiled
+(`.ci/as_proved.py`), and runs each under callgrind twice: each workload 1,024 times, and 2,048 times. A row is what a workload's
+function takes more in the second run, divided by 1,024. So it is the same whatever else the machine does.
 
 The rows of Rust's runtime are of checks/instructions/runtime, over a library that is compiled in the same way. It does one
 workload in a run, and the row is what all its threads take. On one desk that differs by less than a thousandth from run to
 run. Another rustc makes other code, so these rows are compared if the rustc is that of the table. Without cargo they are
 left out.
+
+A child is restarted 16,384 and 32,768 times. A restart among 10,000 children may take 1.2 times the instructions of one among
+10 at most.
 
 A row that is more than 2 % above the table is a loss, and fails. One that is more than 2 % below it fails too, until the table
 is written anew: a later loss would not be seen otherwise. The last line is 'N passed, M failed', and the status is 0 if nothing
@@ -39,7 +42,10 @@ KEPT = ROOT / "bin" / "counted"
 RUNTIME = ROOT / "checks" / "instructions" / "runtime"
 TABLE = ROOT / "docs" / "instructions.txt"
 PROGRAM = "pt_bench_counts"
+RESTARTS = "pt_bench_restarts"
 TIMES = 1_024
+# How often a child is restarted: tables of ten thousand are laid out anew some times meanwhile.
+RESTARTED = 16 * TIMES
 # How many hundredths a row may differ from the table.
 SLACK = 2
 
@@ -66,6 +72,14 @@ ROWS = {
     "kept::name": "a name that is registered, looked up and given up",
     "kept::timer": "a timer that fires and one that is cancelled, beside 1,000",
 }
+# The workloads of pt_bench_restarts.
+RESTART_ROWS = {
+    "restarts::among_10": "supervisor: a restart among 10 children",
+    "restarts::among_10_000": "supervisor: a restart among 10,000 children",
+}
+# Rows that take about what another one takes, whatever differs in their names: at most so many hundredths of it.
+ALIKE = {"supervisor: a restart among 10,000 children": "supervisor: a restart among 10 children"}
+MOST_ALIKE = 120
 # The workloads of Rust's runtime, and what one of each is.
 RUNTIME_ROWS = {
     "message": "Rust's runtime: a message between two processes",
@@ -94,28 +108,28 @@ def run(words: list[str], **variables: str) -> str:
     return ran.stdout
 
 
-def lay_out(place: Path) -> None:
+def lay_out(place: Path, program: str) -> None:
     """Lays out the repository's crates as links, with the program beside them. Programs that are built stay in bin/counted."""
     KEPT.mkdir(parents=True, exist_ok=True)
     (place / "bin").symlink_to(KEPT)
-    sources = place / "crates" / PROGRAM / "src"
+    sources = place / "crates" / program / "src"
     sources.mkdir(parents=True)
     for crate in (ROOT / "crates").iterdir():
         (place / "crates" / crate.name).symlink_to(crate)
-    for file in [*(BENCH / PROGRAM).glob("*.rt.txt"), BENCH / "pt_bench_desk" / "tools.rt.txt"]:
+    for file in [*(BENCH / program).glob("*.rt.txt"), BENCH / "pt_bench_desk" / "tools.rt.txt"]:
         shutil.copyfile(file, sources / file.stem)
-    listed = re.search(rf"^{PROGRAM}: .*$", (BENCH / "crates").read_text(), re.M)
+    listed = re.search(rf"^{program}: .*$", (BENCH / "crates").read_text(), re.M)
     if not listed:
-        raise Fault(f"bench/rattle/crates has no line '{PROGRAM}:'")
+        raise Fault(f"bench/rattle/crates has no line '{program}:'")
     (place / "crates.txt").write_text(f"{(ROOT / 'crates.txt').read_text()}\n{listed[0]}\n")
 
 
-def built() -> Path:
-    """The program, which is built anew if a source has changed."""
+def built(program: str) -> Path:
+    """A program, which is built anew if a source has changed."""
     with tempfile.TemporaryDirectory(prefix="counted-") as folder:
-        lay_out(Path(folder))
-        run([str(ROOT / ".ci" / "build"), "--in", folder, "--as-proved", PROGRAM])
-    return KEPT / PROGRAM
+        lay_out(Path(folder), program)
+        run([str(ROOT / ".ci" / "build"), "--in", folder, "--as-proved", program])
+    return KEPT / program
 
 
 def built_runtime() -> Path:
@@ -179,13 +193,13 @@ def count_runs(program: Path, workloads: dict[str, str]) -> dict[str, int]:
     return {row: round((whole(program, name, 2 * TIMES) - whole(program, name, TIMES)) / TIMES) for name, row in workloads.items()}
 
 
-def count(program: Path, functions: dict[str, str]) -> dict[str, int]:
+def count(program: Path, functions: dict[str, str], times: int = TIMES) -> dict[str, int]:
     """The instructions of one of each workload, by its row."""
-    few, many = counted(program, TIMES), counted(program, 2 * TIMES)
+    few, many = counted(program, times), counted(program, 2 * times)
     missing = [name for name in functions if name not in few or name not in many]
     if missing:
         raise Fault(f"{program.name} has no function {missing[0]}")
-    return {row: round((many[name] - few[name]) / TIMES) for name, row in functions.items()}
+    return {row: round((many[name] - few[name]) / times) for name, row in functions.items()}
 
 
 def read(table: Path) -> dict[str, int]:
@@ -221,11 +235,18 @@ def fault(row: str, number: int, known: dict[str, int]) -> str | None:
     return None
 
 
+def growth(counts: dict[str, int]) -> list[str]:
+    """Which rows take more than they may beside another one."""
+    both = [(row, counts[row], counts[other]) for row, other in ALIKE.items() if row in counts and other in counts]
+    return [f"{row}: {number:,} instructions, which is more than {MOST_ALIKE / 100} times {other:,}"
+            for row, number, other in both if number * 100 > other * MOST_ALIKE]
+
+
 def faults(counts: dict[str, int], known: dict[str, int]) -> list[str]:
     """What is wrong with the rows and with the table."""
     found = [fault(row, number, known) for row, number in counts.items()]
     gone = [f"{row}: the table has a row that is not counted: write it anew (--write)" for row in known if row not in counts]
-    return [*(it for it in found if it), *gone]
+    return [*(it for it in found if it), *gone, *growth(counts)]
 
 
 def main(words: list[str]) -> int:
@@ -238,7 +259,8 @@ def main(words: list[str]) -> int:
     known, rustc = read(TABLE), run(["rustc", "--version"]).strip() if shutil.which("cargo") else ""
     if asked.write and not rustc:
         raise Fault("no cargo, and the table has rows of Rust's runtime, too")
-    counts = count(built(), {f"{PROGRAM}::{name}": row for name, row in ROWS.items()})
+    counts = count(built(PROGRAM), {f"{PROGRAM}::{name}": row for name, row in ROWS.items()})
+    counts.update(count(built(RESTARTS), {f"{RESTARTS}::{name}": row for name, row in RESTART_ROWS.items()}, RESTARTED))
     if asked.write or rustc == rustc_of(TABLE):
         counts.update(count_runs(built_runtime(), RUNTIME_ROWS))
     else:

@@ -91,6 +91,10 @@ def tables() -> None:
     holds("more than 2 % less fails", len(count.faults({"a": 979, "b": 50}, known)) == 1)
     holds("a row that the table lacks fails", len(count.faults({**known, "c": 1}, known)) == 1)
     holds("a row that is not counted fails", len(count.faults({"a": 1_000}, known)) == 1)
+    many, few = next(iter(count.ALIKE.items()))
+    holds("1.2 times passes for rows that are alike", not count.growth({many: 1_200, few: 1_000}))
+    told = count.growth({many: 1_201, few: 1_000})
+    holds("more fails, and both numbers are named", len(told) == 1 and "1,201" in told[0] and "1,000" in told[0])
 
 
 def without_valgrind(folder: Path) -> None:
@@ -104,7 +108,7 @@ def without_valgrind(folder: Path) -> None:
 def by_another_rustc() -> None:
     """Without cargo, or by another rustc, the rows of Rust's runtime are left out. They are compared by that of the table."""
     known = count.read(count.TABLE)
-    rows = {row: known[row] for row in count.ROWS.values()}
+    rows = {row: known[row] for row in (*count.ROWS.values(), *count.RESTART_ROWS.values())}
     runtime = {row: known[row] for row in count.RUNTIME_ROWS.values()}
     here = count.rustc_of(count.TABLE)
     for cargo, rustc, counted, status in (

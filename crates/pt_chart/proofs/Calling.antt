@@ -1,5 +1,5 @@
 -- The first name that is given to a pid stands at the first place of the pid.
-use Rattle.std.proofs.Common.{◌≡◌, ℕ, suc, ◌+◌, ◌≤◌, List, [], ◌∷◌, Bool, true, false, not, cond, map, length, get_or, Option, Some, None, refl, ap, sym, ◌∙◌, ltb-false, arith}
+use Rattle.std.proofs.Common.{◌≡◌, ℕ, suc, ◌+◌, ◌≤◌, List, [], ◌∷◌, Bool, true, false, not, cond, map, length, get_or, Option, Some, None, refl, ap, sym, ◌∙◌, ltb-false, ltb-true, ◌<◌, arith}
 use Rattle.std.specs.Prelude.{nat_lt, position, unwrap_or}
 use Rattle.std.specs.List.{position_or_len}
 use Rattle.std.specs.Map.{lookup}
@@ -43,3 +43,10 @@ module _ (p : Pid) where
   named_nowhere xs h =
       let n = position_or_len is_of xs in
       sym (first xs ∙ ap (λ c. c.name.now) (get_or_past xs n nothing (none n (length xs) h)))
+
+  pub named_within : (xs : List Called) (k : ℕ) → Some k ≡ position is_of xs → k < length xs
+  named_within xs k h = go (nat_lt (position_or_len is_of xs) (length xs)) refl h
+    where
+      go : (b : Bool) → nat_lt (position_or_len is_of xs) (length xs) ≡ b → Some k ≡ cond b (Some (position_or_len is_of xs)) None → k < length xs
+      go true e s = let same = at true (position_or_len is_of xs) k s in let less = ltb-true (position_or_len is_of xs) (length xs) e in omega (arith, same, less)
+      go false e s = absurd (cc)

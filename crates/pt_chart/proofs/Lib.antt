@@ -10,3 +10,5 @@ pub mod Numbering
 pub mod Writing
 pub mod Calling
 pub mod Mentioning
+pub mod Desks
+pub mod Naming

@@ -1,18 +1,16 @@
 -- The events that name a process: an event that does not name it changes nothing of it, so those that do are all that it
 -- takes.
-use Rattle.std.proofs.Common.{◌≡◌, ℕ, zero, suc, ◌+◌, ◌-◌, ◌<◌, ◌≤◌, Bool, true, false, cond, ◌||◌, List, [], ◌∷◌, ◌++◌, length, map, take, drop, get_or, Option, Some, None, refl, ap, sym, subst, ◌∙◌, add-one, append_assoc, append-nil, below_more, lt-ltb, le-ltb, eq-eqb, arith}
-use Rattle.std.specs.Prelude.{fold, position, nat_lt, ◌==◌, is_some, slice_get, ⊤}
-use Rattle.std.specs.List.{list_any, insert}
+use Rattle.std.proofs.Common.{◌≡◌, ℕ, zero, suc, ◌+◌, ◌-◌, ◌<◌, ◌≤◌, Bool, true, false, cond, ◌||◌, List, [], ◌∷◌, ◌++◌, length, map, take, drop, get_or, Option, Some, None, refl, ap, sym, subst, ◌∙◌, add-one, append_assoc, append-nil, below_more, lt-ltb, le-ltb, arith}
+use Rattle.std.specs.Prelude.{position, nat_lt}
+use Rattle.std.specs.List.{list_any}
 use Rattle.std.proofs.Math.Seq.{drop-cons}
-use Rattle.std.proofs.Math.ListN.{take-append-drop}
 use Rattle.std.proofs.lemmas.Bool.{both_ways}
 use Rattle.std.proofs.lemmas.List.{drop_all}
-use Rattle.std.proofs.lemmas.List.Folds.{list_any-append}
 use Rattle.std.proofs.lemmas.List.Sums.{position_or_len_is}
 use Rattle.pt_signal.specs.declared.pid.Pid.{Pid}
 use Rattle.pt_signal.specs.declared.reason.Reason.{Reason}
 use Rattle.pt_signal.specs.Values.{same_pid}
-use Rattle.pt_signal.proofs.Same.{same_pid_is, same_pid_refl}
+use Rattle.pt_signal.proofs.Same.{same_pid_is}
 use Rattle.pt_events.specs.declared.event.Event.{Event}
 use Rattle.pt_events.specs.declared.event.Event.TheVariants.{Born, Said, Came, Took, Flag, Left, Refused}
 use Rattle.pt_events.specs.declared.event.Stamped.{Stamped}
@@ -20,12 +18,11 @@ use Rattle.pt_events.specs.History.{Past, Phase, unborn, living, ended, life, to
 use Rattle.pt_events.proofs.Steps.{untouched}
 use Rattle.pt_chart.specs.declared.layout.Sending.{Sending}
 use Rattle.pt_chart.specs.Following.{Followed, followed, seen_followed, sends_followed, ends_followed, OpensAnew, noted}
-use Rattle.pt_chart.specs.Chart.{named_columns, place_behind, join, joined_columns, everyone, past_of, sent_of, sent_at, end_of, end_between, is_receipt, MonitorsAnew}
-use Rattle.pt_chart.specs.Drawing.{is_in_block}
-use Rattle.pt_chart.specs.Mentioning.{is_mentioned, mentions_from, mentions, AreMentions, begins_at}
+use Rattle.pt_chart.specs.Chart.{past_of, sent_of, sent_at, end_of, end_between, is_receipt, MonitorsAnew}
+use Rattle.pt_chart.specs.Mentioning.{is_mentioned, mentions_from, mentions, AreMentions}
 use Rattle.pt_chart.specs.Receiving.{QueuedRows, rows_queued, RowIsQueued, IsQueuedBy}
 use Rattle.pt_chart.proofs.Tracing.{Traces, trace_row, traced}
-use Rattle.pt_chart.proofs.Rows.{past_more, past_rows, everyone_more}
+use Rattle.pt_chart.proofs.Rows.{past_more, past_rows}
 use Rattle.pt_chart.proofs.Arrivals.{Queues, queues_next, same_pid_turned}
 
 -- the index -------------------------------------------------------------------------------------------
@@ -79,15 +76,6 @@ noted_both p r at old mid new apart first second q =
         absurd (both_ways (same_pid p r) apart (subst (λ z. same_pid z r ≡ true) same f))
     by true e false f = rw e (rw f (append-nil (rows_queued old q ++ at ∷ [])))
     by false e b f = rw e (ap (λ z. z ++ cond (same_pid q r || false) (at ∷ []) []) (append-nil (rows_queued old q)))
-
--- who has a mention in a block is named in it
-pub mentioned : (p : Pid) (at : ℕ) (block : List Stamped) → is_some (slice_get (mentions_from at p block) 0) ≡ is_in_block block p
-mentioned p at [] = refl
-mentioned p at (s ∷ block) = by (is_mentioned p s.event) (mentioned p (at + 1) block)
-  where
-    by : (t : Bool) → is_some (slice_get (mentions_from (at + 1) p block) 0) ≡ is_in_block block p → is_some (slice_get (cond t (at ∷ mentions_from (at + 1) p block) (mentions_from (at + 1) p block)) 0) ≡ (t || is_in_block block p)
-    by true later = refl
-    by false later = later
 
 -- from one mention to the next ------------------------------------------------------------------------
 
@@ -313,119 +301,3 @@ module _ (p : Pid) (events : List Stamped) (d : Stamped) (own : List ℕ) (k : �
 
   pub birth_none : length own ≤ k → Seen p events (drop k own) (Unborn p events d) → None ≡ position (λ (s : Stamped). is_birth p s.event) events
   birth_none h s = never_born p events d (seen_all p events d (Unborn p events d) (unborn_stays p events d) own k h s)
-
--- who is named for the first time ---------------------------------------------------------------------
-
-or_true_right : (a b : Bool) → b ≡ true → (a || b) ≡ true
-or_true_right true b h = refl
-or_true_right false b h = h
-
--- who is among others stays so where one more joins
-inserted : (f : Pid → Bool) (ps : List Pid) (k : ℕ) (q : Pid) (a b : Bool) → list_any f (take k ps) ≡ a → list_any f (drop k ps) ≡ b → list_any f (insert ps k q) ≡ (a || (f q || b))
-inserted f ps k q a b h i = list_any-append f (take k ps) (q ∷ drop k ps) ∙ rw h (rw i refl)
-
-parted : (f : Pid → Bool) (ps : List Pid) (k : ℕ) → list_any f ps ≡ (list_any f (take k ps) || list_any f (drop k ps))
-parted f ps k = ap (list_any f) (sym (take-append-drop k ps)) ∙ list_any-append f (take k ps) (drop k ps)
-
-either : (a c b : Bool) → (c || (a || b)) ≡ true → (a || (c || b)) ≡ true
-either true c b h = refl
-either false c b h = h
-
-insert_has : (f : Pid → Bool) (ps : List Pid) (k : ℕ) (q : Pid) → (f q || list_any f ps) ≡ true → list_any f (insert ps k q) ≡ true
-insert_has f ps k q h =
-    inserted f ps k q (list_any f (take k ps)) (list_any f (drop k ps)) refl refl
-    ∙ either (list_any f (take k ps)) (f q) (list_any f (drop k ps)) (sym (ap (λ b. f q || b) (parted f ps k)) ∙ h)
-
-join_has : (p : Pid) (ps : List Pid) (q : Pid) → (same_pid p q || list_any (same_pid p) ps) ≡ true → list_any (same_pid p) (join ps q) ≡ true
-join_has p ps q h = by (list_any (same_pid q) ps) refl (same_pid p q) refl h
-  where
-    by : (t : Bool) → list_any (same_pid q) ps ≡ t → (u : Bool) → same_pid p q ≡ u → (u || list_any (same_pid p) ps) ≡ true → list_any (same_pid p) (cond t ps (insert ps (place_behind ps q) q)) ≡ true
-    by true e true i k = subst (λ z. list_any (same_pid z) ps ≡ true) (sym (same_pid_is p q i)) e
-    by true e false i k = k
-    by false e u i k = insert_has (same_pid p) ps (place_behind ps q) q (ap (λ b. b || list_any (same_pid p) ps) i ∙ k)
-
-joined_has : (p : Pid) (ps qs : List Pid) → (list_any (same_pid p) qs || list_any (same_pid p) ps) ≡ true → list_any (same_pid p) (joined_columns ps qs) ≡ true
-joined_has p ps [] h = h
-joined_has p ps (q ∷ qs) h = joined_has p (join ps q) qs (by (same_pid p q) (list_any (same_pid p) qs) (list_any (same_pid p) ps) refl refl h)
-  where
-    by : (a b c : Bool) → same_pid p q ≡ a → list_any (same_pid p) ps ≡ c → ((a || b) || c) ≡ true → (b || list_any (same_pid p) (join ps q)) ≡ true
-    by a true c e i k = refl
-    by true false c e i k = join_has p ps q (ap (λ z. z || list_any (same_pid p) ps) e)
-    by false false c e i k = join_has p ps q (or_true_right (same_pid p q) (list_any (same_pid p) ps) (i ∙ k))
-
-abbrev naming : Pid → List Stamped → Bool
-naming p events = list_any (λ (s : Stamped). is_mentioned p s.event) events
-
-everyone_has : (p : Pid) (ps : List Pid) (events : List Stamped) → (naming p events || list_any (same_pid p) ps) ≡ true
-    → list_any (same_pid p) (fold (λ (ps : List Pid) (s : Stamped). joined_columns ps (named_columns s.event)) ps events) ≡ true
-everyone_has p ps [] h = h
-everyone_has p ps (s ∷ events) h = everyone_has p (joined_columns ps (named_columns s.event)) events (by (is_mentioned p s.event) (naming p events) (list_any (same_pid p) ps) refl refl h)
-  where
-    by : (a b c : Bool) → is_mentioned p s.event ≡ a → list_any (same_pid p) ps ≡ c → ((a || b) || c) ≡ true → (b || list_any (same_pid p) (joined_columns ps (named_columns s.event))) ≡ true
-    by a true c e i k = refl
-    by true false c e i k = joined_has p ps (named_columns s.event) (ap (λ z. z || list_any (same_pid p) ps) e)
-    by false false c e i k = joined_has p ps (named_columns s.event) (or_true_right (is_mentioned p s.event) (list_any (same_pid p) ps) (i ∙ k))
-
--- none of the first events names it, so its mentions begin behind them
-none_before : (p : Pid) (n b : ℕ) (events : List Stamped) → naming p (take n events) ≡ false → mentions_from b p events ≡ mentions_from (b + n) p (drop n events)
-none_before p zero b events h = let same : b ≡ b + 0 = omega arith in ap (λ k. mentions_from k p events) same
-none_before p (suc n) b [] h = refl
-none_before p (suc n) b (s ∷ events) h =
-    let no : is_mentioned p s.event ≡ false = or_left (is_mentioned p s.event) (naming p (take n events)) h in
-    let on : b + 1 + n ≡ b + suc n = omega arith in
-    rw no (none_before p n (b + 1) events (or_right (is_mentioned p s.event) (naming p (take n events)) h) ∙ ap (λ k. mentions_from k p (drop n events)) on)
-
--- it is named by this event, and not for the first time
-known : (p : Pid) (events : List Stamped) (at : ℕ) (d : Stamped) → at < length events → is_mentioned p (get_or events at d).event ≡ true → begins_at at (mentions p events) ≡ false
-    → list_any (same_pid p) (everyone (take at events)) ≡ true
-known p events at d h named again = by (naming p (take at events)) refl
-  where
-    by : (t : Bool) → naming p (take at events) ≡ t → list_any (same_pid p) (everyone (take at events)) ≡ true
-    by true e = everyone_has p [] (take at events) (ap (λ b. b || false) e)
-    by false e =
-        let front : 0 + at ≡ at = omega arith in
-        let first : mentions p events ≡ at ∷ mentions_from (at + 1) p (drop (at + 1) events) =
-        none_before p at 0 events e ∙ ap (λ k. mentions_from k p (drop at events)) front ∙ at_event p events at d h ∙ ap (λ b. cond b (at ∷ mentions_from (at + 1) p (drop (at + 1) events)) (mentions_from (at + 1) p (drop (at + 1) events))) named
-        in
-        let yes : (at == at) ≡ true = eq-eqb at at refl in
-        absurd (both_ways (begins_at at (mentions p events)) again (ap (begins_at at) first ∙ yes))
-
--- this holds of each
-abbrev Each : (Pid → Type 0) → List Pid → Type 0
-Each Holds [] = ⊤
-Each Holds (q ∷ qs) = Holds q × Each Holds qs
-
--- who is among others already does not join again
-joined_known : (ps qs : List Pid) → Each (λ (q : Pid). list_any (same_pid q) ps ≡ true) qs → joined_columns ps qs ≡ ps
-joined_known ps [] h = refl
-joined_known ps (q ∷ qs) h = let there : join ps q ≡ ps = rw h.0 refl in ap (λ z. joined_columns z qs) there ∙ joined_known ps qs h.1
-
-each_known : (events : List Stamped) (queued : QueuedRows) (at : ℕ) (d : Stamped) → at < length events → AreMentions events queued → (qs : List Pid) → Each (λ (q : Pid). is_mentioned q (get_or events at d).event ≡ true) qs
-    → list_any (λ (q : Pid). begins_at at (rows_queued queued q)) qs ≡ false → Each (λ (q : Pid). list_any (same_pid q) (everyone (take at events)) ≡ true) qs
-each_known events queued at d h are [] named none = tt
-each_known events queued at d h are (q ∷ qs) named none =
-    let rest = list_any (λ (r : Pid). begins_at at (rows_queued queued r)) qs in (
-      known q events at d h named.0 (sym (ap (begins_at at) (are q)) ∙ or_left (begins_at at (rows_queued queued q)) rest none),
-      each_known events queued at d h are qs named.1 (or_right (begins_at at (rows_queued queued q)) rest none),
-    )
-
-first_named : (p : Pid) (qs : List Pid) → list_any (same_pid p) (p ∷ qs) ≡ true
-first_named p qs = rw (same_pid_refl p) refl
-
-all_named : (e : Event) → Each (λ (q : Pid). is_mentioned q e ≡ true) (named_columns e)
-all_named (Born p None link) = (first_named p [], tt)
-all_named (Born p (Some q) link) = (first_named q (p ∷ []), (or_true_right (same_pid p q) (list_any (same_pid p) (p ∷ [])) (first_named p []), tt))
-all_named (Said a b x) = (first_named a (b ∷ []), (or_true_right (same_pid b a) (list_any (same_pid b) (b ∷ [])) (first_named b []), tt))
-all_named (Came a b x) = (first_named a (b ∷ []), (or_true_right (same_pid b a) (list_any (same_pid b) (b ∷ [])) (first_named b []), tt))
-all_named (Took p k i) = (first_named p [], tt)
-all_named (Flag p on) = (first_named p [], tt)
-all_named (Left p r) = (first_named p [], tt)
-all_named (Refused a b) = (first_named a [], tt)
-
--- an event that names nobody for the first time adds no column
-pub nobody_new : (events : List Stamped) (queued : QueuedRows) (at : ℕ) (d : Stamped) → at < length events → AreMentions events queued
-    → list_any (λ (q : Pid). begins_at at (rows_queued queued q)) (named_columns (get_or events at d).event) ≡ false → everyone (take (at + 1) events) ≡ everyone (take at events)
-nobody_new events queued at d h are none =
-    let e = (get_or events at d).event in
-    everyone_more events at d h
-    ∙ joined_known (everyone (take at events)) (named_columns e) (each_known events queued at d h are (named_columns e) (all_named e) none)

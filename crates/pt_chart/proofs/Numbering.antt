@@ -19,7 +19,7 @@ module _ {X Y : Type 0} (f : ℕ → X → List Y) where
       ap (λ ps. f n x ++ ps) (from_more (n + 1) xs i d (omega arith) ∙ ap (λ k. from (n + 1) (take i xs) ++ f k (get_or xs i d)) e)
       ∙ sym (append_assoc (f n x) (from (n + 1) (take i xs)) (f (n + suc i) (get_or xs i d)))
 
-  next : (xs : List X) (i : ℕ) (x : X) → i < length xs → each_numbered f (take i xs) ++ f i (get_or xs i x) ≡ each_numbered f (take (i + 1) xs)
+  pub next : (xs : List X) (i : ℕ) (x : X) → i < length xs → each_numbered f (take i xs) ++ f i (get_or xs i x) ≡ each_numbered f (take (i + 1) xs)
   next xs i x h =
       let here : 0 + i ≡ i = omega arith in
       let there : suc i ≡ i + 1 = omega arith in

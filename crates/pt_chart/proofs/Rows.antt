@@ -16,7 +16,7 @@ use Rattle.pt_chart.specs.declared.layout.Arrow.{Arrow}
 use Rattle.pt_chart.specs.declared.layout.Column.{Column}
 use Rattle.pt_chart.specs.declared.part.Letter.{Letter}
 use Rattle.pt_chart.specs.declared.layout.Sending.{Sending}
-use Rattle.pt_chart.specs.Chart.{everyone, joined_columns, named_columns, past_of, sent_at}
+use Rattle.pt_chart.specs.Chart.{past_of, sent_at}
 
 -- what one more gives stands behind
 pub one_more_given : {X Y : Type 0} (f : X → Y) (start before after : List Y) (xs : List X) (i : ℕ) (d : X) → i < length xs → before ≡ start ++ map f (take i xs) → after ≡ before ++ f (get_or xs i d) ∷ []
@@ -34,9 +34,6 @@ paid row start before after owed i l b g a =
     ∙ ap (λ z. start ++ z) (sym (ap (map f) (take_more owed i l (slice_get_within owed i l g))
     ∙ map-append f (take i owed) (get_or owed i l ∷ [])
     ∙ ap (λ y. map f (take i owed) ++ f y ∷ []) (get_or_from_slice_get owed i l l g)))
-
-pub everyone_more : (events : List Stamped) (i : ℕ) (d : Stamped) → i < length events → everyone (take (i + 1) events) ≡ joined_columns (everyone (take i events)) (named_columns (get_or events i d).event)
-everyone_more events i d h = fold_more (λ ps s. joined_columns ps (named_columns s.event)) [] events i d h
 
 abbrev pub no_arrow : Arrow
 no_arrow = record { to = 0; signal = Message (record { kind = 0; num = pos 0; who = None }); sent = 0; came = None }

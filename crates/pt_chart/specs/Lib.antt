@@ -5,6 +5,7 @@ pub mod Rows
 pub mod Standing
 pub mod Receiving
 pub mod Mentioning
+pub mod Desks
 pub mod Replying
 pub mod Points
 pub mod Text

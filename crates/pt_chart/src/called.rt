@@ -1,10 +1,10 @@
 //! The names of processes.
 
-ghost use Rattle.std.specs.Prelude.{◌≡◌, ◌<◌, IfOk, IfSome, length, map, position};
-ghost use Rattle.pt_signal.specs.Values.{same_pid};
+ghost use Rattle.std.specs.Prelude.{◌≡◌, IfOk, map};
 ghost use Rattle.pt_chart.specs.Drawing.{called_given, column_name, column_names};
 
 use crate::layout::Column;
+use crate::pids::Pids;
 use pt_signal::Pid;
 use std::alloc::{AllocError, Global};
 
@@ -23,26 +23,45 @@ pub(crate) fn names_of<'a>(
 ) -> Result<Vec<&'a str>, AllocError>
     ensures { IfOk result (λ names. map (λ n. n.now) names.items ≡ column_names (map called_given called.now) columns.now) }
 {
+    let pids = pids_called(alloc, called)?;
+    names_by(alloc, called, &pids, columns)
+}
+
+/// The processes that names are given for.
+fn pids_called(alloc: Global, called: &[Called<'_>]) -> Result<Pids, AllocError>
+    ensures { IfOk result (λ pids. pids ≡ map (λ c. c.pid) called.now) }
+{
+    let mut pids = Vec::with_capacity(alloc, called.len())?;
+    for one in called {
+        pids.push(one.pid)?;
+    }
+    Pids::of(alloc, pids)
+}
+
+/// The names of the columns' processes, if names are given for these ones.
+fn names_by<'a>(
+    alloc: Global,
+    called: &[Called<'a>],
+    pids: &Pids,
+    columns: &[Column],
+) -> Result<Vec<&'a str>, AllocError>
+    requires { pids.now ≡ map (λ c. c.pid) called.now }
+    ensures { IfOk result (λ names. map (λ n. n.now) names.items ≡ column_names (map called_given called.now) columns.now) }
+{
     let mut names = Vec::with_capacity(alloc, columns.len())?;
     for column in columns {
-        names.push(name_of(called, column.pid))?;
+        names.push(name_of(called, pids, column.pid))?;
     }
     Ok(names)
 }
 
 /// The first name that is given for the pid, or an empty one.
-fn name_of<'a>(called: &[Called<'a>], pid: Pid) -> &'a str
+fn name_of<'a>(called: &[Called<'a>], pids: &Pids, pid: Pid) -> &'a str
+    requires { pids.now ≡ map (λ c. c.pid) called.now }
     ensures { result.now ≡ column_name (map called_given called.now) pid }
 {
-    match place_of(called, pid) {
+    match pids.first(pid) {
         Some(place) => called[place].name,
         None => "",
     }
-}
-
-fn place_of(called: &[Called<'_>], pid: Pid) -> Option<usize>
-    ensures place { result ≡ position (λ c. same_pid pid c.pid) called.now }
-    ensures within { IfSome result (λ place. place < length called.now) }
-{
-    called.iter().position(|one| pid == one.pid)
 }

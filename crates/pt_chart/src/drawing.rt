@@ -1,27 +1,30 @@
 //! Drawing the chart, from its background to its foreground.
 
-ghost use Rattle.std.specs.Prelude.{◌≡◌, ◌+◌, ◌==◌, ◌/◌, ◌<◌, [], ◌∷◌, ◌++◌, IfOk, IfSome, OnOk, length, map, not, position, slice_index};
+ghost use Rattle.std.specs.Prelude.{◌≡◌, ◌+◌, ◌==◌, ◌/◌, ◌<◌, [], ◌∷◌, ◌++◌, All, IfOk, IfSome, OnOk, length, map, not, position, slice_index};
 ghost use Rattle.std.specs.Prelude.{List, Option, string_bytes, cond, is_some, slice_get, slice_index_or};
+ghost use Rattle.std.specs.List.{flat_map};
+ghost use Rattle.std.specs.List.Sorted.{IsNonDecreasing};
 ghost use Rattle.std.specs.Option.{option_map};
-ghost use Rattle.pt_signal.specs.Values.{same_pid};
-ghost use Rattle.pt_chart.specs.declared.part.Part.TheVariants.{Flight, Mark as MarkPart, Name, Saying};
+ghost use Rattle.pt_chart.specs.declared.part.Part.TheVariants.{Desk, Flight, Ground, Mark as MarkPart, Name, Saying};
 ghost use Rattle.pt_events.specs.declared.event.Stamped.{Stamped};
-ghost use Rattle.pt_chart.specs.Mentioning.{AreMentions};
-ghost use Rattle.pt_chart.specs.Receiving.{rows_queued};
+ghost use Rattle.pt_chart.specs.Chart.{named_columns};
+ghost use Rattle.pt_chart.specs.Mentioning.{AreNamed, places_of};
 ghost use Rattle.pt_chart.specs.Drawing.{IsChart, all_letters, bears, begins_row, block, column, drawing_text, drawn, drawn_in};
 ghost use Rattle.pt_chart.specs.Drawing.{end, ends_column, ends_row, in_flight, is_at_end, column_letter, letter_beside, letters};
 ghost use Rattle.pt_chart.specs.Drawing.{letters_of, name_in, names_due, page_with, tipped, refused_beside, tip_row};
 ghost use Rattle.pt_chart.specs.Drawing.{event_bearing, event_mark, called_given, ground, line_parts, widest_beside};
-ghost use Rattle.pt_chart.specs.Drawing.{mark, name, column_names, each_numbered, page_of, place_in, starts_desk, widest_refusal};
+ghost use Rattle.pt_chart.specs.Drawing.{mark, name, column_names, each_numbered, page_of, place_in, widest_refusal};
 ghost use Rattle.pt_chart.specs.Rows.{count_of, in_rows, is_at_row};
 ghost use Rattle.pt_events.specs.Counting.{capped};
 
 use crate::called::{Called, names_of};
 use crate::layout::{Arrow, Column, Layout, lay_out};
-use crate::mentions::{Mentions, mentions_of};
+use crate::mentions::named_by;
 use crate::page::{BLOCK, Page};
 use crate::part::{Letter, Mark, Part};
+use crate::pids::Pids;
 use crate::text::{write_head, write_parts};
+use indexmap::IndexSet;
 use pt_events::{Event, Stamped};
 use pt_signal::{Pid, Reason};
 use std::alloc::{AllocError, Global};
@@ -331,33 +334,47 @@ fn parts_of(
     ensures { IfOk result (λ parts. parts.items
         ≡ drawn_in layout.now.rows.items events.now layout.now.columns.items letters.now) }
 {
+    let pids = pids_of(alloc, layout.columns.as_slice())?;
     let mut parts = Vec::new(alloc);
-    match list_parts(alloc, events, layout, letters, &mut parts) {
+    match list_parts(alloc, events, layout, &pids, letters, &mut parts) {
         Ok(()) => Ok(parts),
         Err(error) => Err(error),
     }
 }
 
-/// Lists the parts of the chart, where none is listed yet.
+/// The processes of the columns.
+fn pids_of(alloc: Global, columns: &[Column]) -> Result<Pids, AllocError>
+    ensures { IfOk result (λ pids. pids ≡ map (λ c. c.pid) columns.now) }
+{
+    let mut pids = Vec::with_capacity(alloc, columns.len())?;
+    for column in columns {
+        pids.push(column.pid)?;
+    }
+    Pids::of(alloc, pids)
+}
+
+/// Lists the parts of the chart, where none is listed yet, if these are the processes of its columns.
 fn list_parts(
     alloc: Global,
     events: &[Stamped],
     layout: &Layout,
+    pids: &Pids,
     letters: &[Letter],
     parts: &mut Vec<Part>,
 ) -> Result<(), AllocError>
     requires rows { length layout.now.rows.items ≡ length events.now }
+    requires pids { pids.now ≡ map (λ c. c.pid) layout.now.columns.items }
     requires empty { parts.old.items ≡ [] }
     ensures { OnOk result
         (parts.new.items ≡ drawn_in layout.now.rows.items events.now layout.now.columns.items letters.now) }
 {
     let columns = layout.columns.as_slice();
     let rows = layout.rows.as_slice();
-    list_grounds(columns, parts)?;
-    list_lines(alloc, rows, events, columns, parts)?;
+    list_grounds(alloc, columns, parts)?;
+    list_lines(alloc, rows, events, columns, pids, parts)?;
     list_columns(rows, columns, parts)?;
-    list_bearings(rows, events, columns, parts)?;
-    list_marks(rows, events, columns, parts)?;
+    list_bearings(rows, events, columns, pids, parts)?;
+    list_marks(rows, events, columns, pids, parts)?;
     list_ends(rows, columns, parts)?;
     list_sayings(letters, parts)?;
     list_flights(letters, parts)
@@ -395,49 +412,32 @@ fn row_if(rows: &[usize], event: Option<usize>) -> Option<usize>
 }
 
 /// The ground of each process.
-fn list_grounds(columns: &[Column], parts: &mut Vec<Part>) -> Result<(), AllocError>
+fn list_grounds(alloc: Global, columns: &[Column], parts: &mut Vec<Part>) -> Result<(), AllocError>
     ensures { OnOk result (parts.new.items ≡ parts.old.items ++ each_numbered (ground columns.now) columns.now) }
 {
+    let mut desks = IndexSet::new(alloc);
     for place in 0..columns.len() {
-        list_ground(place, &columns[place], columns, parts)?;
+        let desk = columns[place].pid.shard;
+        let first = desks.insert(desk)?;
+        list_ground(place, desk, first, parts)?;
     }
     Ok(())
 }
 
 /// The ground of a process, and the name of its desk if this is the desk's first column.
 fn list_ground(
-    place: usize,
-    shown: &Column,
-    columns: &[Column],
+    column: usize,
+    desk: u8,
+    first: bool,
     parts: &mut Vec<Part>,
 ) -> Result<(), AllocError>
-    ensures { OnOk result (parts.new.items ≡ parts.old.items ++ ground columns.now place shown.now) }
+    ensures { OnOk result (parts.new.items ≡ parts.old.items ++ Ground column desk ∷ cond first (Desk column desk ∷ []) []) }
 {
-    let desk = shown.pid.shard;
-    parts.push(Part::Ground {
-        column: place,
-        desk,
-    })?;
-    if starts_desk(columns, place, desk) {
-        parts.push(Part::Desk {
-            column: place,
-            desk,
-        })?;
+    parts.push(Part::Ground { column, desk })?;
+    if first {
+        parts.push(Part::Desk { column, desk })?;
     }
     Ok(())
-}
-
-/// Whether the desk has its first column here.
-fn starts_desk(columns: &[Column], place: usize, desk: u8) -> bool
-    ensures { result ≡ starts_desk columns.now place desk }
-{
-    first_of_desk(columns, desk).unwrap_or(0) == place
-}
-
-fn first_of_desk(columns: &[Column], desk: u8) -> Option<usize>
-    ensures { result ≡ position (λ c. c.pid.shard == desk) columns.now }
-{
-    columns.iter().position(|column| column.pid.shard == desk)
 }
 
 /// The line and the life of each process.
@@ -503,12 +503,14 @@ fn list_bearings(
     rows: &[usize],
     events: &[Stamped],
     columns: &[Column],
+    pids: &Pids,
     parts: &mut Vec<Part>,
 ) -> Result<(), AllocError>
+    requires { pids.now ≡ map (λ c. c.pid) columns.now }
     ensures { OnOk result (parts.new.items ≡ parts.old.items ++ each_numbered (bears rows.now columns.now) events.now) }
 {
     for at in 0..events.len() {
-        list_bearing(row_of(rows, at), events[at].event, columns, parts)?;
+        list_bearing(row_of(rows, at), events[at].event, columns, pids, parts)?;
     }
     Ok(())
 }
@@ -517,16 +519,18 @@ fn list_bearing(
     row: usize,
     event: Event,
     columns: &[Column],
+    pids: &Pids,
     parts: &mut Vec<Part>,
 ) -> Result<(), AllocError>
+    requires { pids.now ≡ map (λ c. c.pid) columns.now }
     ensures { OnOk result (parts.new.items ≡ parts.old.items ++ event_bearing columns.now row event) }
 {
     let Event::Born(pid, Some(by), link) = event else {
         return Ok(());
     };
     let mark = Mark::Bearing {
-        parent: column_of(columns, by),
-        child: column_of(columns, pid),
+        parent: column_of(columns, pids, by),
+        child: column_of(columns, pids, pid),
         by,
         linked: link.is_some(),
     };
@@ -538,12 +542,14 @@ fn list_marks(
     rows: &[usize],
     events: &[Stamped],
     columns: &[Column],
+    pids: &Pids,
     parts: &mut Vec<Part>,
 ) -> Result<(), AllocError>
+    requires { pids.now ≡ map (λ c. c.pid) columns.now }
     ensures { OnOk result (parts.new.items ≡ parts.old.items ++ each_numbered (mark rows.now columns.now) events.now) }
 {
     for at in 0..events.len() {
-        list_mark(row_of(rows, at), events[at].event, columns, parts)?;
+        list_mark(row_of(rows, at), events[at].event, columns, pids, parts)?;
     }
     Ok(())
 }
@@ -552,25 +558,27 @@ fn list_mark(
     row: usize,
     event: Event,
     columns: &[Column],
+    pids: &Pids,
     parts: &mut Vec<Part>,
 ) -> Result<(), AllocError>
+    requires { pids.now ≡ map (λ c. c.pid) columns.now }
     ensures { OnOk result (parts.new.items ≡ parts.old.items ++ event_mark columns.now row event) }
 {
     match event {
         Event::Born(pid, _, _) => {
-            let column = column_of(columns, pid);
+            let column = column_of(columns, pids, pid);
             put(row, Mark::Birth { column }, parts)
         }
         Event::Took(pid, _, _) => {
-            let column = column_of(columns, pid);
+            let column = column_of(columns, pids, pid);
             put(row, Mark::Taking { column }, parts)
         }
         Event::Flag(pid, on) => {
-            let column = column_of(columns, pid);
+            let column = column_of(columns, pids, pid);
             put(row, Mark::Trapping { column, on }, parts)
         }
         Event::Refused(from, to) => {
-            let column = column_of(columns, from);
+            let column = column_of(columns, pids, from);
             put(row, Mark::Refusal { column, to }, parts)
         }
         Event::Said(_, _, _) | Event::Came(_, _, _) | Event::Left(_, _) => Ok(()),
@@ -585,16 +593,11 @@ fn put(row: usize, mark: Mark, parts: &mut Vec<Part>) -> Result<(), AllocError>
 }
 
 /// The column of a process; after all columns if it has none.
-fn column_of(columns: &[Column], pid: Pid) -> usize
+fn column_of(columns: &[Column], pids: &Pids, pid: Pid) -> usize
+    requires { pids.now ≡ map (λ c. c.pid) columns.now }
     ensures { result ≡ place_in columns.now pid }
 {
-    position_of(columns, pid).unwrap_or(columns.len())
-}
-
-fn position_of(columns: &[Column], pid: Pid) -> Option<usize>
-    ensures { result ≡ position (λ c. same_pid pid c.pid) columns.now }
-{
-    columns.iter().position(|column| pid == column.pid)
+    pids.first(pid).unwrap_or(columns.len())
 }
 
 /// A cross at the exit of each process.
@@ -631,14 +634,16 @@ fn list_lines(
     rows: &[usize],
     events: &[Stamped],
     columns: &[Column],
+    pids: &Pids,
     parts: &mut Vec<Part>,
 ) -> Result<(), AllocError>
-    requires { length rows.now ≡ length events.now }
+    requires rows { length rows.now ≡ length events.now }
+    requires pids { pids.now ≡ map (λ c. c.pid) columns.now }
     ensures { OnOk result
         (parts.new.items ≡ parts.old.items ++ each_numbered (line_parts rows.now events.now columns.now) events.now) }
 {
     for at in 0..events.len() {
-        list_line(alloc, rows, events, at, columns, parts)?;
+        list_line(alloc, rows, events, at, columns, pids, parts)?;
     }
     Ok(())
 }
@@ -650,17 +655,19 @@ fn list_line(
     events: &[Stamped],
     at: usize,
     columns: &[Column],
+    pids: &Pids,
     parts: &mut Vec<Part>,
 ) -> Result<(), AllocError>
     requires rows { length rows.now ≡ length events.now }
     requires within { at < length rows.now }
+    requires pids { pids.now ≡ map (λ c. c.pid) columns.now }
     ensures { (event : Stamped) → OnOk result
         (parts.new.items
         ≡ parts.old.items ++ line_parts rows.now events.now columns.now at (slice_index_or events.now at event)) }
 {
     let first = begins_row(rows, at);
     if first {
-        list_names(alloc, rows, events, at, columns, parts)?;
+        list_names(alloc, rows, events, at, columns, pids, parts)?;
     }
     parts.push(Part::Line {
         row: rows[at],
@@ -694,10 +701,12 @@ fn list_names(
     events: &[Stamped],
     at: usize,
     columns: &[Column],
+    pids: &Pids,
     parts: &mut Vec<Part>,
 ) -> Result<(), AllocError>
     requires rows { length rows.now ≡ length events.now }
     requires within { at < length rows.now }
+    requires pids { pids.now ≡ map (λ c. c.pid) columns.now }
     ensures { OnOk result
         (parts.new.items ≡ parts.old.items ++ names_due rows.now events.now columns.now at) }
 {
@@ -708,7 +717,7 @@ fn list_names(
     if row == 0 {
         return list_all_names(row, columns, parts);
     }
-    list_names_in(alloc, block_of(rows, events, at), row, columns, parts)
+    list_names_in(alloc, block_of(rows, events, at), row, columns, pids, parts)
 }
 
 /// The event and those after it in the same 40 rows.
@@ -738,42 +747,71 @@ fn list_names_in(
     block: &[Stamped],
     row: usize,
     columns: &[Column],
+    pids: &Pids,
     parts: &mut Vec<Part>,
 ) -> Result<(), AllocError>
+    requires { pids.now ≡ map (λ c. c.pid) columns.now }
     ensures { OnOk result (parts.new.items ≡ parts.old.items ++ each_numbered (name_in block.now row) columns.now) }
 {
-    let mentions = mentions_of(alloc, block)?;
-    list_names_of(&mentions, row, columns, parts)
+    let named = columns_named(alloc, block, pids)?;
+    list_names_of(named.as_slice(), row, columns, parts)
 }
 
-/// The names of the processes that are mentioned, if these are the mentions of a block.
+/// The columns of the processes that an event of the block names, in order. A column may be there more than once.
+fn columns_named(alloc: Global, block: &[Stamped], pids: &Pids) -> Result<Vec<usize>, AllocError>
+    ensures named { IfOk result (λ v. AreNamed block.now pids.now v.items) }
+    ensures sorted { IfOk result (λ v. IsNonDecreasing v.items) }
+{
+    let mut named = columns_in(alloc, block, pids)?;
+    named.sort_unstable();
+    Ok(named)
+}
+
+/// The columns of the processes that an event of the block names.
+fn columns_in(alloc: Global, block: &[Stamped], pids: &Pids) -> Result<Vec<usize>, AllocError>
+    ensures { IfOk result (λ v. AreNamed block.now pids.now v.items) }
+{
+    let mut named = Vec::new(alloc);
+    for at in 0..block.len() {
+        add_columns(block[at].event, pids, &mut named)?;
+    }
+    Ok(named)
+}
+
+/// Adds the columns of the processes that an event names.
+fn add_columns(event: Event, pids: &Pids, named: &mut Vec<usize>) -> Result<(), AllocError>
+    ensures { OnOk result (named.new.items ≡ named.old.items ++ flat_map (λ p. places_of p pids.now) (named_columns event)) }
+{
+    let (first, last) = named_by(event);
+    if let Some(first) = first {
+        named.extend_from_slice(pids.all(first))?;
+    }
+    named.extend_from_slice(pids.all(last))
+}
+
+/// The names of these columns, each once, if they are in order.
 fn list_names_of(
-    mentions: &Mentions,
+    named: &[usize],
     row: usize,
     columns: &[Column],
     parts: &mut Vec<Part>,
 ) -> Result<(), AllocError>
-    ensures { (block : List Stamped) → AreMentions block mentions.now
+    requires within { All (λ k. k < length columns.now) named.now }
+    requires sorted { IsNonDecreasing named.now }
+    ensures { (block : List Stamped) → AreNamed block (map (λ c. c.pid) columns.now) named.now
         → OnOk result (parts.new.items ≡ parts.old.items ++ each_numbered (name_in block row) columns.now) }
 {
-    for place in 0..columns.len() {
-        list_name_of(mentions, row, place, columns[place].pid, parts)?;
-    }
-    Ok(())
-}
-
-fn list_name_of(
-    mentions: &Mentions,
-    row: usize,
-    column: usize,
-    pid: Pid,
-    parts: &mut Vec<Part>,
-) -> Result<(), AllocError>
-    ensures { OnOk result (parts.new.items
-        ≡ parts.old.items ++ cond (is_some (slice_get (rows_queued mentions.now pid) 0)) (Name row column pid ∷ []) []) }
-{
-    if mentions.has(pid) {
-        parts.push(Part::Name { row, column, pid })?;
+    let mut behind = 0;
+    for at in 0..named.len() {
+        let column = named[at];
+        if behind <= column {
+            parts.push(Part::Name {
+                row,
+                column,
+                pid: columns[column].pid,
+            })?;
+            behind = column + 1;
+        }
     }
     Ok(())
 }

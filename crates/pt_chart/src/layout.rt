@@ -1,20 +1,21 @@
 //! The layout of a chart: its columns, its rows and the arrows between them, as numbers. Events are named by their
 //! places in the history, from 0.
 
-ghost use Rattle.std.specs.Prelude.{All, map, ◌≡◌, ◌<◌, ◌≤◌, ◌++◌, [], IfOk, IfSome, OnOk, length, nat_lt, position};
-ghost use Rattle.std.specs.List.{list_any};
-ghost use Rattle.pt_signal.specs.Values.{same_pid};
+ghost use Rattle.std.specs.Prelude.{All, map, ◌≡◌, ◌<◌, ◌++◌, [], IfOk, OnOk, length, position};
+ghost use Rattle.std.specs.List.{filter};
 ghost use Rattle.pt_events.specs.History.{is_birth, unborn};
 ghost use Rattle.pt_chart.specs.Chart.{IsLayout, IsColumn, IsLegalHistory, ShowsHistory, MonitorsAnew, arrows};
-ghost use Rattle.pt_chart.specs.Chart.{end_of, everyone, join, joined_columns, named_columns, past_of, column_place, place_behind};
-ghost use Rattle.pt_chart.specs.Chart.{sent_of};
+ghost use Rattle.pt_chart.specs.Chart.{end_of, everyone, past_of, column_place, sent_of};
+ghost use Rattle.pt_chart.specs.Desks.{AreInDesks, add_named, named, on_desk};
 ghost use Rattle.pt_chart.specs.Following.{followed, noted};
 ghost use Rattle.pt_chart.specs.Mentioning.{AreMentions, mentions};
 
 use crate::follower::Follower;
-use crate::mentions::{Mentions, event_at, mentions_of};
+use crate::mentions::{Mentions, event_at, mentions_of, named_by};
+use crate::pids::Pids;
 use crate::receipts::receipts_of;
 use crate::standing::rows_of;
+use indexmap::IndexSet;
 use pt_events::{Event, Stamped};
 use pt_signal::{Pid, Reason, Signal};
 use std::alloc::{AllocError, Global};
@@ -98,8 +99,8 @@ fn columns_by(
     ensures pids { IfOk result (λ v. map (λ c. c.pid) v.items ≡ everyone events.now) }
     ensures columns { IfOk result (λ v. All (λ c. IsColumn events.now c) v.items) }
 {
-    let pids = pids_of(alloc, events, mentions)?;
-    columns_with(alloc, events, mentions, pids.as_slice())
+    let pids = Pids::of(alloc, pids_of(alloc, events)?)?;
+    columns_with(alloc, events, mentions, &pids)
 }
 
 /// The columns of these processes, if these are the events that name each.
@@ -107,90 +108,85 @@ fn columns_with(
     alloc: Global,
     events: &[Stamped],
     mentions: &Mentions,
-    pids: &[Pid],
+    pids: &Pids,
 ) -> Result<Vec<Column>, AllocError>
     requires mentions { AreMentions events.now mentions.now }
     ensures pids { IfOk result (λ v. map (λ c. c.pid) v.items ≡ pids.now) }
     ensures columns { pids.now ≡ everyone events.now → IfOk result (λ v. All (λ c. IsColumn events.now c) v.items) }
 {
-    let mut columns = Vec::with_capacity(alloc, pids.len())?;
-    for place in 0..pids.len() {
-        let pid = pids[place];
+    let list = pids.as_slice();
+    let mut columns = Vec::with_capacity(alloc, list.len())?;
+    for place in 0..list.len() {
+        let pid = list[place];
         let column = column_of(alloc, events, mentions.of(pid), pids, pid)?;
         columns.push_reserved(column);
     }
     Ok(columns)
 }
 
-/// The processes that the history names, by desk and then in order of first appearance, if these are the events that
-/// name each.
-fn pids_of(alloc: Global, events: &[Stamped], mentions: &Mentions) -> Result<Vec<Pid>, AllocError>
-    requires { AreMentions events.now mentions.now }
+/// The processes that the history names, by desk and then in order of first appearance.
+fn pids_of(alloc: Global, events: &[Stamped]) -> Result<Vec<Pid>, AllocError>
     ensures { IfOk result (λ v. v.items ≡ everyone events.now) }
 {
-    let mut pids = Vec::new(alloc);
+    let named = named_in(alloc, events)?;
+    in_desks(alloc, named.as_slice())
+}
+
+/// The processes that the history names, in order of first appearance.
+fn named_in(alloc: Global, events: &[Stamped]) -> Result<IndexSet<Pid>, AllocError>
+    ensures { IfOk result (λ set. set.keys ≡ named events.now) }
+{
+    let mut set = IndexSet::new(alloc);
     for at in 0..events.len() {
-        if mentions.begins(at, events[at].event) {
-            name(&mut pids, events[at].event)?;
-        }
+        enter(&mut set, events[at].event)?;
+    }
+    Ok(set)
+}
+
+/// Adds the processes that an event names to the others.
+fn enter(set: &mut IndexSet<Pid>, event: Event) -> Result<(), AllocError>
+    ensures { OnOk result (set.new.keys ≡ add_named set.old.keys event) }
+{
+    let (first, last) = named_by(event);
+    if let Some(first) = first {
+        set.insert(first)?;
+    }
+    set.insert(last)?;
+    Ok(())
+}
+
+/// These processes by desk. Those of one desk stay in their order.
+fn in_desks(alloc: Global, named: &[Pid]) -> Result<Vec<Pid>, AllocError>
+    ensures { IfOk result (λ v. AreInDesks named.now v.items) }
+{
+    let mut pids = Vec::with_capacity(alloc, named.len())?;
+    for desk in 0..desks_of(named) {
+        add_desk(desk, named, &mut pids)?;
     }
     Ok(pids)
 }
 
-/// Adds the processes that an event names to the others.
-fn name(pids: &mut Vec<Pid>, event: Event) -> Result<(), AllocError>
-    ensures { OnOk result (pids.new.items ≡ joined_columns pids.old.items (named_columns event)) }
+/// A number above that of each of their desks.
+fn desks_of(named: &[Pid]) -> usize
+    ensures { All (λ p. p.shard < result) named.now }
 {
-    match event {
-        Event::Born(pid, Some(parent), _) => {
-            join(pids, parent)?;
-            join(pids, pid)
-        }
-        Event::Said(from, to, _) | Event::Came(from, to, _) => {
-            join(pids, from)?;
-            join(pids, to)
-        }
-        Event::Born(pid, None, _)
-        | Event::Took(pid, _, _)
-        | Event::Flag(pid, _)
-        | Event::Left(pid, _)
-        | Event::Refused(pid, _) => join(pids, pid),
+    let mut desks = 0;
+    for pid in named {
+        desks = (usize::from(pid.shard) + 1).max(desks);
     }
+    desks
 }
 
-fn join(pids: &mut Vec<Pid>, pid: Pid) -> Result<(), AllocError>
-    ensures { OnOk result (pids.new.items ≡ join pids.old.items pid) }
+/// Adds those of a desk.
+fn add_desk(desk: usize, named: &[Pid], pids: &mut Vec<Pid>) -> Result<(), AllocError>
+    ensures { OnOk result (pids.new.items ≡ pids.old.items ++ filter (on_desk desk) named.now) }
 {
-    if is_among(pids, pid) {
-        return Ok(());
+    for pid in named {
+        if usize::from(pid.shard) == desk {
+            pids.push(*pid)?;
+        }
     }
-    pids.insert(place_behind(pids, pid), pid)?;
     Ok(())
-}
-
-/// The place after all of its own desk and of the desks before it.
-fn place_behind(pids: &[Pid], pid: Pid) -> usize
-    ensures place { result ≡ place_behind pids.now pid }
-    ensures within { result ≤ length pids.now }
-{
-    match first_behind(pids, pid) {
-        Some(place) => place,
-        None => pids.len(),
-    }
-}
-
-/// The place of the first of a later desk.
-fn first_behind(pids: &[Pid], pid: Pid) -> Option<usize>
-    ensures place { result ≡ position (λ q. nat_lt pid.shard q.shard) pids.now }
-    ensures within { IfSome result (λ place. place < length pids.now) }
-{
-    pids.iter().position(|other| pid.shard < other.shard)
-}
-
-fn is_among(pids: &[Pid], pid: Pid) -> bool
-    ensures { result ≡ list_any (same_pid pid) pids.now }
-{
-    pids.iter().any(|other| pid == *other)
 }
 
 /// The column of one process, as it is followed through its own events.
@@ -198,7 +194,7 @@ fn column_of(
     alloc: Global,
     events: &[Stamped],
     own: &[usize],
-    pids: &[Pid],
+    pids: &Pids,
     pid: Pid,
 ) -> Result<Column, AllocError>
     requires own { own.now ≡ mentions pid events.now }
@@ -302,7 +298,7 @@ fn arrows_of(
     alloc: Global,
     events: &[Stamped],
     own: &[usize],
-    pids: &[Pid],
+    pids: &Pids,
     from: Pid,
     sent: &[Sending],
 ) -> Result<Vec<Arrow>, AllocError>
@@ -319,7 +315,7 @@ fn arrows_of(
 }
 
 /// The arrow of a letter that arrived by this event, if it did.
-fn arrow_of(pids: &[Pid], sending: Sending, came: Option<usize>) -> Arrow
+fn arrow_of(pids: &Pids, sending: Sending, came: Option<usize>) -> Arrow
     ensures { result
         ≡ record { to = column_place pids.now sending.to; signal = sending.signal; sent = sending.event; came = came } }
 {
@@ -332,14 +328,8 @@ fn arrow_of(pids: &[Pid], sending: Sending, came: Option<usize>) -> Arrow
 }
 
 /// The column of a process; after all columns if it has none.
-fn place(pids: &[Pid], pid: Pid) -> usize
+fn place(pids: &Pids, pid: Pid) -> usize
     ensures { result ≡ column_place pids.now pid }
 {
-    position_of(pids, pid).unwrap_or(pids.len())
-}
-
-fn position_of(pids: &[Pid], pid: Pid) -> Option<usize>
-    ensures { result ≡ position (same_pid pid) pids.now }
-{
-    pids.iter().position(|other| pid == *other)
+    pids.first(pid).unwrap_or(pids.as_slice().len())
 }

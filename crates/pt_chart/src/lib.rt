@@ -35,9 +35,10 @@
 //! receipts are in a queue for each receiver, and a letter takes the first.
 //!
 //! One pass over the history lists the events that name each process. An event that does not name a process changes
-//! nothing of it, so it is followed through its own events alone. The names above a row come from such a list of the next
-//! 40 rows. Two parts of the work still grow faster than the events. A letter, a mark and a birth look for their columns
-//! among all processes, and every 40 rows each process is looked up once.
+//! nothing of it, so it is followed through its own events alone. A map has the place of each process. So a letter, a mark
+//! and a birth find their columns, and a column finds its name, at the same cost for any number of processes. The names
+//! above a row are of the columns that the next 40 rows name, and no other column is looked at. So the work grows as the
+//! events do, but for the sorting of those columns.
 //!
 //! Tests: `checks/tried/pt_scripts/charts.rt.txt` and `checks/examples`. `checks/charts` measures that no label of many
 //! charts overlaps another one, a mark, a head or an edge.
@@ -64,6 +65,7 @@ mod layout;
 mod mentions;
 mod page;
 mod part;
+mod pids;
 mod point;
 mod receipts;
 mod standing;

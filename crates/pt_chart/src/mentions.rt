@@ -1,10 +1,11 @@
-//! The events that name each process. So a process is followed through its own events alone.
+//! The events that name each process, and its places in a list of processes. So a process is followed through its own
+//! events alone, and its column is found at once.
 
-ghost use Rattle.std.specs.Prelude.{◌<◌, length, slice_index_or, ◌≡◌, ◌++◌, ◌∷◌, [], cond, is_some, slice_get, IfOk, OnOk};
+ghost use Rattle.std.specs.Prelude.{◌<◌, length, slice_index_or, ◌≡◌, ◌++◌, ◌∷◌, [], cond, IfOk, OnOk};
 ghost use Rattle.std.specs.List.{list_any};
 ghost use Rattle.pt_signal.specs.Values.{same_pid};
 ghost use Rattle.pt_chart.specs.Chart.{named_columns};
-ghost use Rattle.pt_chart.specs.Mentioning.{AreMentions, begins_at, is_mentioned};
+ghost use Rattle.pt_chart.specs.Mentioning.{AreMentions, ArePlaces, is_mentioned, listed};
 ghost use Rattle.pt_chart.specs.Receiving.{RowIsQueued, IsQueuedBy, rows_queued};
 
 use indexmap::IndexMap;
@@ -13,10 +14,10 @@ use pt_signal::Pid;
 use std::alloc::{AllocError, Global};
 use std::marker::Model;
 
-/// Events, by their places in the history, in order.
+/// Places in a list, in order.
 #[derive(Drop)]
 struct Places {
-    events: Vec<usize>,
+    numbers: Vec<usize>,
 }
 
 impl Model for Places {
@@ -24,33 +25,33 @@ impl Model for Places {
 
     ghost Value = { List ℕ };
 
-    ghost view = { λ p. p.events.items };
+    ghost view = { λ p. p.numbers.items };
 }
 
 impl Places {
     fn of(alloc: Global, at: usize) -> Result<Places, AllocError>
         ensures { IfOk result (λ places. places ≡ at ∷ []) }
     {
-        let mut events = Vec::new(alloc);
-        events.push(at)?;
-        Ok(Places { events })
+        let mut numbers = Vec::new(alloc);
+        numbers.push(at)?;
+        Ok(Places { numbers })
     }
 
     fn push(&mut self, at: usize) -> Result<(), AllocError>
         ensures { OnOk result (self.new ≡ self.old ++ at ∷ []) }
     {
-        self.events.push(at)?;
+        self.numbers.push(at)?;
         Ok(())
     }
 
     fn as_slice(&self) -> &[usize]
         ensures { result.now ≡ self.now }
     {
-        self.events.as_slice()
+        self.numbers.as_slice()
     }
 }
 
-/// The events that name each process.
+/// The places of a list that name each process: events of a history, or processes.
 #[derive(Drop)]
 pub(crate) struct Mentions {
     alloc: Global,
@@ -75,7 +76,7 @@ impl Mentions {
         }
     }
 
-    /// The events that name a process, by their places in the history, in order.
+    /// The places that name a process, in order.
     pub(crate) fn of(&self, pid: Pid) -> &[usize]
         ensures { result.now ≡ rows_queued self.now pid }
     {
@@ -85,52 +86,13 @@ impl Mentions {
         }
     }
 
-    /// Whether an event names the process.
-    pub(crate) fn has(&self, pid: Pid) -> bool
-        ensures { result ≡ is_some (slice_get (rows_queued self.now pid) 0) }
-    {
-        self.of(pid).first().is_some()
-    }
-
-    /// Whether an event, by its place, is the first that names one of its processes.
-    pub(crate) fn begins(&self, at: usize, event: Event) -> bool
-        ensures { result ≡ list_any (λ p. begins_at at (rows_queued self.now p)) (named_columns event) }
-    {
-        match event {
-            Event::Born(pid, Some(parent), _) => self.is_first(at, parent)
-                || self.is_first(at, pid),
-            Event::Said(from, to, _) | Event::Came(from, to, _) => {
-                self.is_first(at, from) || self.is_first(at, to)
-            }
-            Event::Born(pid, None, _)
-            | Event::Took(pid, _, _)
-            | Event::Flag(pid, _)
-            | Event::Left(pid, _)
-            | Event::Refused(pid, _) => self.is_first(at, pid),
-        }
-    }
-
-    fn is_first(&self, at: usize, pid: Pid) -> bool
-        ensures { result ≡ begins_at at (rows_queued self.now pid) }
-    {
-        match self.of(pid).first() {
-            Some(first) => *first == at,
-            None => false,
-        }
-    }
-
     /// Notes an event for each process that it names.
     fn note(&mut self, at: usize, event: Event) -> Result<(), AllocError>
         ensures { OnOk result (IsQueuedBy (λ q. cond (is_mentioned q event) (at ∷ []) []) self.old self.new) }
     {
-        match event {
-            Event::Born(pid, Some(parent), _) => self.note_both(parent, pid, at),
-            Event::Said(from, to, _) | Event::Came(from, to, _) => self.note_both(from, to, at),
-            Event::Born(pid, None, _)
-            | Event::Took(pid, _, _)
-            | Event::Flag(pid, _)
-            | Event::Left(pid, _)
-            | Event::Refused(pid, _) => self.note_one(pid, at),
+        match named_by(event) {
+            (Some(first), second) => self.note_both(first, second, at),
+            (None, pid) => self.note_one(pid, at),
         }
     }
 
@@ -153,7 +115,7 @@ impl Mentions {
         self.push(pid, at)
     }
 
-    /// Puts an event after those of the process.
+    /// Puts a place after those of the process.
     fn push(&mut self, pid: Pid, at: usize) -> Result<(), AllocError>
         ensures { OnOk result (RowIsQueued pid (rows_queued self.old pid ++ at ∷ []) self.old self.new) }
     {
@@ -163,7 +125,7 @@ impl Mentions {
         }
     }
 
-    /// Adds a process with one event.
+    /// Adds a process with one place.
     fn open(&mut self, pid: Pid, at: usize) -> Result<(), AllocError>
         ensures { OnOk result (RowIsQueued pid (at ∷ []) self.old self.new) }
     {
@@ -182,6 +144,31 @@ pub(crate) fn mentions_of(alloc: Global, events: &[Stamped]) -> Result<Mentions,
         mentions.note(at, events[at].event)?;
     }
     Ok(mentions)
+}
+
+/// The places of each process in a list of processes.
+pub(crate) fn places_of(alloc: Global, pids: &[Pid]) -> Result<Mentions, AllocError>
+    ensures { IfOk result (λ m. ArePlaces pids.now m) }
+{
+    let mut places = Mentions::new(alloc);
+    for at in 0..pids.len() {
+        places.push(pids[at], at)?;
+    }
+    Ok(places)
+}
+
+/// The processes that an event names: its one process, or the first of two and the second.
+pub(crate) fn named_by(event: Event) -> (Option<Pid>, Pid)
+    ensures { listed result.0 result.1 ≡ named_columns event }
+{
+    match event {
+        Event::Born(pid, parent, _) => (parent, pid),
+        Event::Said(from, to, _) | Event::Came(from, to, _) => (Some(from), to),
+        Event::Took(pid, _, _)
+        | Event::Flag(pid, _)
+        | Event::Left(pid, _)
+        | Event::Refused(pid, _) => (None, pid),
+    }
 }
 
 /// The event at a place of the history.

@@ -6,3 +6,5 @@ pub mod Tying
 pub mod Telling
 pub mod Hearing
 pub mod Refusing
+mod Spanning
+mod Knowing

@@ -1,6 +1,6 @@
 -- The children of a supervisor, in their places.
-use Rattle.std.specs.Prelude.{◌≡◌, ℕ, zero, suc, ◌<◌, ◌&&◌, ◌||◌, not, nat_le, cond, Bool, true, false, is_some, List}
-use Rattle.std.specs.Prelude.{Option, Some, None, slice_get, slice_set}
+use Rattle.std.specs.Prelude.{◌≡◌, ℕ, zero, suc, ◌<◌, ◌≤◌, ◌&&◌, ◌||◌, not, nat_le, cond, Bool, true, false, is_some, List}
+use Rattle.std.specs.Prelude.{Option, Some, None, length, slice_get, slice_set}
 use Rattle.std.specs.Option.{option_map}
 use Rattle.pt_signal.specs.declared.pid.Pid.{Pid}
 use Rattle.pt_children.specs.declared.children.Child.{Child}
@@ -33,6 +33,15 @@ abbrev pub last_alive : List Child → ℕ → ℕ → Option (Pid × Shutdown)
 last_alive children first zero = None
 last_alive children first (suc n) =
     or_before (leaving_in (nat_le first n) (slice_get children n)) (last_alive children first n)
+
+-- the place of the first child from one place on that is missing
+abbrev pub NextMissing : ℕ → List Child → Option ℕ → Type 0
+NextMissing from children None =
+    (place : ℕ) (c : Child) → from ≤ place → place < length children → slice_get children place ≡ Some c
+    → is_missing c ≡ false
+NextMissing from children (Some next) =
+    (from ≤ next) × (next < length children) × ((c : Child) × (slice_get children next ≡ Some c) × (is_missing c ≡ true))
+    × ((place : ℕ) (c : Child) → from ≤ place → place < next → slice_get children place ≡ Some c → is_missing c ≡ false)
 
 -- of the first n nobody is missing
 abbrev pub AreStarted : List Child → ℕ → Type 0

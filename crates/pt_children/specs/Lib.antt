@@ -6,6 +6,8 @@ pub mod Children
 pub mod Homes
 pub mod Trying
 pub mod Seen
+pub mod Spans
+pub mod Listed
 pub mod Hearing
 pub mod Specifying
 pub mod Calling

@@ -1,7 +1,7 @@
 //! The children of a supervisor.
 
 ghost use Rattle.std.specs.Prelude.{◌≡◌, ◌<◌, IfSome, None, Some, true, position, length};
-ghost use Rattle.pt_children.specs.Children.{is_missing, last_alive, leaving, leaving_in, revived, revived_child};
+ghost use Rattle.pt_children.specs.Children.{is_missing, leaving, revived_child};
 ghost use Rattle.pt_children.specs.Hearing.{wanted_again};
 ghost use Rattle.pt_signal.specs.Values.{is_pid};
 ghost use Rattle.pt_children.specs.Calling.{place_of_id};
@@ -124,7 +124,7 @@ impl Child {
     }
 
     /// The same child, which is to live again unless it is temporary. A start of it that failed is not waited for.
-    fn revived(self) -> Child
+    pub(crate) fn revived(self) -> Child
         ensures { result ≡ revived_child self }
     {
         Child {
@@ -145,17 +145,6 @@ impl Child {
             self.restart != Restart::Temporary
         } else {
             self.restart.starts_again(reason)
-        }
-    }
-
-    /// Its pid, if it has one and is to end, and how it is ended. It is to end if all are, or if it is not wanted.
-    fn to_leave(&self, all: bool) -> Option<(Pid, Shutdown)>
-        ensures { result ≡ leaving_in all (Some self.now) }
-    {
-        if all || !self.wanted {
-            self.leaving()
-        } else {
-            None
         }
     }
 
@@ -194,30 +183,4 @@ pub fn place_of_id(children: &[Child], id: u64) -> Option<usize>
     ensures within { IfSome result (λ i. i < length children.now) }
 {
     children.iter().position(|child| child.id == id)
-}
-
-/// The last child that has a pid and is to end, and how it is ended: from the place `first` on each is to end, and before
-/// that each that is not wanted.
-pub fn last_alive(children: &[Child], first: usize) -> Option<(Pid, Shutdown)>
-    ensures { result ≡ last_alive children.now first (length children.now) }
-{
-    let mut last = None;
-    for place in 0..children.len() {
-        let leaving = children[place].to_leave(place >= first);
-        if leaving.is_some() {
-            last = leaving;
-        }
-    }
-    last
-}
-
-/// Each child from the place `first` on is to live again, unless it is temporary.
-pub fn revive(children: &mut [Child], first: usize)
-    ensures { children.new ≡ revived children.old first (length children.old) }
-{
-    for place in 0..children.len() {
-        if place >= first {
-            children[place] = children[place].revived();
-        }
-    }
 }

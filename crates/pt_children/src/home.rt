@@ -3,7 +3,7 @@
 ghost use Rattle.std.specs.Prelude.{◌≡◌, ◌<◌, IfSome, ◌&&◌, ◌==◌, length, position};
 ghost use Rattle.pt_children.specs.declared.home.Home.TheVariants.{Elsewhere};
 ghost use Rattle.pt_children.specs.Homes.{arrived_child, asked_child, is_abroad, is_awaited, is_coming, is_here};
-ghost use Rattle.pt_children.specs.Homes.{is_unanswered, is_untold, is_untold_child, place_awaited, place_coming};
+ghost use Rattle.pt_children.specs.Homes.{is_unanswered, is_untold, is_untold_child, place_awaited};
 ghost use Rattle.pt_children.specs.Homes.{place_unanswered, place_untold, told_child, unmet_child};
 ghost use Rattle.pt_children.specs.Trying.{missed_child, refused_child};
 
@@ -164,14 +164,6 @@ impl Child {
             self.refused(clock, fault)
         }
     }
-}
-
-/// The place of the first child that is being started on another desk.
-pub fn place_coming(children: &[Child]) -> Option<usize>
-    ensures place { result ≡ place_coming children.now }
-    ensures within { IfSome result (λ i. i < length children.now) }
-{
-    children.iter().position(|child| child.is_coming())
 }
 
 /// The place of the first child that the program is to start on another desk, and was not asked to start yet.

@@ -18,28 +18,34 @@
 //!   restarts it had made in what span. (`gave_up_over`)
 //! - **What is told of them.** What a supervisor tells of its children, and how many it counts, is exact. (`child_seen`,
 //!   `children_counted`)
+//! - **The list.** What is done next about the children, and which child a process is, is the same function of the list,
+//!   though no walk through it finds that. (`ChildList`)
 //! - **Other desks.** How far the start of a child on another desk has come is a part of the child. (`is_awaited`,
 //!   `place_coming`, `missed_child`)
 #![tactic(auto)]
 
 mod asked;
 mod child_fault;
+mod child_list;
 mod children;
 mod gave_up;
 mod home;
+mod known;
 mod limit;
 mod restart;
 mod seen;
+mod spans;
 mod spec;
 mod trial;
 
 pub use asked::{Asked, Stage, gone_in, stage_of, unless_by};
 pub use child_fault::{ChildFault, present};
-pub use children::{Child, Shutdown, is_process, last_alive, place_of, place_of_id, revive};
+pub use child_list::ChildList;
+pub use children::{Child, Shutdown, is_process, place_of, place_of_id};
 pub use gave_up::GaveUp;
-pub use home::{Home, place_awaited, place_coming, place_unanswered, place_untold};
+pub use home::{Home, place_awaited, place_unanswered, place_untold};
 pub use limit::Limit;
 pub use restart::{Restart, Strategy};
 pub use seen::{ChildCounts, ChildSeen, ChildState, all_seen, counted};
 pub use spec::{ChildSpec, SupervisorSpec};
-pub use trial::{Trial, all_started, first_failed, place_over};
+pub use trial::Trial;

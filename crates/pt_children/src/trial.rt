@@ -1,8 +1,8 @@
 //! Which start of a child is the next one, and what follows if it fails.
 
-ghost use Rattle.std.specs.Prelude.{◌≡◌, ◌<◌, IfSome, Some, length, not, position};
-ghost use Rattle.std.specs.List.{list_all};
+ghost use Rattle.std.specs.Prelude.{◌≡◌, ◌≤◌, Some, length};
 ghost use Rattle.pt_children.specs.Children.{is_by_call, is_missing};
+ghost use Rattle.pt_children.specs.Spans.{NoneBetween};
 ghost use Rattle.pt_children.specs.Trying.{earlier, failed_at, failed_child, failed_trial, first_failed, goes_past, is_accident};
 ghost use Rattle.pt_children.specs.Trying.{has_failed, has_failed_first, is_startable, joined_child, started_child};
 ghost use Rattle.pt_children.specs.Trying.{tried_at, unstarted_child};
@@ -49,7 +49,7 @@ impl Trial {
     }
 
     /// Whether the first start failed.
-    fn has_failed_first(&self) -> bool
+    pub(crate) fn has_failed_first(&self) -> bool
         ensures { result ≡ has_failed_first self.now }
     {
         match *self {
@@ -157,23 +157,6 @@ pub(crate) fn is_accident(fault: Fault) -> bool
     }
 }
 
-/// Whether none of these is missing.
-pub fn all_started(children: &[Child]) -> bool
-    ensures { result ≡ list_all (λ c. not (is_missing c)) children.now }
-{
-    children.iter().all(|child| !child.is_missing())
-}
-
-/// The place of the first child whose first start failed.
-pub fn place_over(children: &[Child]) -> Option<usize>
-    ensures place { result ≡ position (λ c. has_failed_first c.trial) children.now }
-    ensures within { IfSome result (λ i. i < length children.now) }
-{
-    children
-        .iter()
-        .position(|child| child.trial.has_failed_first())
-}
-
 /// Of two children whose starts failed that which failed first, and when.
 fn earlier(before: Option<(usize, u64)>, place: usize, at: Option<u64>) -> Option<(usize, u64)>
     ensures { result ≡ earlier before place at }
@@ -185,12 +168,17 @@ fn earlier(before: Option<(usize, u64)>, place: usize, at: Option<u64>) -> Optio
     }
 }
 
-/// The place of the child that is to be tried again first: that whose start failed first.
-pub fn first_failed(children: &[Child]) -> Option<(usize, u64)>
+/// The place of the child that is to be tried again first: that whose start failed first. Each that is to be started is
+/// from the place `from` on, and before `end`.
+pub(crate) fn first_failed(children: &[Child], from: usize, end: usize) -> Option<(usize, u64)>
+    requires ordered { from ≤ end }
+    requires within { end ≤ length children.now }
+    requires before { NoneBetween is_missing 0 from children.now }
+    requires behind { NoneBetween is_missing end (length children.now) children.now }
     ensures { result ≡ first_failed children.now (length children.now) }
 {
     let mut first = None;
-    for place in 0..children.len() {
+    for place in from..end {
         first = earlier(first, place, children[place].tried_at());
     }
     first

@@ -19,7 +19,7 @@ ghost use Rattle.pt_scheduler.specs.Planning.{again_at, posts_heard, posts_of, s
 use crate::member::Member;
 use crate::plan::{Plan, delete_child, mark, start_child};
 use pt_behaviour::{Births, Next};
-use pt_children::{Child, ChildCounts, ChildFault, ChildSpec, GaveUp, place_of};
+use pt_children::{Child, ChildCounts, ChildFault, ChildSpec, GaveUp};
 use pt_supervisor::Supervisor;
 use pt_workers::{Desk, Fault, Item, Pid};
 use std::alloc::{AllocError, Global};
@@ -166,6 +166,8 @@ impl Boss {
 }
 
 /// Handles an item, or none, once it has noted which child has exited.
+// (not inlined: few items are those of supervisors, and a step that has this in it takes longer for each message)
+#[inline(never)]
 fn run(
     boss: &mut Supervisor<Plan>,
     desk: &mut Desk,
@@ -191,7 +193,7 @@ fn heed_exit(boss: &mut Supervisor<Plan>, from: Pid)
     ensures posts { posts_of (program_of boss.new)
         ≡ again_at (position (λ c. is_pid c.pid from) (standing boss.old).children) (posts_of (program_of boss.old)) }
 {
-    if let Some(place) = place_of(boss.children(), from) {
+    if let Some(place) = boss.place_of(from) {
         mark(boss, place);
     }
 }

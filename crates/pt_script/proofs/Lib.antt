@@ -22,3 +22,5 @@ pub mod SeesLists
 pub mod SeesScripts
 pub mod CalledFacts
 pub mod FindingFacts
+pub mod WalkFacts
+pub mod SpotFacts

@@ -75,9 +75,9 @@ IsSaidAt ds (Some number) (Some index) here =
 abbrev pub IsAtPlace : Data → Place → Scene → Type 0
 IsAtPlace d place here = IsSaidAt (all_processes d) place.process place.op here
 
--- of bytes: they are too long; they are a value, and it is of the place there; or they are none, and it is of a line
+-- of bytes: they are too long; they are a value, and it is of the place there; or they are none
 abbrev pub IsSaidOf : List ℕ → Place → Scene → Type 0
 IsSaidOf bytes place here =
     ((MAX_BYTES < length bytes) × (here ≡ scene.Script))
     ⊎ ((d : Data) × (read bytes ≡ Some d) × IsAtPlace d place here)
-    ⊎ ((IsUtf8 bytes → read bytes ≡ None) × (line column : ℕ) × (here ≡ scene.Text line column))
+    ⊎ ((IsUtf8 bytes → read bytes ≡ None) × (here ≡ scene.Script))

@@ -16,3 +16,5 @@ pub mod WritingScripts
 pub mod Laws
 pub mod Explaining
 pub mod WhyTexts
+pub mod Walks
+pub mod Spots

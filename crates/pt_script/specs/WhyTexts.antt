@@ -5,6 +5,7 @@ use Rattle.pt_script.specs.declared.explanation.why.Label.{Label}
 use Rattle.pt_script.specs.declared.explanation.why.Label.TheVariants.{Name, Index}
 use Rattle.pt_script.specs.declared.explanation.why.Scene.{Scene}
 use Rattle.pt_script.specs.declared.explanation.why.Scene.TheVariants as scene
+use Rattle.pt_script.specs.declared.explanation.why.Spot.{Spot}
 use Rattle.pt_script.specs.declared.explanation.why.Why.{Why}
 use Rattle.pt_script.specs.declared.explanation.why.Limit.{Limit}
 use Rattle.pt_script.specs.declared.explanation.why.Limit.TheVariants.{Bytes, Signed, Reasons, Slots, Processes, Operations, Depth}
@@ -20,7 +21,6 @@ member_text (Index index) = decimal index
 
 unfoldable pub where_text : Scene → List ℕ
 where_text scene.Script = codes "script"
-where_text (scene.Text line column) = codes "script, line " ++ decimal line ++ codes ", column " ++ decimal column
 where_text (scene.Process process) = codes "process " ++ member_text process
 where_text (scene.Operation process operation) =
     codes "process " ++ member_text process ++ codes ", operation " ++ member_text operation
@@ -64,6 +64,10 @@ subject_text None word = codes ": it "
 subject_text (Some member) None = codes ": member " ++ member.now ++ codes " "
 subject_text (Some member) (Some word) = codes ": member " ++ member.now ++ codes " (" ++ word.now ++ codes ") "
 
+-- where it is in the text
+unfoldable pub spot_text : Spot → List ℕ
+spot_text spot = codes "line " ++ decimal spot.line ++ codes ", column " ++ decimal spot.column
+
 -- one line, without its line feed
-unfoldable pub why_text : Why → List ℕ
-why_text w = where_text w.scene ++ subject_text w.member w.word ++ wrong_text w.wrong
+unfoldable pub why_text : Why → Spot → List ℕ
+why_text w spot = where_text w.scene ++ codes ", " ++ spot_text spot ++ subject_text w.member w.word ++ wrong_text w.wrong

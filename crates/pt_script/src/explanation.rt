@@ -4,7 +4,9 @@ mod explaining;
 mod finding;
 mod looking;
 mod scope;
+mod spot;
 mod tables;
+mod walking;
 mod why;
 
 pub use explaining::explain;

@@ -6,17 +6,19 @@
 //! them. [`laws`] says what holds for every script. The format is that of `docs/SCRIPTS.md`.
 //!
 //! If a text is no script, [`explain`] reads the bytes again and says in one line, without a line feed, what is at the place
-//! of the fault. It names the process and the operation, the member that is wrong, and what is wrong with it.
+//! of the fault. It names the process and the operation, the line and the column, the member that is wrong, and what is wrong
+//! with it.
 //!
 //! ```
 //! let Err(ScriptError::Refused { fault, place }) = Script::from_bytes(alloc, bytes) else { .. };
-//! let line = explain(alloc, bytes, fault, place)?;   // process b, operation send: member to names nothing in scope
+//! let line = explain(alloc, bytes, fault, place)?;
+//! // process b, operation send, line 3, column 19: member to names nothing in scope
 //! ```
 //!
 //! The line repeats only names of at most 32 letters, digits and `_` of a script, so it is one line for any script.
 //!
-//! Tests: `checks/tried/pt_scripts/scripts.rt.txt`, `checks/tried/pt_scripts/faults.rt.txt`, `checks/examples` and
-//! `crates/test_calls/src/layers/scripts.rt`.
+//! Tests: `checks/tried/pt_scripts/scripts.rt.txt`, `checks/tried/pt_scripts/faults.rt.txt`, `checks/examples`,
+//! `checks/places` and `crates/test_calls/src/layers/scripts.rt`.
 //!
 //! # What is proved
 //!
@@ -27,6 +29,9 @@
 //! - **Names.** `process_names` returns the names of the processes of a text, by their places in it.
 //! - **Explanations.** The line of `explain` has the text of a place, of a member if one is wrong, and of what is wrong.
 //!   The place is the one that was passed, and the names of its process and operation are theirs in the text. (`IsSaidOf`)
+//! - **Lines and columns.** The line and the column of an explanation are those of the byte at which the member that it
+//!   names has its value there. If it names none, or one that is missing, they are those of the process, the operation
+//!   or the script. (`IsSpotOf`)
 #![tactic(auto)]
 
 mod called;

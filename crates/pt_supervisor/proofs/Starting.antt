@@ -1,11 +1,11 @@
 -- Children that are started, one after the other.
-use Rattle.std.proofs.Common.{◌≡◌, ℕ, zero, suc, ◌+◌, ◌<◌, cond, ◌||◌, ◌&&◌, not, Bool, true, false, List, [], ◌∷◌, length, slice_get, slice_set, is_some, Option, Some, None, inl, inr, refl, sym, ap, subst, ◌∙◌, add-one, arith}
-use Rattle.std.specs.Prelude.{nat_le}
+use Rattle.std.proofs.Common.{◌≡◌, ℕ, zero, suc, ◌+◌, ◌<◌, ◌≤◌, cond, ◌||◌, ◌&&◌, not, Bool, true, false, List, [], ◌∷◌, length, slice_get, slice_set, is_some, Option, Some, None, inl, inr, refl, sym, ap, subst, ◌∙◌, add-one, arith}
+use Rattle.std.specs.Prelude.{nat_le, MatchBool}
 use Rattle.std.specs.List.{list_all}
 use Rattle.std.proofs.lemmas.List.{length-set}
 use Rattle.std.specs.Option.{option_map}
 use Rattle.std.proofs.lemmas.Bool.{cases_eq, cases_lt}
-use Rattle.std.proofs.lemmas.Option.{slice_get_within}
+use Rattle.std.proofs.lemmas.Option.{slice_get_cases, slice_get_within}
 use Rattle.pt_signal.specs.declared.pid.Pid.{Pid}
 use Rattle.pt_children.specs.declared.children.Child.{Child}
 use Rattle.pt_children.specs.declared.children.Shutdown.{Shutdown}
@@ -16,13 +16,14 @@ use Rattle.pt_children.specs.declared.restart.Strategy.{Strategy}
 use Rattle.pt_children.specs.declared.trial.Trial.{Trial}
 use Rattle.pt_children.specs.declared.trial.Trial.TheVariants.{First, Again, Failed, Over}
 use Rattle.pt_children.specs.Children.{AreStarted, IsWanted, NoneLives, NoneUnwanted, PermanentAreWanted, is_by_call, is_missing, last_alive, leaving, leaving_in, or_before}
-use Rattle.pt_children.specs.Trying.{earlier, failed_child, failed_trial, first_failed, has_failed, is_accident, is_startable, started_child, tried_in, unstarted_child}
+use Rattle.pt_children.specs.Trying.{earlier, failed_at, failed_child, failed_trial, first_failed, goes_past, has_failed, is_accident, is_alone, is_startable, started_child, tried_in, unstarted_child}
 use Rattle.pt_children.specs.Homes.{asked_child}
+use Rattle.pt_children.specs.Spans.{NoneBetween}
 use Rattle.pt_children.specs.Hearing.{Standing, first_heeded}
 use Rattle.pt_desk.specs.DeskState.{DeskState}
 use Rattle.pt_shard.specs.ShardState.{phase_of}
 use Rattle.pt_behaviour.specs.declared.behaviour.Next.{Next}
-use Rattle.pt_supervisor.specs.Supervising.{SetsAt, StartsAll, StartsOf, Nursery, StartsFirst, StartsOne, SupervisorScene, SupervisorSettles, Supervises, nursery}
+use Rattle.pt_supervisor.specs.Supervising.{SetsAt, StartsAll, StartsAt, StartsOf, Nursery, StartsFirst, StartsOne, TriesAt, SupervisorScene, SupervisorSettles, Supervises, nursery}
 use Rattle.pt_supervisor.specs.Ending.{next_behind, next_tried}
 use Rattle.pt_children.proofs.Wanting.{first_rest, kept_wanted, set_same, set_other}
 
@@ -240,3 +241,29 @@ pub first_more : {S B : Type 0} (starts : StartsOf S B) (me : Pid) (strategy : S
     → StartsFirst starts me strategy n old mid → StartsOne starts me strategy n mid true new → StartsFirst starts me strategy (n + 1) old new
 first_more starts me strategy n old mid new first one =
     subst (λ (k : ℕ). StartsFirst starts me strategy k old new) (sym (add-one n)) (mid, first, one)
+
+-- those that are not missing are passed over
+one_past : {S B : Type 0} (starts : StartsOf S B) (me : Pid) (strategy : Strategy) (place : ℕ) (c : Child) (mid : Nursery S B)
+    → slice_get mid.children place ≡ Some c → is_missing c ≡ false → StartsOne starts me strategy place mid true mid
+one_past starts me strategy place c mid at there =
+    subst (λ (o : Option Child). StartsAt starts me strategy place o mid true mid) (sym at) (
+      sym (ap (goes_past strategy) at ∙ ap (λ (b : Bool). not b || (is_some (failed_at c.trial) && is_alone strategy)) there),
+      subst (λ (b : Bool). MatchBool b (TriesAt starts me place c mid mid) (mid ≡ mid)) (sym (ap (λ (b : Bool). b && not (has_failed c.trial)) there)) refl,
+    )
+
+pub first_past : {S B : Type 0} (starts : StartsOf S B) (me : Pid) (strategy : Strategy) (n k : ℕ) (old mid : Nursery S B)
+    → StartsFirst starts me strategy n old mid → n ≤ k → k ≤ length mid.children → NoneBetween is_missing n k mid.children → StartsFirst starts me strategy k old mid
+first_past starts me strategy n zero old mid first l w none =
+    let e : n ≡ 0 = omega (arith, l) in
+    subst (λ (i : ℕ). StartsFirst starts me strategy i old mid) e first
+first_past starts me strategy n (suc k) old mid first l w none = elim (cases_lt k n) [
+  | inl less ↦ (let e : n ≡ suc k = omega (arith, l, less) in subst (λ (i : ℕ). StartsFirst starts me strategy i old mid) e first)
+  | inr more ↦ elim (slice_get_cases mid.children k).1 [
+    | inl x ↦ (
+      mid,
+      first_past starts me strategy n k old mid first more (omega (arith, w)) (λ j y a b at. none j y a (omega (arith, b)) at),
+      one_past starts me strategy k x.0 mid x.2 (none k x.0 more (omega arith) x.2),
+    )
+    | inr past ↦ (let p = past.0 in absurd (omega (arith, p, w)))
+  ]
+]

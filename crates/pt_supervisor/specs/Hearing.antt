@@ -4,7 +4,7 @@ use Rattle.pt_supervisor.specs.declared.supervisor.Supervisor.{Supervisor}
 
 abbrev pub standing : {S : Type 0} → Supervisor S → Standing
 standing s = record {
-  children = s.children.items;
+  children = s.children;
   strategy = s.strategy;
   parent = s.parent;
   times = s.limit.times.items;

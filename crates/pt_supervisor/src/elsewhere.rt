@@ -16,7 +16,7 @@ ghost use Rattle.pt_supervisor.specs.Supervising.{GoesForward, Supervises, super
 use crate::supervisor::{Start, Supervisor};
 use pt_behaviour::{Births, CallFault, Next, link};
 use pt_children::{
-    Child, ChildFault, Home, place_awaited, place_coming, place_of, place_unanswered, place_untold,
+    Child, ChildFault, Home, place_awaited, place_of, place_unanswered, place_untold,
 };
 use pt_workers::{Desk, Fault, Pick, Pid};
 
@@ -119,14 +119,6 @@ impl<S> Supervisor<S> {
         let child = self.child_of(place);
         self.set_child(place, child.unmet(fault));
         Ok(())
-    }
-
-    /// The place of the child that is being started on another desk, if there is one.
-    fn coming(&self) -> Option<usize>
-        ensures place { result ≡ place_coming (standing self.now).children }
-        ensures within { IfSome result (λ i. i < length (standing self.now).children) }
-    {
-        place_coming(self.children())
     }
 
     /// Links with the child that is being started on another desk, or waits for the program's answer. If there is none, it

@@ -14,9 +14,9 @@ ghost use Rattle.pt_behaviour.specs.declared.behaviour.Next.{Next};
 use crate::asked::{due_at, is_noproc, waits};
 use pt_behaviour::{Births, CallFault, Next, exit_signal, monitor, spawn_child, trap};
 use pt_children::{
-    Asked, Child, ChildCounts, ChildFault, ChildSeen, ChildState, GaveUp, Limit, Shutdown, Stage,
-    Strategy, Trial, all_seen, all_started, counted, first_failed, gone_in, is_process, last_alive,
-    place_of, place_of_id, place_over, present, revive, stage_of, unless_by,
+    Asked, Child, ChildCounts, ChildFault, ChildList, ChildSeen, ChildState, GaveUp, Limit,
+    Shutdown, Stage, Strategy, Trial, all_seen, counted, gone_in, is_process, place_of_id, present,
+    stage_of, unless_by,
 };
 use pt_workers::{Desk, Fault, Item, Pick, Pid, Reason, Ref};
 use std::alloc::{AllocError, Global};
@@ -42,7 +42,7 @@ pub trait Start<B> {
 pub struct Supervisor<S> {
     start: S,
     strategy: Strategy,
-    children: Vec<Child>,
+    children: ChildList,
     limit: Limit,
     /// The process with which it exits.
     parent: Option<Pid>,
@@ -60,7 +60,9 @@ pub struct Supervisor<S> {
 }
 
 impl<S> Supervisor<S> {
-    ghost use Rattle.std.specs.Prelude.{◌<◌, IfSome, Some, cond, length, map, slice_get, slice_set};
+    ghost use Rattle.std.specs.Prelude.{◌<◌, IfSome, Some, cond, length, map, position, slice_get, slice_set};
+    ghost use Rattle.pt_signal.specs.Values.{is_pid};
+    ghost use Rattle.pt_children.specs.Homes.{place_coming};
     ghost use Rattle.pt_behaviour.specs.Births.{time_told};
     ghost use Rattle.pt_children.specs.Calling.{AddsChild, DeletesChild, RestartsChild, TerminatesChild, with_wanted, without_child};
     ghost use Rattle.pt_children.specs.Children.{AreStarted, NoneUnwanted, PermanentAreWanted};
@@ -91,7 +93,7 @@ impl<S> Supervisor<S> {
         Supervisor {
             start,
             strategy,
-            children,
+            children: ChildList::new(children),
             limit,
             parent: None,
             ending,
@@ -141,6 +143,24 @@ impl<S> Supervisor<S> {
         ensures { result.now ≡ (standing self.now).children }
     {
         self.children.as_slice()
+    }
+
+    /// The place of the child with this pid, if there is one.
+    pub fn place_of(&mut self, pid: Pid) -> Option<usize>
+        ensures place { result ≡ position (λ c. is_pid c.pid pid) (standing self.old).children }
+        ensures within { IfSome result (λ i. i < length (standing self.old).children) }
+        ensures standing { standing self.new ≡ standing self.old }
+        ensures start { program_of self.new ≡ program_of self.old }
+    {
+        self.children.place_of(pid)
+    }
+
+    /// The place of the child that is being started on another desk, if there is one.
+    pub(crate) fn coming(&self) -> Option<usize>
+        ensures place { result ≡ place_coming (standing self.now).children }
+        ensures within { IfSome result (λ i. i < length (standing self.now).children) }
+    {
+        self.children.place_coming()
     }
 
     /// Its children, in their places, each with its id and what has become of its process. Fails if there is no memory.
@@ -243,7 +263,7 @@ impl<S> Supervisor<S> {
         let Some(place) = place_of_id(self.children.as_slice(), id) else {
             return Err(ChildFault::NotFound);
         };
-        match self.children[place].state() {
+        match self.children.child(place).state() {
             ChildState::Running(_) => Err(ChildFault::Running),
             ChildState::Restarting => Err(ChildFault::Restarting),
             ChildState::Undefined => {
@@ -266,7 +286,7 @@ impl<S> Supervisor<S> {
         ensures start { program_of self.new ≡ program_of self.old }
     {
         if let Some(place) = place_of_id(self.children.as_slice(), child.id) {
-            return Err(present(self.children[place].state()));
+            return Err(present(self.children.child(place).state()));
         }
         let place = self.children.len();
         let child = Child {
@@ -294,7 +314,7 @@ impl<S> Supervisor<S> {
         let Some(place) = place_of_id(self.children.as_slice(), id) else {
             return Err(ChildFault::NotFound);
         };
-        match self.children[place].state() {
+        match self.children.child(place).state() {
             ChildState::Running(_) => Err(ChildFault::Running),
             ChildState::Restarting => Err(ChildFault::Restarting),
             ChildState::Undefined => {
@@ -310,7 +330,7 @@ impl<S> Supervisor<S> {
         ensures standing { standing self.new ≡ without_child place (standing self.old) }
         ensures start { program_of self.new ≡ program_of self.old }
     {
-        let _ = self.children.remove(place);
+        self.children.remove(place);
         if place < self.ending {
             self.ending -= 1;
         }
@@ -322,12 +342,13 @@ impl<S> Supervisor<S> {
         ensures standing { standing self.new ≡ with_wanted wanted place (standing self.old) }
         ensures start { program_of self.new ≡ program_of self.old }
     {
-        let child = self.children[place];
-        self.children[place] = Child {
+        let child = self.children.child(place);
+        let child = Child {
             wanted,
             trial: Trial::Asked,
             ..child
         };
+        self.children.set(place, child);
     }
 
     /// Handles an item, or begins, and returns what the supervisor does next.
@@ -416,10 +437,10 @@ impl<S> Supervisor<S> {
         ensures place { result ≡ to_try (standing self.now) }
         ensures within { IfSome result (λ i. (i < length (standing self.now).children) × (0 < self.now.ending)) }
     {
-        if last_alive(self.children.as_slice(), self.ending).is_some() {
+        if self.children.last_alive(self.ending).is_some() {
             return None;
         }
-        match first_failed(self.children.as_slice()) {
+        match self.children.first_failed() {
             Some((place, _at)) if place < self.ending => Some(place),
             _ => None,
         }
@@ -431,11 +452,12 @@ impl<S> Supervisor<S> {
         ensures start { program_of self.new ≡ program_of self.old }
     {
         if let Some(place) = self.to_try() {
-            let child = self.children[place];
-            self.children[place] = Child {
+            let child = self.children.child(place);
+            let again = Child {
                 trial: Trial::Again,
                 ..child
             };
+            self.children.set(place, again);
             self.restart(now, place, child.id, Reason::Noproc);
         }
     }
@@ -470,7 +492,7 @@ impl<S> Supervisor<S> {
         } }
         ensures start { program_of self.new ≡ program_of self.old }
     {
-        self.children[place] = child;
+        self.children.set(place, child);
     }
 
     /// Notes which child it ends, and how far it has come.
@@ -491,7 +513,7 @@ impl<S> Supervisor<S> {
             self.stop(reason);
             return;
         }
-        if let Some(place) = place_of(self.children.as_slice(), from) {
+        if let Some(place) = self.place_of(from) {
             let moment = self.limit.moment(desk.clock(), now);
             self.lose(moment, place, reason);
         }
@@ -505,13 +527,14 @@ impl<S> Supervisor<S> {
         ensures start { program_of self.new ≡ program_of self.old }
     {
         let bidden = place >= self.ending;
-        let child = self.children[place];
+        let child = self.children.child(place);
         let again = child.lives_again(bidden, reason);
-        self.children[place] = Child {
+        let gone = Child {
             pid: None,
             wanted: again,
             ..child
         };
+        self.children.set(place, gone);
         if !bidden && again {
             self.restart(now, place, child.id, reason);
         }
@@ -527,7 +550,7 @@ impl<S> Supervisor<S> {
     {
         if self.limit.allows(now) {
             let first = self.strategy.ends_from(place, self.children.len());
-            revive(self.children.as_mut_slice(), first);
+            self.children.revive(first);
             self.ending = first;
         } else {
             self.give_up(place, id, reason);
@@ -548,8 +571,8 @@ impl<S> Supervisor<S> {
         ensures standing { standing self.new ≡ first_heeded (standing self.old) }
         ensures start { program_of self.new ≡ program_of self.old }
     {
-        if let Some(place) = place_over(self.children.as_slice()) {
-            let child = self.children[place];
+        if let Some(place) = self.children.place_over() {
+            let child = self.children.child(place);
             self.give_up(place, child.id, Reason::Noproc);
         }
     }
@@ -577,7 +600,7 @@ impl<S> Supervisor<S> {
         ensures kept { kept_roles births.new ≡ kept_roles births.old }
         ensures goes_on { GoesOn desk.old desk.new }
     {
-        if let Some((pid, shutdown)) = last_alive(self.children.as_slice(), self.ending) {
+        if let Some((pid, shutdown)) = self.children.last_alive(self.ending) {
             return self.end(desk, now, me, pid, shutdown);
         }
         if let Some(reason) = self.stopping {
@@ -696,12 +719,15 @@ impl<S> Supervisor<S> {
         ensures kept { kept_roles births.new ≡ kept_roles births.old }
         ensures goes_on { GoesOn desk.old desk.new }
     {
-        for place in 0..self.children.len() {
+        let _count = self.children.len();
+        let mut from = 0;
+        while let Some(place) = self.children.next_missing(from) {
             if !self.start_at(desk, births, me, place) {
                 return false;
             }
+            from = place + 1;
         }
-        all_started(self.children.as_slice())
+        self.children.all_started()
     }
 
     /// Starts the child at a place, if it is due. Returns whether those behind it are started.
@@ -729,12 +755,12 @@ impl<S> Supervisor<S> {
         ensures kept { kept_roles births.new ≡ kept_roles births.old }
         ensures goes_on { GoesOn desk.old desk.new }
     {
-        let child = self.children[place];
+        let child = self.children.child(place);
         if !child.is_startable() {
             return child.goes_past(self.strategy);
         }
         self.try_at(desk, births, me, place, child);
-        let tried = self.children[place];
+        let tried = self.children.child(place);
         tried.goes_past(self.strategy)
     }
 
@@ -765,7 +791,7 @@ impl<S> Supervisor<S> {
         ensures goes_on { GoesOn desk.old desk.new }
     {
         if !child.home.is_here() {
-            self.children[place] = child.asked_for();
+            self.children.set(place, child.asked_for());
             return;
         }
         self.spawn_at(desk, births, me, place, child);
@@ -800,16 +826,19 @@ impl<S> Supervisor<S> {
         let (behaviour, first) = match self.start.start(me, place) {
             Ok(begins) => begins,
             Err(fault) => {
-                self.children[place] = child.unstarted(desk.clock(), fault);
+                self.children
+                    .set(place, child.unstarted(desk.clock(), fault));
                 return;
             }
         };
         match spawn_linked(desk, births, me, behaviour, first) {
             Ok(pid) => {
-                self.children[place] = child.started(pid);
+                self.children.set(place, child.started(pid));
                 self.started = self.started.saturating_add(1);
             }
-            Err(fault) => self.children[place] = child.unstarted(desk.clock(), fault),
+            Err(fault) => self
+                .children
+                .set(place, child.unstarted(desk.clock(), fault)),
         }
     }
 
@@ -822,7 +851,7 @@ impl<S> Supervisor<S> {
         ensures due { result ≡ next_due (standing self.now) }
         ensures supervises { Supervises result (standing self.now) }
     {
-        match last_alive(self.children.as_slice(), self.ending) {
+        match self.children.last_alive(self.ending) {
             Some((pid, shutdown)) => due_at(stage_of(self.asked, pid), shutdown),
             None => Next::Proceed,
         }

@@ -5,13 +5,16 @@ ghost use Rattle.serde_json.specs.Data.{null};
 ghost use Rattle.serde_json.specs.View.{view};
 ghost use Rattle.pt_script.specs.Explaining.{IsAtPlace, IsLabelOf, IsOfOperation, IsOfProcess, IsSaidOf, list_in};
 ghost use Rattle.pt_script.specs.WhyTexts.{why_text};
+ghost use Rattle.pt_script.specs.Spots.{IsSpotOf};
+ghost use Rattle.pt_script.specs.declared.explanation.why.Spot.{Spot};
 ghost use Rattle.pt_script.specs.declared.explanation.why.Why.{Why};
 
 use crate::explanation::finding::{Found, process_at};
 use crate::explanation::looking::{Flaw, flaw_in};
 use crate::explanation::scope::{Scope, is_own_name, is_spawn, list_at, text_at, word_at};
+use crate::explanation::spot::{spot_at, spot_of};
 use crate::explanation::tables::{PROCESS, SCRIPT, members_of};
-use crate::explanation::why::{Label, Limit, Scene, Why, Wrong};
+use crate::explanation::why::{Label, Limit, Scene, Spot, Told, Why, Wrong};
 use crate::limits::{MAX_BYTES, MAX_DEPTH, MAX_FORMAT, MAX_PROCESSES};
 use crate::{Fault, Place};
 use serde_json::{Error, Value};
@@ -21,22 +24,30 @@ use std::str::from_utf8;
 /// Explains in one line, without a line feed, why bytes are no script. It takes the bytes and the fault that reading
 /// them returned.
 ///
-/// The fault should be the one that `pt_script` returns for these bytes. For another fault the line says what is found
-/// at its place, or that nothing is. The bytes are read again, which takes memory. Fails with `AllocError` if there is
-/// none.
+/// The line has the line and the column of what it says is wrong: of the value of the member, or of the whole if a member
+/// is missing or none is named. The fault should be the one that `pt_script` returns for these bytes. For another fault
+/// the line says what is found at its place, or that nothing is. The bytes are read again, which takes memory. Fails with
+/// `AllocError` if there is none.
 pub fn explain(
     alloc: Global,
     bytes: &[u8],
     fault: Fault,
     place: Place,
 ) -> Result<String, AllocError>
-    ensures text { IfOk result (λ s. (w : Why) × (string_bytes s ≡ why_text w) × IsSaidOf bytes.now place w.scene) }
+    ensures text { IfOk result (λ s. (w : Why) × (spot : Spot) × (string_bytes s ≡ why_text w spot)
+        × IsSaidOf bytes.now place w.scene × IsSpotOf bytes.now place w.member spot) }
 {
     if MAX_BYTES < bytes.len() {
-        return text_of(alloc, in_script(None, (None, Wrong::Over(Limit::Bytes))));
+        let why = in_script(None, (None, Wrong::Over(Limit::Bytes)));
+        let spot = spot_at(bytes, MAX_BYTES);
+        return text_of(alloc, Told { why, spot });
     }
     match Value::from_slice(alloc, bytes) {
-        Ok(value) => text_of(alloc, why_of(&value, fault, place)),
+        Ok(value) => {
+            let why = why_of(&value, fault, place);
+            let spot = spot_of(alloc, bytes, &value, place, why.member)?;
+            text_of(alloc, Told { why, spot })
+        }
         Err(error) => {
             if error.is_memory() {
                 Err(AllocError)
@@ -47,15 +58,15 @@ pub fn explain(
     }
 }
 
-fn text_of(alloc: Global, why: Why<'_>) -> Result<String, AllocError>
-    ensures { IfOk result (λ s. string_bytes s ≡ why_text why.entry) }
+fn text_of(alloc: Global, told: Told<'_>) -> Result<String, AllocError>
+    ensures { IfOk result (λ s. string_bytes s ≡ why_text told.entry.why told.entry.spot) }
 {
-    format!(in alloc; "{why}")
+    format!(in alloc; "{told}")
 }
 
 /// Why bytes are no JSON, and the place of the error.
-fn no_value(bytes: &[u8], error: &Error) -> Why<'static>
-    ensures { (line column : ℕ) × (result.scene ≡ Scene.Text line column) }
+fn no_value(bytes: &[u8], error: &Error) -> Told<'static>
+    ensures { result.why.scene ≡ Scene.Script }
 {
     let wrong = if from_utf8(bytes).is_err() {
         Wrong::NoUtf8
@@ -64,14 +75,12 @@ fn no_value(bytes: &[u8], error: &Error) -> Why<'static>
     } else {
         Wrong::NoJson
     };
-    Why {
-        scene: Scene::Text {
+    Told {
+        why: in_script(None, (None, wrong)),
+        spot: Spot {
             line: error.line(),
             column: error.column(),
         },
-        member: None,
-        word: None,
-        wrong,
     }
 }
 

@@ -45,7 +45,7 @@ pub(crate) fn process_at<'a>(tops: &'a [Value], number: u32) -> Option<Found<'a>
 
 /// Looks at a process, and then at those that it spawns, down to so many levels.
 #[cycle(search)]
-fn search<'a>(value: &'a Value, levels: u32, left: u32) -> Reached<'a>
+pub(crate) fn search<'a>(value: &'a Value, levels: u32, left: u32) -> Reached<'a>
     ensures { LeadsTo (processes_in levels (view value.now)) left result }
 {
     if left == 0 {
@@ -75,7 +75,7 @@ fn search_within<'a>(list: &'a [Value], levels: u32, left: u32) -> Reached<'a>
 
 /// Looks at an operation.
 #[cycle(search)]
-fn search_by<'a>(operation: &'a Value, levels: u32, left: u32) -> Reached<'a>
+pub(crate) fn search_by<'a>(operation: &'a Value, levels: u32, left: u32) -> Reached<'a>
     ensures { LeadsTo (spawned_in levels (view operation.now)) left result }
 {
     if is_spawn(operation) {

@@ -30,11 +30,6 @@ impl fmt::Display for Label<'_> {
 pub(crate) enum Scene<'a> {
     /// In the script as a whole.
     Script,
-    /// At this place of its text; lines begin at 1, and columns are counted in bytes.
-    Text {
-        line: usize,
-        column: usize,
-    },
     Process(Label<'a>),
     Operation {
         process: Label<'a>,
@@ -52,12 +47,31 @@ impl fmt::Display for Scene<'_> {
     fn fmt<W: fmt::Write>(&self, f: &mut fmt::Formatter<W>) -> fmt::Result {
         match self {
             Scene::Script => f.write_str("script"),
-            Scene::Text { line, column } => write!(f, "script, line {line}, column {column}"),
             Scene::Process(process) => write!(f, "process {process}"),
             Scene::Operation { process, operation } => {
                 write!(f, "process {process}, operation {operation}")
             }
         }
+    }
+}
+
+/// A place in the text of a script. Lines begin at 1, and so do columns, which count bytes.
+#[derive(Clone, Copy)]
+pub(crate) struct Spot {
+    pub(crate) line: usize,
+    pub(crate) column: usize,
+}
+
+impl fmt::Display for Spot {
+    ghost use Rattle.std.specs.Prelude.{Some};
+    ghost use Rattle.pt_script.specs.WhyTexts.{spot_text};
+
+    ghost output = { λ s. Some (spot_text s) };
+
+    #[tactic(auto, unfolding(crate::specs::WhyTexts::spot_text))]
+    fn fmt<W: fmt::Write>(&self, f: &mut fmt::Formatter<W>) -> fmt::Result {
+        let Spot { line, column } = self;
+        write!(f, "line {line}, column {column}")
     }
 }
 
@@ -167,7 +181,7 @@ impl fmt::Display for Wrong {
     }
 }
 
-/// Why a text is no script: the place, the member, the word that it is if it has the form of a name, and what is wrong
+/// Why a text is no script: the scene, the member, the word that it is if it has the form of a name, and what is wrong
 /// with it. Without a member, it says what is wrong with the whole value.
 #[derive(Clone, Copy)]
 pub(crate) struct Why<'a> {
@@ -177,11 +191,18 @@ pub(crate) struct Why<'a> {
     pub(crate) wrong: Wrong,
 }
 
-impl fmt::Display for Why<'_> {
+/// Why a text is no script, and the place in the text.
+#[derive(Clone, Copy)]
+pub(crate) struct Told<'a> {
+    pub(crate) why: Why<'a>,
+    pub(crate) spot: Spot,
+}
+
+impl fmt::Display for Told<'_> {
     ghost use Rattle.std.specs.Prelude.{Some};
     ghost use Rattle.pt_script.specs.WhyTexts.{why_text};
 
-    ghost output = { λ w. Some (why_text w) };
+    ghost output = { λ t. Some (why_text t.why t.spot) };
 
     #[tactic(auto, unfolding(crate::specs::WhyTexts::why_text))]
     fn fmt<W: fmt::Write>(&self, f: &mut fmt::Formatter<W>) -> fmt::Result {
@@ -190,11 +211,14 @@ impl fmt::Display for Why<'_> {
             member,
             word,
             wrong,
-        } = self;
+        } = self.why;
+        let spot = self.spot;
         match (member, word) {
-            (Some(member), Some(word)) => write!(f, "{scene}: member {member} ({word}) {wrong}"),
-            (Some(member), None) => write!(f, "{scene}: member {member} {wrong}"),
-            (None, _) => write!(f, "{scene}: it {wrong}"),
+            (Some(member), Some(word)) => {
+                write!(f, "{scene}, {spot}: member {member} ({word}) {wrong}")
+            }
+            (Some(member), None) => write!(f, "{scene}, {spot}: member {member} {wrong}"),
+            (None, _) => write!(f, "{scene}, {spot}: it {wrong}"),
         }
     }
 }

@@ -15,7 +15,7 @@ nobody = record { shard = 0; slot = 0; version = 0 }
 pub loop-place-preserved : goal.loop-place-preserved
 loop-place-preserved c = record {
   pids =
-      stands_next c.args.pids.now c.loop-place.place nobody c.loop-place.columns.items c.push_reserved.new.self.items c.in_ok-column.column
+      stands_next c.as_slice-list.result.now c.loop-place.place nobody c.loop-place.columns.items c.push_reserved.new.self.items c.in_ok-column.column
       (omega arith) c.in_ok-column.ensures.pid c.loop-place.invariant.pids c.push_reserved.ensures.items;
   columns = λ same.
       subst (All (λ (x : Column). IsColumn c.args.events.now x)) (sym c.push_reserved.ensures.items)
@@ -26,4 +26,4 @@ loop-place-preserved c = record {
 }
 
 pub returns-clause-pids : goal.returns-clause-pids
-returns-clause-pids c = c.loop-place.invariant.pids ∙ take_all c.loop-place.place c.args.pids.now (omega arith)
+returns-clause-pids c = c.loop-place.invariant.pids ∙ take_all c.loop-place.place c.as_slice-list.result.now (omega arith) ∙ c.as_slice-list.ensures

@@ -8,8 +8,8 @@ use Rattle.pt_chart.proofs.layout.columns_with.Given as goal
 
 abbrev pub invariant-loop-place : goal.invariant-loop-place
 invariant-loop-place l = record {
-  pids : map (λ (c : Column). c.pid) l.columns.items ≡ take l.place l.pids;
+  pids : map (λ (c : Column). c.pid) l.columns.items ≡ take l.place l.list;
   columns : l.pids ≡ everyone l.events → All (λ (c : Column). IsColumn l.events c) l.columns.items;
   count : vec_len l.columns ≡ l.place;
-  room : length l.pids ≤ vec_capacity l.columns;
+  room : length l.list ≤ vec_capacity l.columns;
 }

@@ -1,10 +1,9 @@
 -- `Supervisor::advance`: its clauses `supervises`, `permanent` and `does`.
-use Rattle.std.proofs.Common.{◌≡◌, ℕ, List, length, Option, None, Some, refl, sym, ap, subst, ◌∙◌, arith}
+use Rattle.std.proofs.Common.{rules, ◌≡◌, ℕ, length, Option, None, Some, refl, sym, ap, subst, ◌∙◌, arith}
 use Rattle.pt_signal.specs.declared.pid.Pid.{Pid}
 use Rattle.pt_signal.specs.declared.reason.Reason.{Reason}
 use Rattle.pt_shard.specs.ShardState.{phase_of}
 use Rattle.pt_behaviour.specs.declared.behaviour.Next.{Next}
-use Rattle.pt_children.specs.declared.children.Child.{Child}
 use Rattle.pt_children.specs.declared.children.Shutdown.{Shutdown}
 use Rattle.pt_children.specs.Children.{PermanentAreWanted, last_alive}
 use Rattle.pt_children.specs.Ending.{stage_of}
@@ -30,17 +29,17 @@ returns-in-Some-clause-permanent g c = λ k. subst (λ (s : Standing). Permanent
 pub returns-in-Some-stopping-clause-supervises : goal.returns-in-Some-stopping-clause-supervises
 returns-in-Some-stopping-clause-supervises g c =
     let s = c.args.self.now in
-    let none : last_alive s.children.items s.ending (length s.children.items) ≡ None = cc in
-    (c.in-Some-stopping.is, none_live s.children.items s.ending (s.all c.in-Some-stopping.reason c.in-Some-stopping.is) none)
+    let none : last_alive s.children s.ending (length s.children) ≡ None = sym c.last_alive.ensures ∙ c.in_default.is in
+    let lives = none_live s.children s.ending (s.all c.in-Some-stopping.reason c.in-Some-stopping.is) none in
+    (first_of (search rules, cc), lives)
 
 pub returns-then-start_missing-clause-supervises :
     goal.returns-then-start_missing-clause-supervises
 returns-then-start_missing-clause-supervises g c =
     let rest = c.start_missing.ensures.rest in
-    let len : c.len-self.result ≡ length c.args.self.now.children.items = omega arith in
-    let items = c.args.self.now.children.items in
-    let none : last_alive items c.args.self.now.ending (length items) ≡ None =
-    ap (λ (xs : List Child). last_alive xs c.args.self.now.ending (length xs)) (sym c.as_slice.ensures.value) ∙ (sym c.last_alive.ensures ∙ c.in_default.is) in
+    let len : c.len-self.result ≡ length c.args.self.now.children = omega arith in
+    let items = c.args.self.now.children in
+    let none : last_alive items c.args.self.now.ending (length items) ≡ None = sym c.last_alive.ensures ∙ c.in_default.is in
     settled_waits (standing c.start_missing.new.self) (
       c.if-start_missing.ensures.started refl,
       ap (λ (s : Standing). s.ending) rest ∙ (len ∙ sym c.start_missing.ensures.count),
@@ -63,10 +62,9 @@ returns-clause-does g c =
     let old = supervisor_scene c.args.self.now c.args.desk.now c.args.births.now in
     let mid = supervisor_scene c.start_missing.new.self c.start_missing.new.desk c.start_missing.new.births in
     let new = supervisor_scene c.heed_first.new.self c.start_missing.new.desk c.start_missing.new.births in
-    let items = c.args.self.now.children.items in
+    let items = c.args.self.now.children in
     let len : c.len-self.result ≡ length items = omega arith in
-    let none : last_alive items c.args.self.now.ending (length items) ≡ None =
-    ap (λ (xs : List Child). last_alive xs c.args.self.now.ending (length xs)) (sym c.as_slice.ensures.value) ∙ (sym c.last_alive.ensures ∙ c.in_default.is) in
+    let none : last_alive items c.args.self.now.ending (length items) ≡ None = sym c.last_alive.ensures ∙ c.in_default.is in
     let rest = c.if-start_missing.ensures.rest ∙ ap (λ (n : ℕ). record (old.standing) { children = mid.standing.children; started = mid.standing.started; ending = n; asked = None }) len in
     subst (λ (o : Option (Pid × Shutdown)). AdvancesAs g.S.Start.starts c.args.me c.args.now o old c.next_tried.result new) (sym none)
     (subst (λ (o : Option Reason). SupervisorSettles g.S.Start.starts c.args.me o old c.next_tried.result new) (sym c.in_default-stopping.is)
