@@ -7,8 +7,8 @@
 #
 # PT_C_ARCHIVE names an archive of pt_c that was built before. `pundewo_build`, a text in the library, says whether it was
 # proved, and has the checksum of that archive then.
-# FOLDER gets include/pundewo.h and pundewo_text.h, lib/libpundewo.a and libpundewo.so, lib/pkgconfig/pundewo.pc, and
-# SHA256SUMS. It may be moved. The heap of the toolchain's C library is within both libraries, so a program links nothing
+# FOLDER gets include/pundewo.h and pundewo_text.h, lib/libpundewo.a and libpundewo.so, lib/pkgconfig/pundewo.pc,
+# lib/pundewo_native.abi3.so for Python, and SHA256SUMS. It may be moved. The heap of the toolchain's C library is within both libraries, so a program links nothing
 # else. The toolchain's own compiler and linker build all of it, so it is the same on each machine. RT names another 'rt'.
 set -euo pipefail
 
@@ -72,6 +72,18 @@ END
 "$tools/ld.lld" -shared -soname "$soname" --version-script "$work/exported" --build-id=sha1 --gc-sections \
     --strip-all --hash-style=gnu -z relro -z now -o "$folder/lib/libpundewo.so.$version" \
     --whole-archive "$folder/lib/libpundewo.a"
+# The module for Python. It names no library either: its calls are Python's own, and those of libpundewo.so are told to it.
+# (the toolchain's compiler has no headers: these are what pundewo.h includes)
+mkdir "$work/headers"
+echo '#define bool _Bool' >"$work/headers/stdbool.h"
+printf '%s\n' 'typedef __SIZE_TYPE__ size_t;' 'typedef __PTRDIFF_TYPE__ ptrdiff_t;' '#define NULL ((void *)0)' >"$work/headers/stddef.h"
+for bits in 8 16 32 64; do
+    echo "typedef __UINT${bits}_TYPE__ uint${bits}_t; typedef __INT${bits}_TYPE__ int${bits}_t;"
+done >"$work/headers/stdint.h"
+"$tools/clang" --target=x86_64-unknown-linux-gnu -std=c11 -Wall -Wextra -Werror -O2 -fPIC -fvisibility=hidden "-DPUNDEWO_BUILD=\"$build\"" \
+    -isystem "$work/headers" -I "$here/c" -c -o "$work/native.o" "$here/python/native.c"
+"$tools/ld.lld" -shared --build-id=sha1 --gc-sections --strip-all --hash-style=gnu -z relro -z now -z noexecstack \
+    -o "$folder/lib/pundewo_native.abi3.so" "$work/native.o"
 ln -s "libpundewo.so.$version" "$folder/lib/$soname"
 ln -s "$soname" "$folder/lib/libpundewo.so"
 sed "s|@VERSION@|$version|" "$here/c/pundewo.pc.in" >"$folder/lib/pkgconfig/pundewo.pc"

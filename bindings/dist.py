@@ -45,6 +45,8 @@ BINDINGS = ROOT / "bindings"
 SAID = re.compile(rb"pundewo (\d+\.\d+\.\d+), ((?:not )?proved)\b[^\0]*")
 TOOLS = {"tar": "tar", "gzip": "gzip", "dpkg-deb": "dpkg", "dpkg-shlibdeps": "dpkg-dev", "cargo": "cargo", "make": "make"}
 MULTIARCH = "usr/lib/x86_64-linux-gnu"
+# What the module of Python has in C, beside the library.
+NATIVE = "pundewo_native.abi3.so"
 PAGES = "usr/share/doc/pundewo"
 MAINTAINER = "Pundewo maintainers <maintainers@users.noreply.pundewo.example>"
 SUMMARY = "proved Erlang-style process table"
@@ -242,6 +244,7 @@ def debian(given: Given, room: Path) -> None:
         if path.exists():
             shutil.copyfile(path, modules / path.name)
     (modules / "py.typed").touch()
+    shutil.move(staged / MULTIARCH / NATIVE, modules / NATIVE)
     (modules / "libpundewo.so").symlink_to(f"../../../{MULTIARCH.removeprefix('usr/lib/')}/libpundewo.so.0")
     needs = needs_of([staged / "usr/bin" / name for name in PROGRAMS], room)
     for package in debian_packages(given, needs):

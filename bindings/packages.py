@@ -164,12 +164,18 @@ def same_bytes(world: World) -> None:
 
 
 def exports(world: World) -> None:
-    """The shared library exports what the header declares, has its name, and needs no library by name."""
+    """The shared library exports what the header declares, has its name, and needs no library by name. Nor does the module in C
+    for Python, which exports what begins it."""
     path = world.library / "lib" / f"libpundewo.so.{world.version}"
     rows = [line.split() for line in run(["nm", "-D", "--defined-only", path], world.folder).splitlines()]
     header = (world.library / "include/pundewo.h").read_text()
     declared = re.findall(r"^(?:uint32_t |void |unsigned |const char \*)(pt_\w+)\(", header, re.M)
     is_same("what is exported", "\n".join(sorted(row[-1] for row in rows)), "\n".join(sorted([*declared, "pundewo_build"])))
+    native = path.with_name("pundewo_native.abi3.so")
+    is_same("what the module in C exports", run(["nm", "-D", "--defined-only", native], world.folder).split()[-1], "PyInit_pundewo_native")
+    wanted = {row.split()[-1] for row in run(["nm", "-D", "--undefined-only", native], world.folder).splitlines()}
+    if any(not name.startswith(("Py", "_Py_NoneStruct")) for name in wanted) or "(NEEDED)" in run(["readelf", "-d", native], world.folder):
+        raise Wrong(f"{native} needs more than Python: {', '.join(sorted(wanted))}")
     dynamic = run(["readelf", "-d", path], world.folder)
     if "soname: [libpundewo.so.0]" not in dynamic or "(NEEDED)" in dynamic:
         raise Wrong(f"{path} has another name, or needs a library:\n{dynamic}")
@@ -256,6 +262,8 @@ def use_from_python(world: World, at: Path, python: Path, **more: str) -> None:
         is_same(f"{name}.py", printed, stored(f"{name}.out"))
     code = "import pundewo; print(pundewo.__version__, pundewo.BUILD)"
     is_same("the package", run([python, "-c", code], at, **more), f"{world.version} {world.said}\n")
+    code = "import sys; from pundewo import _crossing as it; print((it.native is None) == (sys.version_info < (3, 10)))"
+    is_same("whether the module in C is used", run([python, "-c", code], at, **more), "True\n")
 
 
 def wheel(world: World) -> None:

@@ -289,6 +289,12 @@ echo "rust: the runs that are watched passed"
 (
     cd "$here/python"
     python3 -m unittest discover -q -s tests
+    # (and without the module in C, which does not change what the runtime does)
+    mkdir "$work/alone"
+    cp "$work/built/lib/libpundewo.so" "$work/alone/"
+    for tests in 'test_runtime*.py' 'test_trial_promises.py'; do
+        PUNDEWO_SO=$work/alone/libpundewo.so python3 -m unittest discover -q -s tests -p "$tests"
+    done
     PYTHONPATH=. python3 examples/supervisor.py | diff "$here/c/supervisor.out" -
     PYTHONPATH=. python3 examples/crew.py | diff "$here/c/crew.out" -
     PYTHONPATH=. python3 examples/crew_supervisors.py | diff "$here/c/crew_supervisors.out" -

@@ -17,7 +17,7 @@ SOURCE = "crates/pt_render/src/choices.rt"
 # Each file, and the form of the line that has the version. The first such line counts.
 PLACES = {
     "CHANGELOG.md": r"^## (\S+)",
-    "crates/pt_explorer/src/options.rt": r'\.version\("(.*)"\)',
+    "crates/pt_schedules/src/options.rt": r'\.version\("(.*)"\)',
     "bindings/c/pundewo.h": r'^#define PUNDEWO_VERSION "(.*)"',
     "bindings/rust/sys/Cargo.toml": r'^version = "(.*)"',
     "bindings/rust/Cargo.toml": r'^version = "(.*)"',

@@ -1,14 +1,18 @@
 #!/usr/bin/env python3
 """in_python.py pundewo|asyncio WORKLOAD TIMES: does a workload so many times in Python, and prints nothing.
+in_python.py together [ROUNDS]: does all of them in turn in one process, so many rounds (7), and prints the microseconds of the
+processor that one takes, the least and the median, and the least as a share of what asyncio takes for the same.
 
-bench/beside.py measures it. `message` is one between two processes or two tasks, `call` is one with its answer, and `restart`
-is a child of a supervisor that exits and is started again.
+bench/beside.py measures the first. `message` is one between two processes or two tasks, `call` is one with its answer, and
+`restart` is a child of a supervisor that exits and is started again: its share is of a call of asyncio.
 """
 from __future__ import annotations
 
 import asyncio
 import logging
+import statistics
 import sys
+import time
 from typing import Any, Callable, Optional
 
 # How long a call may take.
@@ -90,7 +94,8 @@ def restarts(times: int) -> None:
 
     logging.disable(logging.CRITICAL)
     runtime = Runtime()
-    above = runtime.spawn(Supervisor.one_for_one().permanent(Child).limit(2 * times, LIMIT))
+    # (of the restarts before, it remembers those of this time alone)
+    above = runtime.spawn(Supervisor.one_for_one().permanent(Child).limit(1000, 0.00001))
     runtime.run()
     if left:
         sys.exit(f"in_python.py: {left} restarts of {times} are missing")
@@ -133,5 +138,25 @@ WORKLOADS: dict[tuple[str, str], Callable[[int], object]] = {
     ("asyncio", "call"): lambda times: asyncio.run(queued_calls(times)),
 }
 
+# How often a round does each.
+TOGETHER = {"message": 20_000, "call": 6_000, "restart": 3_000}
+
+
+def together(rounds: int) -> None:
+    """Measures all of them in this process."""
+    took: dict[tuple[str, str], list[float]] = {of: [] for of in WORKLOADS}
+    for _ in range(rounds):
+        for (who, what), work in WORKLOADS.items():
+            began = time.thread_time()
+            work(TOGETHER[what])
+            took[who, what].append((time.thread_time() - began) / TOGETHER[what] * 1e6)
+    for (who, what), each in took.items():
+        share = min(each) / min(took["asyncio", "call" if what == "restart" else what])
+        print(f"{who:8} {what:8} {min(each):7.2f} {statistics.median(each):7.2f} {share:6.2f}")
+
+
 if __name__ == "__main__":
-    WORKLOADS[sys.argv[1], sys.argv[2]](int(sys.argv[3]))
+    if sys.argv[1] == "together":
+        together(int(sys.argv[2]) if len(sys.argv) > 2 else 7)
+    else:
+        WORKLOADS[sys.argv[1], sys.argv[2]](int(sys.argv[3]))

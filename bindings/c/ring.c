@@ -1,8 +1,9 @@
-/* A ring of processes over four desks, a thread each: a token goes round. Then the desks are gathered and settled, and
- * the first events of the history printed. The last thread to see the token stops all. */
+/* A ring of processes over four desks, a thread each: a token goes round, and a thread rests while its desk has nothing to do. Then the
+ * desks are gathered and settled, and the first events of the history printed. The last thread to see the token stops all. */
 #include <assert.h>
 #include <pthread.h>
 #include <stdatomic.h>
+#include <stdbool.h>
 #include <stdio.h>
 #include <stdlib.h>
 
@@ -14,16 +15,42 @@ enum { DESKS = 4, TOKEN = 1, ROUNDS = 1000 };
 struct member {
     pt_desk *desk;
     pt_pid self, next;
+    /* whether its bell was rung since its thread heard it last */
+    pthread_mutex_t lock;
+    pthread_cond_t bell;
+    bool rung;
 };
 
+static struct member members[DESKS];
 static atomic_bool done;
+
+/* Wakes the threads of these desks, a bit for each. */
+static void ring(uint64_t desks) {
+    for (int d = 0; d < DESKS; d++) {
+        if (!(desks >> d & 1)) continue;
+        pthread_mutex_lock(&members[d].lock);
+        members[d].rung = true;
+        pthread_cond_signal(&members[d].bell);
+        pthread_mutex_unlock(&members[d].lock);
+    }
+}
+
+/* Rests until the bell is rung. What another desk has posted since its thread looked for letters rings behind that. */
+static void rest(struct member *member) {
+    pthread_mutex_lock(&member->lock);
+    while (!member->rung) pthread_cond_wait(&member->bell, &member->lock);
+    member->rung = false;
+    pthread_mutex_unlock(&member->lock);
+}
 
 /* Takes the tokens that wait, and hands each on, one less. */
 static void serve(struct member *member) {
     pt_item item;
     while (pt_receive(member->desk, member->self, (pt_pick){.code = PT_PICK_KIND, .kind = TOKEN}, &item) == PT_OK) {
-        if (item.body.num == 0) atomic_store(&done, true);
-        else {
+        if (item.body.num == 0) {
+            atomic_store(&done, true);
+            ring(UINT64_MAX);
+        } else {
             pt_body body = {.kind = TOKEN, .num = item.body.num - 1};
             assert(pt_send(member->desk, member->self, member->next, body) == PT_OK);
         }
@@ -36,10 +63,16 @@ static void *work(void *data) {
     while (!atomic_load(&done)) {
         pt_turned turned;
         pt_pid woken;
+        uint64_t out;
+        bool has;
+        assert(pt_letters_out(member->desk, &out) == PT_OK);
         assert(pt_turn(member->desk, 64, &turned) == PT_OK && turned.stopped == PT_OK);
+        ring(out);
         /* whoever got an item is told by the journal */
         while (pt_next_woken(member->desk, &seen, &woken) == PT_OK)
             if (woken.slot == member->self.slot) serve(member);
+        assert(pt_has_letters(member->desk, &has) == PT_OK);
+        if (!has) rest(member);
     }
     return NULL;
 }
@@ -47,11 +80,11 @@ static void *work(void *data) {
 int main(int argc, char **argv) {
     long rounds = argc > 1 ? atol(argv[1]) : ROUNDS;
     pt_desk desks[DESKS] = {PT_NO_DESK, PT_NO_DESK, PT_NO_DESK, PT_NO_DESK};
-    struct member members[DESKS];
     pthread_t threads[DESKS];
     assert(pt_open(desks, DESKS, (pt_config){.slots = 8, .top_version = 10, .lane = 64, .start = 0}) == PT_OK);
     for (int d = 0; d < DESKS; d++) {
         members[d].desk = &desks[d];
+        assert(pthread_mutex_init(&members[d].lock, NULL) == 0 && pthread_cond_init(&members[d].bell, NULL) == 0);
         assert(pt_spawn(&desks[d], &members[d].self) == PT_OK);
     }
     for (int d = 0; d < DESKS; d++) members[d].next = members[(d + 1) % DESKS].self;

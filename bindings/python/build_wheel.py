@@ -1,6 +1,7 @@
 """Builds the package's wheel and its source distribution, for pip: the module, and the shared library within it.
 
-The library is the one that PUNDEWO_SO names, else `pundewo/libpundewo.so` in this folder. `bindings/build.sh` makes it. Two
+The library is the one that PUNDEWO_SO names, else `pundewo/libpundewo.so` in this folder. `bindings/build.sh` makes it, and beside
+it what the module has in C. The package takes that too if it is there, and runs without it, in more time. Two
 builds of the same files are the same, byte for byte: all dates are SOURCE_DATE_EPOCH, or 1980 without it.
 """
 
@@ -21,6 +22,8 @@ from typing import Any, Optional
 
 HERE = Path(__file__).resolve().parent
 PACKAGE = HERE / "pundewo"
+# What the module has in C, beside the library.
+NATIVE = "pundewo_native.abi3.so"
 # Where a library runs that needs none by name, and where another one does.
 ANYWHERE = ("manylinux2014_x86_64", "manylinux_2_17_x86_64", "musllinux_1_1_x86_64")
 HERE_ALONE = ("linux_x86_64",)
@@ -28,9 +31,14 @@ HERE_ALONE = ("linux_x86_64",)
 FIRST_DATE = 315532800
 
 
+def library_path() -> Path:
+    """Where the shared library is."""
+    return Path(os.environ.get("PUNDEWO_SO") or PACKAGE / "libpundewo.so")
+
+
 def library() -> bytes:
     """The shared library's bytes."""
-    path = Path(os.environ.get("PUNDEWO_SO") or PACKAGE / "libpundewo.so")
+    path = library_path()
     if not path.is_file():
         sys.exit(f"pundewo: no shared library at {path}: run bindings/build.sh FOLDER, and set PUNDEWO_SO to the "
                  "libpundewo.so in FOLDER/lib")
@@ -105,7 +113,9 @@ def write_wheel(folder: str, modules: dict[str, bytes], where: tuple[str, ...]) 
 def module_files() -> dict[str, bytes]:
     """The files of the module, the shared library included."""
     modules = {f"pundewo/{path.name}": path.read_bytes() for form in ("*.py", "*.html") for path in sorted(PACKAGE.glob(form))}
-    return {**modules, "pundewo/py.typed": b"", "pundewo/libpundewo.so": library()}
+    files = {**modules, "pundewo/py.typed": b"", "pundewo/libpundewo.so": library()}
+    native = library_path().with_name(NATIVE)
+    return {**files, f"pundewo/{NATIVE}": native.read_bytes()} if native.is_file() else files
 
 
 def build_wheel(wheel_directory: str, config_settings: Optional[dict[str, Any]] = None,

@@ -3,24 +3,29 @@
 
     checks/audit/progress_on_a_terminal.py PT_AUDIT
 
-The parts that were read only grow, and the verdict is on standard output as ever. Without a terminal nothing is told.
+The parts that were read, and then those of a chart that were drawn, only grow, and standard output is as ever. Without a terminal
+nothing is told.
 """
 from __future__ import annotations
 
-import os
-import pty
 import re
 import subprocess
 import sys
 import tempfile
-import time
 from pathlib import Path
 
 ROOT = Path(__file__).resolve().parent.parent.parent
+sys.dont_write_bytecode = True
+sys.path.insert(0, str(ROOT / "checks"))
+from terminal import on_a_terminal  # noqa: E402
+
 PART = re.compile(r"(\d+) % read, about (\d+) seconds left")
+DRAWN = re.compile(r"(\d+) % drawn, about (\d+) seconds left")
 # A history is made longer until the audit takes so many seconds.
 LONG = 1.8
 MOST_EVENTS = 4_000_000
+# The same of a chart, of which a part is drawn.
+LONG_CHART = 12.0
 
 
 class Wrong(Exception):
@@ -33,40 +38,38 @@ def made(path: Path, events: int) -> None:
         subprocess.run([sys.executable, str(ROOT / "bench" / "history.py"), str(events), "100", "100"], stdout=to, check=True)
 
 
-def on_a_terminal(command: list[str]) -> tuple[str, str, float]:
-    """What the program prints, what it says on the terminal, and the seconds that it takes."""
-    terminal, other = pty.openpty()
-    begun = time.monotonic()
-    with subprocess.Popen(command, stdin=subprocess.DEVNULL, stdout=subprocess.PIPE, stderr=other) as started:
-        os.close(other)
-        assert started.stdout is not None
-        printed = started.stdout.read().decode()
-        seconds = time.monotonic() - begun
-        heard = b""
-        while True:
-            try:
-                piece = os.read(terminal, 4096)
-            except OSError:
-                break
-            if not piece:
-                break
-            heard += piece
-    return printed, heard.decode().replace("\r\n", "\n"), seconds
-
-
-def parts_of(said: str) -> list[int]:
+def parts_of(said: str, form: re.Pattern[str] = PART) -> list[int]:
     """The parts that were told, in percent."""
     parts = []
     for line in said.splitlines():
-        found = PART.fullmatch(line)
+        found = form.fullmatch(line)
         if found is None:
             raise Wrong(f"it says: {line}")
         parts.append(int(found[1]))
     return parts
 
 
+def draw(program: str, history: Path) -> None:
+    """Has charts drawn, of more and more events, until it is told how much of one is drawn."""
+    events, drawn, seconds = 15_000, "", 0.0
+    while not drawn and seconds < LONG_CHART:
+        events *= 2
+        made(history, events)
+        command = [program, "--judge", "--print", "chart", str(history)]
+        printed, said, seconds = on_a_terminal(command)
+        read = "".join(line for line in said.splitlines(keepends=True) if "read" in line)
+        drawn = said.removeprefix(read)
+        for parts in (parts_of(read), parts_of(drawn, DRAWN)):
+            if parts != sorted(parts) or any(part > 100 for part in parts):
+                raise Wrong(f"it says {said!r}")
+    silent = subprocess.run(command, capture_output=True, text=True, check=False)
+    if not drawn or silent.stderr or silent.stdout != printed:
+        raise Wrong(f"of a chart it says {said!r}, and without a terminal {silent.stderr!r}")
+
+
 def main(program: str) -> None:
     with tempfile.TemporaryDirectory() as folder:
+        draw(program, Path(folder) / "history")
         history, events = Path(folder) / "history", 800_000
         while True:
             made(history, events)

@@ -5,29 +5,12 @@
 """
 from __future__ import annotations
 
-import os
-import pty
-import subprocess
 import sys
+from pathlib import Path
 
-
-def said(command: list[str]) -> str:
-    """What the program says on the terminal."""
-    terminal, other = pty.openpty()
-    with subprocess.Popen(command, stdin=subprocess.DEVNULL, stdout=subprocess.DEVNULL, stderr=other) as started:
-        os.close(other)
-        started.wait(60)
-        heard = b""
-        while True:
-            try:
-                piece = os.read(terminal, 4096)
-            except OSError:
-                break
-            if not piece:
-                break
-            heard += piece
-    return heard.decode().replace("\r\n", "\n")
-
+sys.dont_write_bytecode = True
+sys.path.insert(0, str(Path(__file__).resolve().parent.parent))
+from terminal import on_a_terminal  # noqa: E402
 
 if __name__ == "__main__":
-    sys.stdout.write(said(sys.argv[1:]))
+    sys.stdout.write(on_a_terminal(sys.argv[1:])[1])

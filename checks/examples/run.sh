@@ -56,4 +56,8 @@ refused=$here/refused/explained_operation.json
 ran[on_a_terminal]=1
 "$here/explained_on_a_terminal.py" "$root/bin/pt_run" "$refused" >"$work/terminal"
 cmp "$refused.stderr" "$work/terminal" || wrong on_a_terminal "it says something else"
+
+# On a terminal a run that takes long tells how far it is.
+ran[progress]=1
+"$here/progress_on_a_terminal.py" "$root/bin/pt_run" >"$work/progress" || wrong progress "$(cat "$work/progress")"
 verdict examples

@@ -1,11 +1,17 @@
 #!/usr/bin/env python3
 """Runs pt_explore over random scripts, and compares what it counts with the model of model.py.
 
-    checks/explore/moves.py PROGRAM [--seed S] [--scripts N]
+    checks/explore/moves.py PROGRAM [--seed S] [--scripts N] [--reduced N] [--erlang N]
 
 Each script has two to four processes on one to three desks, with spawns, links, monitors, asks and exit signals. The number of
 states, the number of schedules, and how many schedules end in which way have to be the same. Scripts of more than 30,000 states
 are passed over.
+
+With `--reduced` moves are left out, and the outcomes have to be the same. That is tried with so many more scripts, of 3,000 states
+at most. In most of these each process has a desk, and in most it neither links nor spawns nor asks nor sends an exit.
+
+With `--order erlang` the model goes by Erlang's rules, and has no desks. So many more scripts, without spawns, are compared with it.
+Each outcome of `--order table` has to be one of these, and with `--reduced` they have to be the same.
 """
 from __future__ import annotations
 
@@ -22,26 +28,30 @@ from typing import Any
 
 sys.dont_write_bytecode = True
 sys.path.insert(0, str(Path(__file__).resolve().parent))
-from model import Ended, Model, Process, Script, explored  # noqa: E402
+from model import Ended, Erlang, Model, Process, Script, explored  # noqa: E402
 
 MOST_STATES = 30_000
+MOST_WHOLE = 3_000
 OPS = "send send send receive receive check link unlink monitor demonitor trap exit signal spawn pass alive".split()
+PLAIN = "send send send send receive receive receive check check monitor demonitor trap pass exit".split()
+APART = [op for op in OPS if op != "spawn"]
 REASONS = ("normal", "kill", "killed", "other:3", "shutdown")
 
 
 class Writer:
     """Writes a script by chance."""
 
-    def __init__(self, seed: int) -> None:
-        self.chance = random.Random(seed)
+    def __init__(self, seed: int, apart: bool = False, ops: list[str] = OPS) -> None:
+        self.chance, self.apart, self.ops = random.Random(seed), apart, ops
         self.left = self.chance.randint(5, 9)
         self.tops = [f"p{n}" for n in range(self.chance.randint(2, 4))]
 
     def script(self) -> dict[str, Any]:
         """The whole script."""
-        desks = self.chance.randint(1, 3)
-        processes = [{"name": name, "desk": self.chance.randrange(desks), "trap": self.chance.random() < .25,
-                      "ops": self.operations(name, [*self.tops, "self"])} for name in self.tops]
+        desks = len(self.tops) if self.apart else self.chance.randint(1, 3)
+        processes = [{"name": name, "desk": number if self.apart else self.chance.randrange(desks),
+                      "trap": self.chance.random() < .25, "ops": self.operations(name, [*self.tops, "self"])}
+                     for number, name in enumerate(self.tops)]
         return {"format": 2, "desks": desks, "processes": processes}
 
     def operations(self, me: str, scope: list[str]) -> list[dict[str, Any]]:
@@ -52,7 +62,7 @@ class Writer:
             if self.left <= 0:
                 break
             self.left -= 1
-            one = self.operation(self.chance.choice(OPS), f"c{len(made)}{me}", names, tags, asks)
+            one = self.operation(self.chance.choice(self.ops), f"c{len(made)}{me}", names, tags, asks)
             if one is None:
                 continue
             made.append(one)
@@ -122,37 +132,71 @@ def told(script: Script, processes: tuple[Process, ...]) -> str:
     return "; ".join(parts)
 
 
-def printed(program: str, file: Path) -> tuple[tuple[int, int], Counter[str]] | str:
-    """How many schedules and states the program counts, and how many schedules end in which way."""
-    ran = subprocess.run([program, "--order", "table", str(file)], capture_output=True, text=True, check=False)
+def printed(program: str, file: Path, *words: str) -> tuple[tuple[int, int], Counter[str]] | str:
+    """How many schedules and states the program counts, and how many schedules lead to which outcome."""
+    ran = subprocess.run([program, "--order", *words, str(file)], capture_output=True, text=True, check=False)
     lines = ran.stdout.splitlines()
-    counts = re.match(r"schedules (\d+) outcomes \d+ states (\d+)", ran.stdout)
+    counts = re.match(r"schedules (\d+)(?: as representatives)? outcomes \d+ states (\d+)", ran.stdout)
     if counts is None:
         return f"status {ran.returncode}: {ran.stdout}{ran.stderr}"
-    ends: Counter[str] = Counter()
+    outcomes: Counter[str] = Counter()
     for leads, text in zip(lines[1::2], lines[2::2], strict=True):
         number = re.search(r"schedules (\d+)", leads)
-        parts = [re.sub(r"(waits at op \d+):.*", r"\1", part) for part in text.strip().split("; ")]
-        ends["; ".join(parts)] += int(number[1]) if number else 0
-    return (int(counts[1]), int(counts[2])), ends
+        outcomes[text.strip()] += int(number[1]) if number else 0
+    return (int(counts[1]), int(counts[2])), outcomes
 
 
-def compared(program: str, seed: int, file: Path) -> bool | None:
+def without_mailboxes(outcomes: Counter[str]) -> Counter[str]:
+    """The same, without the mailboxes of those that wait."""
+    ends: Counter[str] = Counter()
+    for text, number in outcomes.items():
+        ends["; ".join(re.sub(r"(waits at op \d+):.*", r"\1", part) for part in text.split("; "))] += number
+    return ends
+
+
+def reduced(program: str, seed: int, file: Path) -> bool | None:
+    """Whether moves are left out and no outcome is lost; None if the script has too many states, or none is left out."""
+    file.write_text(json.dumps(Writer(seed, seed % 4 > 0, OPS if seed % 5 == 0 else PLAIN).script()))
+    whole = printed(program, file, "table", "--limit", str(MOST_WHOLE))
+    if isinstance(whole, str) and whole.startswith("status 4"):
+        return None
+    left = printed(program, file, "table", "--reduced")
+    if isinstance(whole, str) or isinstance(left, str) or set(whole[1]) != set(left[1]) or left[0] > whole[0]:
+        print(f"script {seed}: wanted {whole}\n  has {left}\n  {file.read_text()}")
+        return False
+    return True if left[0][1] < whole[0][1] else None
+
+
+def compared(program: str, seed: int, file: Path, order: str = "table") -> bool | None:
     """Whether the program agrees with the model; None if the script has too many states."""
-    file.write_text(json.dumps(Writer(seed).script()))
+    by_table = order == "table"
+    file.write_text(json.dumps(Writer(seed, ops=OPS if by_table else APART).script()))
     script = Script(file)
-    found = explored(Model(script), MOST_STATES)
+    found = explored(Model(script) if by_table else Erlang(script), MOST_STATES)
     if found is None:
         return None
     states, ends = found
     wanted: Counter[str] = Counter()
     for processes, count in ends.items():
         wanted[told(script, processes)] += count
-    has = printed(program, file)
-    if has == ((sum(ends.values()), states), wanted):
+    has = printed(program, file, order)
+    if not isinstance(has, str) and (has[0], without_mailboxes(has[1])) == ((sum(ends.values()), states), wanted):
         return True
     print(f"script {seed}: wanted {sum(ends.values())} schedules, {states} states, {dict(wanted)}")
     print(f"  has {has}\n  {file.read_text()}")
+    return False
+
+
+def erlang(program: str, seed: int, file: Path) -> bool | None:
+    """Whether it agrees with the model by Erlang's rules, and has each outcome of the table's order; also if moves are left out."""
+    verdict = compared(program, seed, file, "erlang")
+    if not verdict:
+        return verdict
+    table, whole, left = (printed(program, file, *words) for words in (("table",), ("erlang",), ("erlang", "--reduced")))
+    if not isinstance(table, str) and not isinstance(whole, str) and not isinstance(left, str):
+        if set(table[1]) <= set(whole[1]) == set(left[1]) and left[0] <= whole[0]:
+            return True
+    print(f"script {seed}: the table's order has {table}\n  Erlang's has {whole}\n  and has {left}\n  {file.read_text()}")
     return False
 
 
@@ -162,12 +206,17 @@ def main() -> int:
     words.add_argument("program")
     words.add_argument("--seed", type=int, default=1)
     words.add_argument("--scripts", type=int, default=50)
+    words.add_argument("--reduced", type=int, default=100)
+    words.add_argument("--erlang", type=int, default=40)
     asked = words.parse_args()
     with tempfile.TemporaryDirectory() as folder:
         file = Path(folder) / "script.json"
         verdicts = [compared(asked.program, seed, file) for seed in range(asked.seed, asked.seed + asked.scripts)]
-    print(f"moves: {verdicts.count(True)} passed, {verdicts.count(False)} failed, {verdicts.count(None)} passed over")
-    return 0 if verdicts.count(True) and not verdicts.count(False) else 1
+        fewer = [reduced(asked.program, seed, file) for seed in range(asked.seed, asked.seed + asked.reduced)]
+        apart = [erlang(asked.program, seed, file) for seed in range(asked.seed, asked.seed + asked.erlang)]
+    for name, them in (("moves", verdicts), ("reduced", fewer), ("erlang", apart)):
+        print(f"{name}: {them.count(True)} passed, {them.count(False)} failed, {them.count(None)} passed over")
+    return 0 if all((not them or True in them) and False not in them for them in (verdicts, fewer, apart)) else 1
 
 
 if __name__ == "__main__":

@@ -56,6 +56,7 @@ ROWS = {
     "desks::past": "desk: a message to oneself, received past 100 others",
     "desks::spawn": "desk: a spawn and its exit",
     "desks::watch": "desk: a spawn, a monitor, the exit and its DOWN",
+    "desks::watch_behind": "desk: the same, behind 10,000 others",
     "desks::link_unlink": "desk: a link and its unlink",
     "desks::monitor_demonitor": "desk: a monitor and its demonitor",
     "nodes::exchange": "node: a message there and one back",

@@ -9,6 +9,10 @@ The texts are split into parts: a function without its body, a type, an `impl` b
 or lemma of antt. A name of a file of antt is defined there or imported. In a source file a name may be that of a type or a
 definition, and in a body that of a function, whose `impl` is of a type that is known there. Its tactics name lemmas. If a name
 may mean several parts, all of them are reached.
+
+Other crates see the Model's value alone of a type that has one, if all its fields are private: the prover opens such a value
+where a body names a field. So its fields, and each item of the `impl Model` that names one of them, are the inside of the type.
+Only edits of its own crate read that.
 """
 from __future__ import annotations
 
@@ -23,6 +27,7 @@ import deciding
 
 WORD = re.compile(r"[A-Za-z_][\w'-]*|[^\w\s(){}\[\],;.'\"◌]+")
 DECLARES = re.compile(r"(?:pub(?:\(\w+\))? )?(?:unsafe )?(?:struct|enum|union|trait|const|static|type|mod|macro_rules!) *(\w+)")
+MODEL = re.compile(r"impl\b[^\n{]*\bModel for (\w+)", re.M)
 DEFINES = re.compile(r"(?:(?:abbrev|unfoldable|unfolding|pub|starred|instance|partial) )*(?:(?:record|data) )?([A-Za-z_][\w'-]*|◌[^\s{},.()]+◌)(?= |$)")
 # What others read whole.
 OPEN = re.compile(r"(pub )?(abbrev|unfoldable|record|data)\b|pub (record|data)\b")
@@ -34,6 +39,7 @@ class Part:
 
     `words` are the names in the text that may be of a part, and `lemmas` those that may be of a lemma. A local part is reached
     from its own crate alone. A function is reached from bodies alone, and one of an `impl` if one of its `owners` is known there.
+    An inside is behind the part that other crates read of the same item. It is read by edits of its own crate that reach that part.
     """
 
     names: frozenset[str]
@@ -43,6 +49,7 @@ class Part:
     local: bool = False
     is_lemma: bool = False
     is_function: bool = False
+    is_inside: bool = False
     owners: frozenset[str] = frozenset()
 
 
@@ -137,7 +144,44 @@ def parts_of_source(text: str, module: str) -> list[Part]:
     parts = [of_function(file, lines, it) for it in functions]
     within = {at for it in functions for at in range(begin_of(lines, it), it.last + 1)}
     rest = split("\n".join("" if at in within else line for at, line in enumerate(lines)), "//")[0]
-    return parts + [file.part(names_declared(it), it) for it in blocks_of(rest)] + file.renamed
+    blocks = blocks_of(rest)
+    models = frozenset(MODEL.findall(text))
+    hidden = {name: fields for it in blocks if (fields := private_fields(it)) for name in names_declared(it) & models}
+    for block in blocks:
+        face = face_of(block, hidden)
+        parts.append(file.part(names_declared(block), face))
+        if face != block:
+            parts.append(replace(file.part(names_declared(block), block, local=True), is_inside=True))
+    return parts + file.renamed
+
+
+def items_in(block: str) -> list[str]:
+    """The lines of an item, joined to the fields or ghost items that they are of."""
+    found: list[str] = []
+    for line in block.split("\n"):
+        if found and line.startswith(("     ", "    }")):
+            found[-1] += "\n" + line
+        else:
+            found.append(line)
+    return found
+
+
+def private_fields(block: str) -> frozenset[str]:
+    """The fields of a struct whose fields are all private; none if there is a public one, by which others open its values."""
+    if re.search(r"^(pub )?struct\b[^\n]*\{$", block, re.M) is None or re.search(r"^    pub ", block, re.M):
+        return frozenset()
+    return frozenset(it[1] for item in items_in(block) if (it := re.match(r"    (\w+): ", item)))
+
+
+def face_of(block: str, hidden: dict[str, frozenset[str]]) -> str:
+    """What other crates read of an item: no private field of a type with a Model, and nothing in its `impl Model` that names one."""
+    model = MODEL.match(block)
+    fields = frozenset().union(*(hidden.get(it, frozenset()) for it in ([model[1]] if model else names_declared(block))))
+    names = r"\.({0})\b" if model else r"^    ({0}): "
+    unwanted = re.compile(names.format("|".join(sorted(fields)))) if fields else None
+    if unwanted is None or not model and not DECLARES.search(block):
+        return block
+    return "\n".join(it for it in items_in(block) if not unwanted.search(it))
 
 
 def of_function(file: File, lines: list[str], function: deciding.Function) -> Part:
@@ -276,7 +320,8 @@ class Reach:
     def reached_by(self, parts: Iterable[Part], crate: str, types: frozenset[str] | None = None) -> list[int]:
         """The parts that these parts of a crate name; functions if the types are given that are known there."""
         known = [self.named[crate], *(self.offered[it] for it in self.visible(crate) if it != crate)]
-        return [at for it in parts for word in it.words | it.lemmas for names in known for at in names.get(word, ()) if self.may_name(it, word, at, types)]
+        found = [at for it in parts for word in it.words | it.lemmas for names in known for at in names.get(word, ()) if self.may_name(it, word, at, types)]
+        return [at for at in found if not self.parts[at].is_inside]
 
     def may_name(self, part: Part, word: str, at: int, types: frozenset[str] | None) -> bool:
         """Whether this word of a part may mean the part at this place."""
@@ -307,10 +352,20 @@ class Reach:
         bits = 0
         for at in self.reached_by([*own, Part(frozenset(), new, words_of(new), frozenset())], edit.crate, self.types_of(edit.crate)):
             bits |= self.closures[at]
+        bits = self.with_insides(bits, edit.crate)
         found = hashlib.sha256("\0".join(it.text for it in own).encode())
         for digest in sorted(self.digests[at] for at in set_bits(bits)):
             found.update(digest)
         return found.hexdigest()
+
+    def with_insides(self, bits: int, crate: str) -> int:
+        """These parts, with the insides of this crate's types among them and all that those reach. An inside follows its face."""
+        left = [at for at in self.of_crate[crate] if self.parts[at].is_inside]
+        while found := [at for at in left if bits >> (at - 1) & 1]:
+            left = [at for at in left if at not in found]
+            for at in found:
+                bits |= self.closures[at]
+        return bits
 
     def read_of(self, edit: deciding.Edit) -> list[Part]:
         """What a check reads of the functions themselves; of an edit outside of all functions, the whole crate."""

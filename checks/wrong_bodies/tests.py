@@ -363,6 +363,18 @@ class Reached(unittest.TestCase):
         ):
             self.assertEqual(self.checksum(), self.checksum(file, old, new), f"{file}: {new}")
 
+    def test_the_inside_of_a_type_counts_in_its_own_crate(self) -> None:
+        model = "pub struct Held {\n    count: u8,\n}\n\nimpl Model for Held {\n    ghost Value = { ℕ };\n    ghost view = { λ h. h.count };\n}\n"
+        open_one = model.replace("    count", "    pub other: u8,\n    count")
+        for crate, text, counts in (("low", model, False), ("low", open_one, True), ("high", model, True)):
+            path = f"{crate}/src/held.rt"
+            body = "fn add_two(counter: &mut Counter, held: Held)"
+            files = {**self.FILES, path: text, "high/src/lib.rt": self.FILES["high/src/lib.rt"].replace("fn add_two(counter: &mut Counter)", body)}
+            with mock.patch.object(Reached, "FILES", files):
+                for old, new in (("    count: u8", "    count: u16"), ("h.count }", "h.count + 1 }")):
+                    self.assertEqual(self.checksum() != self.checksum(path, old, new), counts, f"{path}: {new}")
+                self.assertNotEqual(self.checksum(), self.checksum(path, "Value = { ℕ }", "Value = { ℤ }"), path)
+
     def test_of_an_edit_outside_of_functions_the_whole_crate_counts(self) -> None:
         self.assertNotEqual(self.checksum(function=""), self.checksum("high/src/lib.rt", "    a\n", "    a + 1\n", function=""))
         self.assertEqual(self.checksum(function=""), self.checksum("low/specs/Counts.antt", "hidden n = n", "hidden n = 0", function=""))

@@ -25,7 +25,7 @@ from ._abi import (
     CNext, CPid, CRef, CTurned,
 )
 from ._library import (
-    ANSWER, BUILD, SEND, SET_TIME, STEP, c_body, c_next, c_pick, c_pid, c_reason, c_ref, event_of, ids_of, item_of, job_of, left_over_of, lib, next_of,
+    BUILD, SET_TIME, c_body, c_next, c_pick, c_pid, c_reason, c_ref, event_of, ids_of, item_of, job_of, left_over_of, lib, next_of,
     other, own, pid_of, reason_of, ref_of, texts_of,
 )
 from .supervisors import (
@@ -228,17 +228,6 @@ class Desk(_Held):
         MEMORY.
         """
         self._must(lib.pt_send, c_pid("sender", sender), c_pid("to", to), c_body("body", body))
-
-    def _send(self, sender: CPid, to: CPid, body: CBody) -> None:
-        """The same of what crosses."""
-        if not self._lock.acquire(False):
-            raise self._busy()
-        try:
-            code = SEND(self._at, sender, to, body)
-        finally:
-            self._lock.release()
-        if code:
-            raise _fault(lib.pt_send, (sender, to), code)
 
     def exit_signal(self, sender: Pid, to: Pid, reason: Reason) -> None:
         """Sends an exit signal that no link carries: Erlang's `exit/2`.
@@ -485,9 +474,6 @@ class Crew(_Held):
         """The crew of this desk, with no process and at the time 0. Fault: MEMORY."""
         super().__init__()
         self._node, self._number = of_type("desk", desk, Desk)._node, desk.number
-        # what a step and answers are passed, and what they write, made once
-        self._count, self._out = c.c_size_t(), (CTurned(), c.c_size_t())
-        self._outs = tuple(map(c.byref, self._out))
         self._from(desk)._must(lib.pt_crew_open)
 
     def _called(self) -> str:
@@ -582,29 +568,6 @@ class Crew(_Held):
             raise _fault(lib.pt_crew_step, (), code)
         return count.value, unchecked(Turned, (out.posted, out.handled, Code(out.stopped) if out.stopped else None))
 
-    def _advance(self, desk: Desk, budget: c.c_uint32, jobs: Any, most: c.c_size_t) -> tuple[int, bool, Optional[Code]]:
-        """The same for a loop that does nothing else, with a pointer to the jobs: how many there are, whether the turn did
-        anything, and why it stopped."""
-        turned, count = self._out
-        turned_at, count_at = self._outs
-        if desk._node is not self._node or desk.number != self._number:
-            self._own(desk)
-        if not desk._lock.acquire(False):
-            raise desk._busy()
-        try:
-            if not self._lock.acquire(False):
-                raise self._busy()
-            try:
-                code = STEP(self._at, desk._at, budget, jobs, most, count_at, turned_at)
-                told, moved, stopped = count.value, turned.posted + turned.handled > 0, turned.stopped
-            finally:
-                self._lock.release()
-        finally:
-            desk._lock.release()
-        if code:
-            raise _fault(lib.pt_crew_step, (), code)
-        return told, moved, Code(stopped) if stopped else None
-
     def answer(self, p: Pid, does: Next) -> bool:
         """What a running process does next. Returns False, and nothing has changed, if p is not running."""
         return self._answer((CAnswer * 1)(CAnswer(c_pid("p", p), c_next("does", does)))) == 1
@@ -614,21 +577,11 @@ class Crew(_Held):
         return self._answer(_answers_of(answers))
 
     def _answer(self, answers: c.Array[CAnswer]) -> int:
-        return self._answer_bytes(bytes(answers), len(answers))
-
-    def _answer_bytes(self, answers: bytes, count: int) -> int:
-        """The same of answers as they cross."""
-        if not self._lock.acquire(False):
-            raise self._busy()
-        try:
-            self._count.value = count
-            code = ANSWER(self._at, answers, self._count, self._outs[1])
-            taken = self._out[1].value
-        finally:
-            self._lock.release()
-        if code and code != Code.NOT_RUNNING:
+        taken = c.c_size_t()
+        code = self._call(lib.pt_crew_answer, answers, len(answers), c.byref(taken))
+        if code not in (Code.OK, Code.NOT_RUNNING):
             raise _fault(lib.pt_crew_answer, (), code)
-        return taken
+        return taken.value
 
     def next_loss(self, desk: Desk) -> Optional[Loss]:
         """The oldest loss of the desk that was not told, as `Desk.next_loss` returns it. The crew notes the reason of the

@@ -212,13 +212,15 @@ class RunOver(CallFault):
 class Call:
     """A call that a process has made, by which it knows the `Answer`."""
 
-    __slots__ = ("client", "server", "asked", "alarm", "is_open", "done", "asked_at", "answered")
+    __slots__ = ("client", "server", "asked", "at", "number", "alarm", "is_open", "done", "asked_at", "answered")
 
     def __init__(self, done: Optional[Callable[[Answer], None]] = None):
         self.client: Optional[Seat] = None
         self.server: Optional[Pid] = None
-        # the call of the library, once it is made
+        # the call of the library, once it is made, as it crosses, and the number of its monitor
         self.asked: Optional[CCall] = None
+        self.at: Any = None
+        self.number = 0
         self.alarm: Optional[Alarm] = None
         # whether anybody wants its answer
         self.is_open = True

@@ -3,12 +3,10 @@
 from __future__ import annotations
 
 import logging
-from collections import deque
-from ctypes import byref, c_size_t, c_uint32
 from functools import partial
 from threading import get_ident
 from time import monotonic
-from typing import Any, Callable, Deque, Optional, Union
+from typing import Any, Callable, Optional, Union
 
 from . import Code, Config, Desk, Fault, Gathered, History, NotGoneOn, Quiet, go_on, open_node
 from ._archive import Sink
@@ -20,32 +18,28 @@ from ._aside import Aside, older
 from ._bound import DROPPED, Room
 from ._abi import CItem, CJob, CPid
 from ._births import Births
+from ._crossing import FAILED, Game, Job, answer, answer_key, fault_of, item_at, number_of, place_of, play, request_key, step, take_loss, way, words_of
 from ._family import Supervising
-from ._library import pid_of, reader, reason_of, ref_of
-from ._process import WAITS, Address, Family, Porter, Seat, bytes_of
-from ._sending import Task, answer_key, kind_of, request_key
+from ._library import pid_of, reason_from, reason_of, ref_of
+from ._process import WAITS, Address, Family, Porter, Seat, bytes_of, stops
+from ._sending import Task, kind_of
 from ._report import Crash, report, text_of
-from ._selection import ANSWER, FIRST_KIND, MESSAGE, NEWS, Waits
+from ._selection import ANSWER, Waits
 from ._supervisor import Supervisor
 from ._tap import Tap
 from .values import ANY, ITEMS, JOBS, KILL, NOPROC, SHUTDOWN, U8, U64, Body, Item, Pick, Pid, Reason, Ref, unchecked
 
 log = logging.getLogger("pundewo")
 
-# How many letters a turn handles at most, and how many jobs a step has.
+# How many jobs a step has at most.
 MOST = 256
-BUDGET, JOBS_MOST = c_uint32(1024), c_size_t(MOST)
 # After how many steps it is asked what was lost and whether memory was missing, if there is something to do all the time. It is
 # asked before the run rests, and as an exit is told.
-SELDOM = 16
-# How many steps a round has at most, and after how many seconds it has no more, while they have something to do and nothing
-# else is to be done.
-FEW, BRIEF = 16, 0.001
+SELDOM = 64
+# After how many steps a round has no more, and after how many seconds, while they have something to do and nothing else is to be
+# done.
+MANY, BRIEF = 1024, 0.001
 
-# What is read of a job at once: what it is, whose, and of a message who sent it, its kind and its number.
-Job = tuple[int, ...]
-JOB = reader(CJob, "code", "tag", "item.code", "item.pid.shard", "item.pid.slot", "item.pid.version", "item.body.kind",
-             "item.body.num")
 START, ITEM, TIMES_OUT, EXITED = map(JOBS.index, ("start", "item", "timeout", "exit"))
 USER, EXIT, DOWN = map(ITEMS.index, ("user", "exit", "down"))
 PROCEEDS = bytes_of("proceed")
@@ -65,18 +59,23 @@ class Engine(Supervising):
         self.halted = False
         # what each desk's processes are told in this round: as the library wrote it, and what was read of that
         self._rows = [(CJob * MOST)() for _ in self.desks]
-        self._views = [memoryview(rows).cast("B") for rows in self._rows]
-        self._pointers = [byref(rows) for rows in self._rows]
-        self._jobs: list[Deque[tuple[int, Job]]] = [deque() for _ in self.desks]
+        self._jobs: list[list[Job]] = [[] for _ in self.desks]
+        self.cross()
         self._untold = self.goes_on = False
+        # up to when a round makes steps
+        self._until = 0.0
         # whether a process may wait until a time: else the crews need not be told what time it is
         self._timed = False
         # of each desk the exits that its losses have told since its last step, which its crew may not know
         self._exits: list[dict[Pid, Reason]] = [{} for _ in self.desks]
-        # what was sent and told when the journals were looked at last; how many steps there were
-        self._looked = self._steps = 0
-        # what the handler is told that runs now, and the place of its job among those of its desk
-        self.event: Optional[Event] = None
+        # how many steps there were, and after how many what is to be looked at seldom is looked at next
+        self._steps = self._look_at = 0
+        # what each desk and what all have told, and after how much that was sent and told the journals are looked at next
+        self._handed_out = self.record.told
+        self._full_at = 0
+        # at which step each desk was asked last what it had lost
+        self._asked_at = [0] * desks
+        # the place of the job of the handler that runs now, among those of its desk
         self._place = 0
         # the node, if going on stopped within; the history of the last epoch, if nobody has it yet
         self._node: Union[None, list[Desk], Gathered, Quiet] = None
@@ -97,6 +96,7 @@ class Engine(Supervising):
     def post(self, task: Task) -> None:
         """Has the thread of the run do this, soon. If the run is over, it is done here, and finds that."""
         self.inbox.append(task)
+        self.stirs = True
         if self.order == OVER:
             self._perform()
         else:
@@ -184,7 +184,7 @@ class Engine(Supervising):
 
     def end_epoch(self) -> None:
         """Goes on at the end of this round."""
-        self.goes_on = True
+        self.goes_on = self.stirs = True
 
     def _is_drained(self) -> bool:
         """Whether all that waits is handled, after a round in which nothing was to be done, and no call is open."""
@@ -202,7 +202,7 @@ class Engine(Supervising):
     def end(self, order: int) -> None:
         """Has all processes exit, or be killed, now and from now on."""
         if order > self.order:
-            self.order, self._untold = order, True
+            self.order, self._untold, self.stirs = order, True, True
             if order == STOP:
                 self.set_alarm(self.patience, lambda: self.end(KILLS))
 
@@ -210,7 +210,7 @@ class Engine(Supervising):
 
     def round(self) -> bool:
         """Does what is to be done now, and returns whether anything was."""
-        self._inside = True
+        self._inside, self.stirs = True, False
         try:
             if self._node is not None:
                 self._go_on()
@@ -242,28 +242,33 @@ class Engine(Supervising):
     def _do_steps(self) -> bool:
         """Steps of all desks, and returns whether they did anything. If they did, there are some more, unless something else is
         to be done."""
-        numbers, until = range(len(self.desks)), monotonic() + BRIEF
-        for count in range(FEW):
-            some = False
+        numbers, some, last = range(len(self.desks)), False, self._steps + MANY
+        until = monotonic() + BRIEF
+        # (what is due meanwhile is done as it is)
+        self._until = until if self.due is None else min(until, self._began + self.due / 1e6)
+        while self._steps < last:
+            does = False
             for number in numbers:
-                some |= self._step(number)
-            self.goes_on = self.goes_on or self._is_full()
-            if not some or self.since > until or self._has_else():
-                return some or count > 0
+                if self._step(number):
+                    does = True
+            if self._number + sum(self._handed_out) >= self._full_at:
+                self.goes_on = self.goes_on or self._is_full()
+            if not does:
+                return some
+            some = True
+            if self.since > until or self.inbox or self._dropped or self._turns or self.goes_on or self._has_else():
+                return True
         return True
 
     def _has_else(self) -> bool:
         """Whether something is to be done that is no step."""
-        if self.due is not None and (self.since - self._began) * 1e6 >= self.due:
+        if self.taps or self.order != GO_ON:
             return True
-        return bool(self.inbox or self._dropped or self.taps or self._turns or self.goes_on or self.order != GO_ON)
+        return self.due is not None and (self.since - self._began) * 1e6 >= self.due
 
     def _is_full(self) -> bool:
         """Whether a journal has more events than it may. (it is looked at once some share of these was sent and told)"""
-        done = self._number + sum(self.record.told)
-        if (done - self._looked) * 64 < self.every:
-            return False
-        self._looked = done
+        self._full_at = self._number + sum(self._handed_out) + -(-self.every // 64)
         return any(desk.event_count() > self.every for desk in self.desks)
 
     def rest_time(self) -> Optional[float]:
@@ -299,6 +304,7 @@ class Engine(Supervising):
         self.payloads.clear()
         self._early.clear()
         self._alarms.clear()
+        self._fresh.clear()
         self._timers.close()
         self._close_groups()
         self._perform()
@@ -347,50 +353,65 @@ class Engine(Supervising):
 
     def _step(self, number: int) -> bool:
         """A turn of a desk, and the handlers of those of it who have something to do."""
-        desk, crew, jobs = self.desks[number], self.crews[number], self._jobs[number]
-        some = bool(jobs)
+        game = self._games[number]
+        jobs, answers, way = game[4], game[5], game[0]
+        some = True
         if not jobs:
-            if self._timed or self.families > 0:
-                crew._set_time(self.now())
-            self._exits[number].clear()
-            count, some, stopped = crew._advance(desk, BUDGET, self._pointers[number], JOBS_MOST)
-            if count == 1:
-                jobs.append((0, JOB.unpack_from(self._views[number])))
-            elif count:
-                jobs.extend(enumerate(JOB.iter_unpack(self._views[number][:count * JOB.size])))
-            self.record.told[number] += count
-            # (what supervisors do is in no job. The step has read all events at its end)
-            some = some or count > 0 or self.families > 0 and crew.queued() + desk.pending() > 0
-            if stopped is not None:
-                raise Fault(stopped, "turn")
-            self._steps += 1
-            if not some or self.most is not None or self._steps % SELDOM == 0:
-                self._take_losses(number)
-                if crew.refused():
-                    raise Fault(Code.MEMORY, "crew_step")
-        self.since, seats = monotonic(), self.seats
-        while jobs:
-            place, job = jobs.popleft()
-            # (most jobs are messages)
-            if job[0] == ITEM:
-                self._tell_seat(number, place, seats[job[1]], job)
-            else:
-                self._tell(number, place, job)
+            said = step(way, jobs, self.now() if self._timed or self.families > 0 else 0)
+            count = len(jobs)
+            self._handed_out[number] += count
+            self._steps = steps = self._steps + 1
+            if said > 1 or not count or steps >= self._look_at:
+                some = self._look_after(number, said)
+        said = self._play(game)
+        if said >= 0:
+            self._look_after(number, said)
         if self._early:
             some |= self._begin_held(number)
-        answers = self._answers[number]
         while answers:
-            # (whose process is not running any more is left out)
-            taken = crew._answer_bytes(b"".join(answers), len(answers))
-            del answers[:taken + 1]
-        if self._abroad:
-            some |= self._send_children(number)
-        return self._serve(number) or some if self.asked else some
+            code = answer(way, answers)
+            if code:
+                raise fault_of(self.desks[number], self.crews[number], "crew_answer", code)
+        return some if self.supervised == 0 else self._serve_all(number) or some
+
+    def _serve_all(self, number: int) -> bool:
+        """Does what the crew does not do for the supervisors of a desk, and returns whether there was anything to do."""
+        some = bool(self._abroad) and self._send_children(number)
+        return bool(self.asked) and self._serve(number) or some
+
+    def _look_after(self, number: int, said: int) -> bool:
+        """Looks at what a step says, at what was lost, and whether memory was missing. It returns whether the step did
+        anything."""
+        desk, crew = self.desks[number], self.crews[number]
+        if said >= FAILED:
+            raise fault_of(desk, crew, "crew_step", said - FAILED)
+        # (what supervisors do is in no job. The step has read all events at its end)
+        some = bool(self._jobs[number]) or said > 0 or self.families > 0 and crew.queued() + desk.pending() > 0
+        if said > 1:
+            raise Fault(Code(said >> 1), "turn")
+        if not some or self.most is not None or self._steps >= self._look_at:
+            self._take_losses(number)
+            if crew.refused():
+                raise Fault(Code.MEMORY, "crew_step")
+        self._look_at = 0 if self.most is not None else self._steps + SELDOM
+        return some
 
     def _take_losses(self, number: int) -> None:
         """Drops what the desk has lost. No letter can ask for it any more."""
         desk, crew, exits = self.desks[number], self.crews[number], self._exits[number]
-        for loss in iter(lambda: crew.next_loss(desk), None):
+        if self._asked_at[number] != self._steps:
+            self._asked_at[number] = self._steps
+            exits.clear()
+        way = self.ways[number]
+        while (lost := take_loss(way)) is not None:
+            # (most have no items)
+            if isinstance(lost, tuple):
+                if lost[3]:
+                    exits[unchecked(Pid, lost[:3])] = reason_from(lost[4], lost[5])
+                continue
+            loss = crew.next_loss(desk)
+            if loss is None:
+                return
             if loss.reason is not None:
                 exits[loss.pid] = loss.reason
             for item in loss.items:
@@ -405,6 +426,14 @@ class Engine(Supervising):
         return answer_key(to.shard, body.num) if body.kind == ANSWER else request_key(sender.shard, body.num)
 
     # The processes
+
+    def cross(self) -> None:
+        """The desks of this epoch are used from now on."""
+        self.ways = [way(desk, crew, rows) for desk, crew, rows in zip(self.desks, self.crews, self._rows)]
+        fields, told = vars(self), self.record.told
+        self._games: list[Game] = [
+            (way, fields, self.seats, self.payloads, jobs, answers, WAITS, told, number, self._comes)
+            for number, (way, jobs, answers) in enumerate(zip(self.ways, self._jobs, self._answers))]
 
     def spawn(self, behaviour: Behaviour, desk: int, parent: Optional[Pid] = None, linked: bool = False) -> Address:
         """Spawns a process on a desk. It is a child if its parent is of the same desk."""
@@ -433,55 +462,87 @@ class Engine(Supervising):
             porter = self.porters[pid.shard]
             seat.family, seat.cx.me._crossing = Family(obeys or porter.pid), porter._crossing
             self.families += 1
+            self.supervised += 1
+            self.stirs = True
         self.spawned += 1
         seat.born = self.spawned
         self.births.enter(seat)
         self._untold = True
         return seat
 
-    def _tell(self, number: int, place: int, job: Job) -> None:
+    def _play(self, game: Game) -> int:
+        """Tells all of a desk what they are to be told, in order, and returns what a later step has said of which more is to be
+        done. (most are told messages, which the module in C does, with the steps in between)"""
+        jobs, number = game[4], game[8]
+        while True:
+            if jobs and jobs[-1][0] != ITEM:
+                self.since = monotonic()
+                self._tell(number, jobs.pop())
+                continue
+            seat, came = None, None  # type: Optional[Seat], Any
+            try:
+                came = play(game, self._free_steps(), self._until)
+                seat = self.running
+                if seat is not None:
+                    self._will(number, seat, self._does(seat, came))
+            except BaseException as error:
+                seat = self.running
+                self._failed(error)
+            finally:
+                if seat is not None:
+                    self._returned(seat)
+            if seat is None:
+                # (what has stopped a turn is told before its jobs are, which stay)
+                if not jobs or came > 1:
+                    said: int = came
+                    return said
+                self.since = monotonic()
+                self._tell(number, jobs.pop())
+
+    def _free_steps(self) -> int:
+        """How many steps may be made of the one desk before something else is to be done. (what comes meanwhile stirs)"""
+        if len(self.desks) > 1 or self._early or self._abroad or self.asked or self._dropped or self._turns or self._has_else():
+            return 0
+        return self._look_at - self._steps - 1
+
+    def _tell(self, number: int, job: Job) -> None:
         """Tells a process what it is to be told."""
-        seat = self.seats[job[1]] if job[0] == ITEM else self._seat_of(job[0], job[1], self._rows[number][place])
+        code, tag, _, place = job
+        seat = self.seats[tag] if code == ITEM else self._seat_of(code, tag, self._rows[number][place])
         if seat is None:
             self.record.unheard[number] += 1
         else:
-            self._tell_seat(number, place, seat, job)
+            self._tell_seat(number, seat, job)
 
     def begin(self, seat: Seat) -> None:
-        self._tell_seat(seat.pid.shard, 0, seat, (START, seat.tag, 0, 0, 0, 0, 0, 0))
+        self._tell_seat(seat.pid.shard, seat, (START, seat.tag, 0, 0))
 
-    def _tell_seat(self, number: int, place: int, seat: Seat, job: Job) -> None:
+    def _tell_seat(self, number: int, seat: Seat, job: Job) -> None:
         """Runs the handler of a process."""
-        code, tag, item, shard, slot, version, kind, num = job
+        code, _, num, place = job
         self.running, self._place = seat, place
         try:
-            if code == ITEM and item == USER and kind == MESSAGE and seat.room is None:
-                message = unchecked(Message, (self.payloads.pop(num), unchecked(Pid, (shard, slot, version))))
-                if seat.aside is None:
-                    self.event = message
-                    next_ = seat.behaviour.handle(seat.cx, message)
-                    does = WAITS if next_ is None and seat.aside is None else self._does(seat, next_)
-                else:
-                    does = self._offer(seat, message)
-            else:
-                does = self._run(seat, code, self._rows[number][place])
-            seat.does = does
-            # (for a supervisor it is answered)
-            if does is WAITS:
-                self._answers[number].append(seat.waits)
-            elif does:
-                self._answers[number].append(seat.crossing + does)
+            self._will(number, seat, self._run(seat, code, num, place))
         except BaseException as error:
-            self._crash(seat, error)
-            if isinstance(error, HALTS):
-                raise
+            self._failed(error)
         finally:
-            # (the next handler begins as this one has returned: so the clock is read once for each)
-            self.running = self.event = None
-            now = monotonic()
-            if now - self.since > self.mark:
-                self.note_holder(seat, now)
-            self.since = now
+            self._returned(seat)
+
+    def _will(self, number: int, seat: Seat, does: bytes) -> None:
+        """A process does this next. (for a supervisor it is answered)"""
+        seat.does = does
+        if does is WAITS:
+            self._answers[number].append(seat.waits)
+        elif does:
+            self._answers[number].append(seat.crossing + does)
+
+    def _failed(self, error: BaseException) -> None:
+        """The handler that runs has raised this."""
+        if self.running is None:
+            raise error
+        self._crash(self.running, error)
+        if isinstance(error, HALTS):
+            raise error
 
     def _seat_of(self, code: int, tag: int, job: CJob) -> Optional[Seat]:
         """Who is told anything but an item. One that has exited is not."""
@@ -494,8 +555,30 @@ class Engine(Supervising):
             return self.begin_child(tag, pid_of(job.pid))
         return seat
 
-    def _run(self, seat: Seat, code: int, job: CJob) -> bytes:
-        """The same for what is told more rarely than a message."""
+    def _came(self, seat: Seat, key: int, place: int) -> Optional[Event]:
+        """What an item is to the handler. (what is kept is found by its key alone)"""
+        if key > 0 or key & 1:
+            sent: Optional[Event] = self._value_at(seat, key)
+            return sent
+        rows = self._rows[seat.pid.shard]
+        if key == 0:
+            item = rows[place].item
+            self.record.others[seat.pid.shard] += item.code != USER
+            return self._event_of(seat, item)
+        answer = self._answer_of(seat, key, item_at(rows, place))
+        return self._result(answer) if isinstance(answer, Answer) else answer
+
+    def _comes(self, seat: Seat, key: int, place: int) -> Optional[Event]:
+        """The same, for the module in C. A process to which it is nothing does what it did."""
+        came = self._came(seat, key, place)
+        if came is None:
+            number = seat.pid.shard
+            self.record.unheard[number] += 1
+            self._will(number, seat, seat.does)
+        return came
+
+    def _run(self, seat: Seat, code: int, key: int, place: int) -> bytes:
+        """Tells a process what it is to be told, and returns what it does next."""
         event: Event = PROCEED
         if code == START:
             if seat.family is not None and isinstance(seat.behaviour, Supervisor):
@@ -507,8 +590,7 @@ class Engine(Supervising):
         if code == TIMES_OUT:
             event = TIMEOUT
         elif code == ITEM:
-            self.record.others[seat.pid.shard] += job.item.code != USER
-            came = self._event_of(seat, job.item)
+            came = self._came(seat, key, place)
             self.record.unheard[seat.pid.shard] += came is None
             if came is None or seat.aside is not None:
                 return seat.does if came is None else self._offer(seat, came)
@@ -566,7 +648,7 @@ class Engine(Supervising):
 
     def _keep_older(self, seat: Seat, aside: Aside, event: Event, picked: CItem) -> None:
         """Keeps what waits and is older than what the library has picked out, so that it comes first later."""
-        desk, crossing = self.desks[seat.pid.shard], seat.cx.me._crossing
+        desk, crossing = self.desks[seat.pid.shard], CPid(*seat.pid)
         waiting = ((item.pid, self._age_of(seat, item)) for item in desk._walk(crossing))
         for _ in range(older(waiting, pid_of(picked.pid), self._age_of_told(event, picked))):
             taken = desk._receive(crossing, ANY)
@@ -605,7 +687,7 @@ class Engine(Supervising):
         if not isinstance(next_, Next):
             raise TypeError(f"a handler returned {next_!r}, and must return None or a Next")
         if next_.name == "stop":
-            return bytes_of("stop", reason=next_.reason)
+            return stops(next_.reason)
         if next_.name == "proceed":
             return PROCEEDS
         pick = next_.pick
@@ -649,7 +731,7 @@ class Engine(Supervising):
             return None
         reference = ref_of(item.reference)
         text, call = seat.texts.pop(reference, None), seat.calls.get(reference.number)
-        if call is not None and self.hear(seat, call, item) is not None:
+        if call is not None and self.hear(seat, call, place_of(item)):
             return self._result(Answer(call, None, ServerDown(reason, text)))
         if reference in self.left_open:
             self.left_open.remove(reference)
@@ -673,10 +755,6 @@ class Engine(Supervising):
         body = item.body
         if not body.has_who:
             value = self._value_at(seat, body.num)
-            if value is LOST:
-                return LOST
-            if body.kind == MESSAGE or FIRST_KIND <= body.kind < NEWS:
-                return Message(value, pid_of(item.pid))
             event: Optional[Event] = value
             if isinstance(event, Exit):
                 del seat.gone.told[body.num]
@@ -688,9 +766,13 @@ class Engine(Supervising):
         if body.kind != ANSWER:
             asked: Optional[Event] = self._value_at(seat, request_key(item.pid.shard, body.num))
             return asked
-        answer: Optional[Event] = self.payloads.pop(answer_key(seat.pid.shard, body.num), None)
-        call = seat.calls.get(body.num)
-        return None if call is None or self.hear(seat, call, item) is None else answer
+        return self._answer_of(seat, answer_key(seat.pid.shard, body.num), place_of(item))
+
+    def _answer_of(self, seat: Seat, key: int, item: Any) -> Optional[Event]:
+        """The answer that is kept under this, if the process waits for it. (the item as `hear` takes it)"""
+        answer: Optional[Event] = self.payloads.pop(key, None)
+        call = seat.calls.get(number_of(key))
+        return answer if call is not None and self.hear(seat, call, item) else None
 
     def _value_at(self, seat: Seat, key: int) -> Any:
         """What is kept under this for a process: LOST if it was dropped."""
@@ -721,7 +803,7 @@ class Engine(Supervising):
         try:
             desk.exit(seat.pid, CRASH)
         except Fault:  # no memory: the crew tries again
-            self._answers[seat.pid.shard].append(seat.crossing + bytes_of("stop", reason=CRASH))
+            self._answers[seat.pid.shard].append(seat.crossing + stops(CRASH))
         report(logging.ERROR, Crash(seat.pid, seat.cx.me.name, text), error=error)
 
     def overflow(self, of: Pid) -> None:
@@ -737,15 +819,15 @@ class Engine(Supervising):
 
     def _tell_exit(self, tag: int, job: CJob) -> None:
         """A process has exited. One that a supervisor started may not have begun."""
-        seat, kid, why = self.seats.get(tag), self.kids.get(tag), reason_of(job.reason)
+        seat, kid, why, pid = self.seats.get(tag), self.kids.get(tag), reason_of(job.reason), pid_of(job.pid)
         # (a loss of this step tells what its crew did not know yet. What waited for the process is dropped)
-        self._take_losses(job.pid.shard)
+        self._take_losses(pid.shard)
         if why == NOPROC:
-            why = self._exits[job.pid.shard].get(pid_of(job.pid), why)
+            why = self._exits[pid.shard].get(pid, why)
         if kid is not None:
             # (the child may have another process by now)
-            seat = self.pids.get(pid_of(job.pid))
-        self._forget_coming(pid_of(job.pid), kid)
+            seat = self.pids.get(pid)
+        self._forget_coming(pid, kid)
         if seat is not None:
             self._leave(seat, why)
         elif kid is not None:
@@ -764,7 +846,7 @@ class Engine(Supervising):
         if kid is not None and kid.seat is seat:
             kid.end(why)
         if seat.family is not None:
-            seat.cx.me._crossing = CPid(*seat.pid)
+            seat.cx.me._crossing = words_of(seat.pid)
             self.end_family(seat, seat.family, why)
         for name in seat.names:
             if self.names.get(name) == seat.cx.me:
@@ -799,6 +881,7 @@ class Engine(Supervising):
             self._node = fault.node
             raise
         self.desks, self._node = desks, None
+        self.cross()
         self.epochs += 1
         # in settling all news came: a text beside news that does not wait is beside none
         for seat in [seat for seat in self.seats.values() if seat.texts]:

@@ -14,11 +14,12 @@ from time import monotonic
 from typing import Any, Generator, Optional, Union
 
 from . import Code, Crew, Desk, Fault
-from ._abi import CAnswer, CPid
 from ._behaviour import (
     CRASH, HALTS, OVER, Answer, Behaviour, Call, CallFault, Request, ServerDown, Unanswered, behaviour_of,
 )
-from ._process import Family, Kid, Seat, bytes_of
+from ._abi import CPid
+from ._crossing import start_of
+from ._process import Family, Kid, Seat, stops
 from ._sending import Sending
 from ._supervisor import (
     INFINITY, WHICH_CHILDREN, Child, DeleteChild, RestartChild, Shutdown, StartChild, Supervisor, TerminateChild,
@@ -55,6 +56,8 @@ class Supervising(Sending):
         self._answers: list[list[bytes]] = [[] for _ in desks]
         # how many processes were spawned, and how many supervisors live
         self.spawned = self.families = 0
+        # how many supervisors there were in all
+        self.supervised = 0
         # the children of supervisors by their tags, and the supervisors that were asked something
         self.kids: dict[int, Kid] = {}
         self.asked: list[Seat] = []
@@ -208,8 +211,7 @@ class Supervising(Sending):
                 self._make(kid)
         finally:
             if kid is None or kid.made is None:
-                crossing = bytes(CPid(*pid)).ljust(CAnswer.next.offset, b"\0")
-                self._answers[pid.shard].append(crossing + bytes_of("stop", reason=CRASH))
+                self._answers[pid.shard].append(start_of(CPid(*pid)) + stops(CRASH))
         if kid is None or kid.made is None:
             return None
         seat = kid.seat = self.take_in(pid, tag, kid.made, kid.above.pid, kid.above.pid)
@@ -276,6 +278,7 @@ class Supervising(Sending):
         seat.family.requests.append(request)
         if seat not in self.asked:
             self.asked.append(seat)
+            self.stirs = True
 
     def is_served(self, pid: Pid) -> bool:
         """Whether this is a supervisor that lives."""

@@ -118,8 +118,12 @@ def ids_of(ids: CIds) -> Ids:
     return unchecked(Ids, (link_of(ids.one), link_of(ids.two) if ids.has_two else None))
 
 
+def reason_from(code: int, number: int) -> Reason:
+    return unchecked(Reason, (REASONS[code], 0) if code < len(REASONS) else ("other", number))
+
+
 def reason_of(r: CReason) -> Reason:
-    return unchecked(Reason, (REASONS[r.code], 0) if r.code < len(REASONS) else ("other", r.number))
+    return reason_from(r.code, r.number)
 
 
 def body_of(b: CBody) -> Body:

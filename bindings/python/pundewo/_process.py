@@ -5,14 +5,15 @@ from __future__ import annotations
 import asyncio
 import logging
 from collections import deque
+from functools import lru_cache
 from threading import get_ident
 from time import monotonic
 from typing import TYPE_CHECKING, Any, Deque, Generator, Optional, Union
 
 from . import Desk, Fault
 from . import Next as Does
-from ._abi import CAnswer, CPid
 from ._bound import Room
+from ._crossing import start_of, words_of
 from ._library import c_next
 from ._behaviour import (
     GO_ON, OVER, Alarm, Answer, Behaviour, Call, CallTimeout, Down, Event, Exit, InboxFull, Message, Request,
@@ -20,8 +21,8 @@ from ._behaviour import (
 )
 from ._group import Group
 from ._report import Restart, report
-from ._selection import MESSAGE, letter
-from .values import ANY, NOPROC, NORMAL, SHUTDOWN, Pid, Reason, Ref, flag, number, of_type
+from ._selection import MESSAGE
+from .values import ANY, NOPROC, NORMAL, SHUTDOWN, Pid, Reason, Ref, flag, number, of_type, unchecked
 
 if TYPE_CHECKING:
     from ._aside import Aside
@@ -32,7 +33,7 @@ if TYPE_CHECKING:
 class Address:
     """A process of a run, to which anything can be sent. It stays valid when the process has exited."""
 
-    __slots__ = ("pid", "name", "_engine", "_crossing", "_kind", "_room")
+    __slots__ = ("pid", "name", "_engine", "_crossing", "_kind", "_room", "_desk", "_plain")
 
     def __init__(self, pid: Pid, engine: Engine, behaviour: type[Behaviour], room: Optional[Room]):
         self.pid, self.name, self._engine = pid, behaviour.__name__, engine
@@ -41,7 +42,10 @@ class Address:
         # what gives a value its kind, if the behaviour does
         self._kind = None if behaviour.kind is Behaviour.kind else behaviour.kind
         # where it is sent to, as the library takes it, made once: itself, or the porter of a supervisor
-        self._crossing = CPid(*pid)
+        self._crossing = words_of(pid)
+        self._desk = pid.shard
+        # its run, if what it is sent has no kind and is not bounded
+        self._plain = engine if self._room is None and self._kind is None else None
 
     def __repr__(self) -> str:
         return f"<Address {self.pid} of {self.name}>"
@@ -172,6 +176,13 @@ def bytes_of(name: str, **has: Any) -> bytes:
     return bytes(c_next("does", Does(name, **has)))
 
 
+# (a supervisor's child exits for the same reason again and again)
+@lru_cache(maxsize=64)
+def stops(reason: Reason) -> bytes:
+    """The same of one that exits."""
+    return bytes_of("stop", reason=reason)
+
+
 WAITS = bytes_of("wait", pick=ANY)
 
 
@@ -201,16 +212,22 @@ class Seat:
         # the names that it was given
         self.names: list[str] = []
         # its pid, as an answer to a crew begins with it
-        self.crossing = bytes(CPid(*address.pid)).ljust(CAnswer.next.offset, b"\0")
+        self.crossing = start_of(address._crossing)
         # the answer that it waits for whatever comes
         self.waits = self.crossing + WAITS
         # the children, if it is a supervisor
         self.family: Optional[Family] = None
-        self.gone = Gone()
+        self.gone = NOBODY
         # whether it may be in a group
         self.is_in_groups = False
         # whether the library picks out what it takes, if it said what that is with its last answer
         self.picks = False
+
+    def own_gone(self) -> Gone:
+        """Those that had exited as it linked itself with them, where one more can be noted."""
+        if self.gone is NOBODY:
+            self.gone = Gone()
+        return self.gone
 
 
 class Gone:
@@ -232,11 +249,17 @@ class Gone:
 
     def unlink(self, pid: Pid) -> list[int]:
         """The link with this one is taken away. It returns the numbers of the messages that are nothing to the process now."""
+        if not self:
+            return []
         numbers = [number for number, of in self.told.items() if of == pid]
         for told in numbers:
             del self.told[told]
         self.signals = deque(None if of == pid else of for of in self.signals)
         return numbers
+
+
+# (most processes never link themselves with one that had exited)
+NOBODY = Gone()
 
 
 class Kid:
@@ -369,16 +392,13 @@ class Context:
         It returns False, and the message is dropped, if the receiver is known to have exited, or takes no more (`Bound.refuse`).
         If it exits later, the message is dropped then.
         """
-        engine = self._engine
+        engine, me = self._engine, self.me
         if engine.thread != get_ident() or engine.order == OVER:
             self._here()
-        if type(to) is not Address:
-            of_type("to", to, Address)
-        if to._engine is not engine:
-            return to.send(value)
-        if to._room is not None:
-            return engine.send(self.me, to, value)
-        return engine.carry(MESSAGE if to._kind is None else letter(to._kind(value), MESSAGE), self.me, to, value)
+        # (most are neither bounded nor give their messages kinds)
+        if type(to) is Address and to._plain is engine:
+            return engine.carry(MESSAGE, me, to, unchecked(Message, (value, me.pid)))
+        return engine.send(me, of_type("to", to, Address), value)
 
     def send_all(self, to: Group, value: Any) -> int:
         """Sends each member of a group a message, as `send`, and returns how many were sent. This process may be one of them.

@@ -71,6 +71,8 @@ Report = Union[Crash, Restart, Halt, Holder]
 def report(level: int, what: Report, text: str = "%s", error: Optional[BaseException] = None) -> None:
     """Reports it. What a handler of the log raises harms nobody."""
     try:
+        if not log.isEnabledFor(level):
+            return
         log.log(level, text, what, exc_info=error, extra={"report": what})
     except Exception:
         traceback.print_exc()

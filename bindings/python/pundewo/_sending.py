@@ -11,17 +11,18 @@ from typing import Any, Callable, Deque, Optional
 
 from . import Code, Desk, Fault
 from ._behaviour import (
-    GO_ON, OVER, Alarm, Answer, Call, CallTimeout, Event, Exit, Request, ServerDown, Unanswered,
+    GO_ON, OVER, Alarm, Answer, Call, CallTimeout, Event, Exit, Message, Request, ServerDown, Unanswered,
 )
-from ._abi import HEARD_CODES, CBody, CCall, CHeard, CItem, CRequest, CTimer
+from ._abi import HEARD_CODES, CCall, CTimer
 from ._bound import DROP_OLDEST, DROPPED, Room
+from ._crossing import FAILED, answer_key, ask, fault_of, hear, place_of, reply, request_key, send
 from ._process import Address, Seat
 from ._report import Holder, report
 from ._selection import ANSWER, MESSAGE, NEWS, REQUEST, letter
 from ._record import Record
-from .asking import AskFault, _ask, _expire, _hear, _reply
+from .asking import AskFault, _expire
 from .tools import Groups, Timers
-from .values import NOPROC, U8, U32, U64, Pid, Ref, of_type
+from .values import NOPROC, U8, U32, U64, Pid, Ref, of_type, unchecked
 
 Task = Callable[[], object]
 
@@ -37,16 +38,6 @@ NO_MONITOR = Ref(0, 0)
 HEARD_ANSWER, HEARD_DOWN = map(HEARD_CODES.index, ("answer", "server-down"))
 
 
-def request_key(shard: int, number: int) -> int:
-    """Under which a request is kept, whose call has this number on the desk of its client. (the other values are above 0)"""
-    return -1 - 2 * (64 * number + shard)
-
-
-def answer_key(shard: int, number: int) -> int:
-    """Under which the answer of the same call is kept."""
-    return -2 - 2 * (64 * number + shard)
-
-
 def kind_of(number: int) -> int:
     """The kind of a piece of news, by which it can be waited for."""
     return NEWS + number % (U32 - NEWS)
@@ -57,6 +48,8 @@ class Sending:
 
     def __init__(self, desks: list[Desk]):
         self.desks = desks
+        # what is made of each desk and its crew for what is done all the time
+        self.ways: list[Any] = []
         self.ring: Task = lambda: None
         self.order = GO_ON
         self.pids: dict[Pid, Seat] = {}
@@ -72,21 +65,25 @@ class Sending:
         # the monitors of calls that have ended which could not be cancelled
         self.left_open: set[Ref] = set()
         self._number = 0
-        # what is to be done later, with the timer of each, and a time before which none is due
-        self._alarms: dict[Alarm, tuple[CTimer, Task]] = {}
+        # what is to be done later; the timers of those that the library has, and the times of those that it gets once one may be due,
+        # in order, as most are cancelled before; and a time before which none is due
+        self._alarms: dict[Alarm, Task] = {}
+        self._started: dict[Alarm, CTimer] = {}
+        self._fresh: dict[Alarm, int] = {}
         self._timers = Timers()
         self.due: Optional[int] = None
         self._inside = False
-        # the process whose handler runs, and since when; the last one that held up the run, and until when
+        # the process whose handler runs, what that is told, and since when; the last one that held up the run, and until when
         self.running: Optional[Seat] = None
+        self.event: Optional[Event] = None
         self.since = self._began = monotonic()
         self._held: Optional[tuple[Holder, float]] = None
         # what the desks count, and the time of a handler beyond which it is noted
         self.record, self.mark = Record(len(desks)), 0.0
         # the handler of which was warned, by its beginning
         self._warned = 0.0
-        # what is sent next, as the library takes it
-        self._body = CBody()
+        # whether something came since the round began that is no step of a desk
+        self.stirs = False
         # what those outside have posted, and nobody has done yet
         self.inbox: Deque[Task] = deque()
         # the processes that have a name
@@ -124,6 +121,7 @@ class Sending:
                 turn.set_result(False)
             else:
                 self._turns.append(turn)
+                self.stirs = True
         # (the room may be there since it was looked for)
         self.ring()
         return turn
@@ -148,20 +146,22 @@ class Sending:
                 self._told += not shut
                 turn.set_result(not shut)
 
-    def carry(self, kind: int, sender: Address, to: Address, value: Any) -> bool:
-        """Sends a value in the name of a process. It returns False, and the value is dropped, if the receiver is known to
-        have exited."""
+    def carry(self, kind: int, sender: Address, to: Address, value: Event) -> bool:
+        """Sends what its receiver is to be told in the name of a process. It returns False, and this is dropped, if the receiver
+        is known to have exited."""
         number = self._number = self._number + 1
-        body = self._body
-        body.kind, body.num = kind, number
         self.payloads[number] = value
         try:
-            self.desks[sender.pid.shard]._send(sender._crossing, to._crossing, body)
-        except BaseException as error:
+            code = send(self.ways[sender._desk], sender._crossing, to._crossing, kind, number)
+        except BaseException:
             del self.payloads[number]
-            if isinstance(error, Fault) and error.code == Code.NOPROC:
-                return False
             raise
+        if code:
+            del self.payloads[number]
+            if code == Code.NOPROC:
+                return False
+            desk = self.desks[sender._desk]
+            raise fault_of(desk, desk, "send", code, sender.pid, to.pid)
         if not self._inside:
             self.ring()
         return True
@@ -265,7 +265,8 @@ class Sending:
         """Sends what counts as waiting already, if that is counted."""
         sent, room = False, to._room
         try:
-            sent = self.carry(MESSAGE if to._kind is None else letter(to._kind(value), MESSAGE), sender, to, value)
+            kind = MESSAGE if to._kind is None else letter(to._kind(value), MESSAGE)
+            sent = self.carry(kind, sender, to, unchecked(Message, (value, sender.pid)))
         finally:
             if room is not None and not sent:
                 room.leave()
@@ -324,11 +325,11 @@ class Sending:
                 raise
             if desk.traps(me):
                 news = self.news(seat, lambda _: Exit(to, NOPROC, None))
-                seat.gone.told[news.number] = to
+                seat.own_gone().told[news.number] = to
             else:
                 desk.exit_signal(self.porters[me.shard].pid, me, NOPROC)
                 # (it may trap exits before the signal comes)
-                seat.gone.signals.append(to)
+                seat.own_gone().signals.append(to)
         finally:
             self.touch()
 
@@ -355,15 +356,14 @@ class Sending:
 
     def call(self, seat: Seat, to: Address, value: Any, limit: Optional[float], call: Call) -> Call:
         """Asks a process in the name of another. Without a limit its end is the client's own."""
-        call.client, call.server, desk = seat, to.pid, self.desks[seat.pid.shard]
-        room = to._room
+        call.client, call.server, me, room = seat, to.pid, seat.cx.me, to._room
         if room is not None and not room.enter():
             self.news(seat, lambda _: Answer(call, None, Unanswered()))
             return call
         began, until = monotonic(), U64 if limit is None else self._at(limit)
         try:
             kind = REQUEST if to._kind is None else letter(to._kind(value), REQUEST)
-            asked = _ask(desk, seat.cx.me._crossing, to._crossing, kind, until)
+            self._ask(call, me, to, kind, until)
         except BaseException as fault:
             if room is not None:
                 room.leave()
@@ -375,9 +375,9 @@ class Sending:
                 raise
             self.news(seat, lambda _: Answer(call, None, ServerDown(NOPROC)))
             return call
-        call.asked, seat.calls[asked.monitor.number] = asked, call
+        seat.calls[call.number] = call
         call.asked_at = self._number = self._number + 1
-        request = request_key(desk.number, asked.monitor.number)
+        request = request_key(me._desk, call.number)
         self.payloads[request] = Request(self, call, seat.pid, value)
         if room is not None:
             room.keys[request] = None
@@ -395,6 +395,17 @@ class Sending:
         self.touch()
         return call
 
+    def _ask(self, call: Call, me: Address, to: Address, kind: int, until: int) -> None:
+        """Makes the call of the library."""
+        asked = CCall()
+        at = place_of(asked)
+        code = ask(self.ways[me._desk], at, me._crossing, to._crossing, kind, until)
+        if code:
+            desk, left_open = self.desks[me._desk], Ref(me._desk, asked.monitor.number) if asked.left_open else None
+            fault = fault_of(desk, desk, "ask_until", code, me.pid, to.pid)
+            raise AskFault(fault.code, fault.call, fault.pids, left_open) if isinstance(fault, Fault) else fault
+        call.asked, call.at, call.number = asked, at, asked.monitor.number
+
     def answer(self, call: Call, sender: Optional[Address], answer: Answer) -> bool:
         """Sends the client an answer, in the name of the server if no process sends it. Returns False if the client does not
         wait for it any more."""
@@ -402,18 +413,18 @@ class Sending:
             return False
         if call.asked is None or sender is not None and sender.pid != call.server:
             return self.tell(call, answer, sender)
-        client, number, server = call.asked.client, call.asked.monitor.number, call.asked.server
-        key = answer_key(client.shard, number)
+        assert call.client is not None and call.server is not None
+        key = answer_key(call.client.cx.me._desk, call.number)
         call.answered = self._number = self._number + 1
         self.payloads[key] = answer
-        try:
-            _reply(self.desks[server.shard], server, CRequest(client, REQUEST, number), ANSWER)
-        except BaseException as error:
+        code = reply(self.ways[call.server.shard], call.at)
+        if code:
             del self.payloads[key]
             # (if the server has exited, there is the news of that)
-            if isinstance(error, Fault) and error.code in (Code.NOPROC, Code.GONE):
+            if code in (Code.NOPROC, Code.GONE):
                 return False
-            raise
+            desk = self.desks[call.server.shard]
+            raise fault_of(desk, desk, "reply", code, call.server)
         self.touch()
         return True
 
@@ -427,14 +438,17 @@ class Sending:
     def _is_awaited(self, call: Call) -> bool:
         return call.client is not None and call.is_open and call.client.pid in self.pids and self.order != OVER
 
-    def hear(self, seat: Seat, call: Call, item: CItem) -> Optional[CHeard]:
-        """What an item is to an open call: its answer, or the exit of its server, by which it has ended; else None."""
+    def hear(self, seat: Seat, call: Call, item: Any) -> bool:
+        """Whether an item, as it crosses, is the end of an open call, its answer or the exit of its server: then it has ended."""
         assert call.asked is not None
-        heard = _hear(self.desks[seat.pid.shard], call.asked, item)
-        if heard.code not in (HEARD_ANSWER, HEARD_DOWN):
-            return None
+        heard = hear(self.ways[seat.pid.shard], call.at, item)
+        if heard >= FAILED:
+            desk = self.desks[seat.pid.shard]
+            raise fault_of(desk, desk, "hear", heard - FAILED)
+        if heard not in (HEARD_ANSWER, HEARD_DOWN):
+            return False
         self._ended(seat, call, call.asked)
-        return heard
+        return True
 
     def expire(self, call: Call, now: int) -> bool:
         """Ends a call without its answer, if its deadline is not above this. Returns whether anybody waited for that."""
@@ -455,7 +469,7 @@ class Sending:
 
     def _ended(self, seat: Seat, call: Call, asked: CCall) -> None:
         """A call has ended, and its monitor was cancelled, or is left open."""
-        number = asked.monitor.number
+        number = call.number
         seat.calls.pop(number, None)
         if asked.left_open:
             self.left_open.add(Ref(seat.pid.shard, number))
@@ -489,7 +503,8 @@ class Sending:
 
     def _returned(self, seat: Seat) -> None:
         """A handler has returned, and the next one begins."""
-        self.running, now = None, monotonic()
+        self.running = self.event = None
+        now = monotonic()
         if now - self.since > self.mark:
             self.note_holder(seat, now)
         self.since = now
@@ -529,30 +544,41 @@ class Sending:
 
     def set_alarm_at(self, at: int, task: Task) -> Alarm:
         """The same at a point in time."""
-        alarm = self._number + 1
-        self._alarms[alarm] = self._timers._start(at, alarm), task
-        self._number = alarm
+        alarm = self._number = self._number + 1
+        self._alarms[alarm], self._fresh[alarm] = task, at
         if self.due is None or at < self.due:
-            self.due = at
+            self.due, self.stirs = at, True
         self.touch()
         return alarm
 
     def cancel_alarm(self, alarm: Alarm) -> bool:
-        timer, _ = self._alarms.pop(alarm, (None, None))
-        return timer is not None and self._timers._cancel(timer)
+        is_pending = self._alarms.pop(alarm, None) is not None
+        if is_pending and self._fresh.pop(alarm, None) is None:
+            self._timers._cancel(self._started.pop(alarm))
+        return is_pending
+
+    def next_alarm(self) -> Optional[int]:
+        """The time of the first alarm that is pending. The library has all of them then."""
+        # (not one after the other from the front of a dict, which is looked for behind all that were taken)
+        for alarm, at in list(self._fresh.items()):
+            self._started[alarm] = self._timers._start(at, alarm)
+            del self._fresh[alarm]
+        return self._timers.next()
 
     def _go_off(self) -> bool:
         """Does what was to be done by now."""
         some, now = False, self.now()
         while self.due is not None and self.due <= now:
+            self.due = self.next_alarm()
             fired = self._timers._pop_due(now)
             if fired is not None:
                 some = True
-                _, task = self._alarms.pop(fired.body)
+                del self._started[fired.body]
+                task = self._alarms.pop(fired.body)
                 try:
                     task()
                 except Fault:  # no memory, or the clock is at its end: it is done first when the run goes on
                     self.inbox.appendleft(task)
                     raise
-            self.due = self._timers.next()
+                self.due = self.next_alarm()
         return some

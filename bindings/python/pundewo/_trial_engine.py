@@ -12,8 +12,9 @@ from typing import Any, Callable, Deque, Iterator, NamedTuple, Optional, Union
 
 from . import Code, Config, Fault, History
 from ._abi import CAnswer, CJob
-from ._behaviour import GO_ON, HALTS, STOP, Alarm, Answer, Behaviour, Call, Message, Request
-from ._engine import EXITED, ITEM, JOB, Engine, Job
+from ._behaviour import GO_ON, HALTS, STOP, Alarm, Answer, Behaviour, Call, Event, Message, Request
+from ._crossing import ITEM, JOB, Job, job_at
+from ._engine import EXITED, Engine
 from ._process import Address, Seat
 from ._report import Holder, text_of
 from ._sending import Task
@@ -154,7 +155,7 @@ class TrialEngine(Engine):
 
     def next_time(self) -> Optional[int]:
         """The time of the next timer, after now."""
-        times = [crew.next_time() for crew in self.crews] + [self._timers.next()]
+        times = [crew.next_time() for crew in self.crews] + [self.next_alarm()]
         return min((at for at in times if at is not None and at > self._time), default=None)
 
     def advance(self) -> None:
@@ -205,8 +206,8 @@ class TrialEngine(Engine):
         count, posted = crew._step(desk, 0, rows)
         if turned.stopped is not None or crew.refused():
             raise Fault(turned.stopped or Code.MEMORY, "turn")
-        for place, job in enumerate(JOB.iter_unpack(memoryview(rows).cast("B")[:count * JOB.size])):
-            self._hand(number, rows[place], place, job)
+        for place, row in enumerate(JOB.iter_unpack(memoryview(rows).cast("B")[:count * JOB.size])):
+            self._hand(number, rows[place], job_at(place, row))
         self._flush(number)
         some = count + turned.posted + posted.posted > 0 or own or self.families > 0 and crew.queued() > 0
         # (what supervisors do is not told)
@@ -233,7 +234,7 @@ class TrialEngine(Engine):
             look_from(desk, number)
         return some
 
-    def _hand(self, number: int, row: CJob, place: int, job: Job) -> None:
+    def _hand(self, number: int, row: CJob, job: Job) -> None:
         """A process is to be told this. What the run has to do itself, and exits, it does at once."""
         pid = pid_of_row(row)
         if job[0] == EXITED:
@@ -241,9 +242,9 @@ class TrialEngine(Engine):
             for handed in [it for it in self.handed[number] if it.pid == pid]:
                 self._drop(number, handed)
         if job[0] == EXITED or self.is_porter(pid):
-            self._tell(number, place, job)
+            self._tell(number, job)
         else:
-            self.handed[number].append(Handed(CJob.from_buffer_copy(row), job, pid))
+            self.handed[number].append(Handed(CJob.from_buffer_copy(row), (*job[:3], 0), pid))
 
     def _drop(self, number: int, handed: Handed) -> None:
         """A process is never told this, since it has exited."""
@@ -317,7 +318,7 @@ class TrialEngine(Engine):
         self._rows[number][0] = handed.row
         self._inside, self.since = True, monotonic()
         try:
-            self._tell(number, 0, handed.job)
+            self._tell(number, handed.job)
         finally:
             self._inside = False
         self._flush(number)
@@ -387,7 +388,7 @@ class TrialEngine(Engine):
         if desk == to.shard:
             self.effect.writes.add(to)
 
-    def carry(self, kind: int, sender: Address, to: Address, value: Any) -> bool:
+    def carry(self, kind: int, sender: Address, to: Address, value: Event) -> bool:
         self._note(sender.pid.shard, to.pid)
         return super().carry(kind, sender, to, value)
 

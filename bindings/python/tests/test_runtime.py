@@ -13,7 +13,7 @@ from typing import Any, Callable
 from unittest import mock
 
 import pundewo as p
-from pundewo import _engine, runtime as r
+from pundewo import _engine, _sending, runtime as r
 
 from behaviours import Counted, Doing, Echo, Stubborn, audit, in_asyncio, noted, quiet, run_and_stop, until
 
@@ -255,7 +255,7 @@ class Handlers(unittest.TestCase):
             got.append(event.value)
             return r.Next.stop() if event.value == 3 else None
 
-        for place in ("go_on", "_send", "_advance"):
+        for place in ("go_on", "send", "step"):
             with self.subTest(place):
                 got.clear()
                 run = r.Runtime(going_on_every=4)
@@ -263,7 +263,7 @@ class Handlers(unittest.TestCase):
                 for number in range(4):
                     address.send(number)
                 left = [2]
-                kind: Any = {"go_on": _engine, "_advance": p.Crew}.get(place, p.Desk)
+                kind: Any = _sending if place == "send" else _engine
                 real = getattr(kind, place)
 
                 def failing(*words: Any) -> Any:

@@ -9,11 +9,11 @@ import random
 import threading
 import time
 import unittest
-from typing import Any, Callable
+from typing import Any, Callable, Optional
 from unittest import mock
 
 import pundewo as p
-from pundewo import asking, runtime as r, tools
+from pundewo import _sending, runtime as r, tools
 
 from behaviours import Doing, Echo, in_asyncio, log, noted, quiet, run_and_stop, until, wait_until
 
@@ -303,12 +303,11 @@ class OneThread(unittest.TestCase):
 
 class Refused(unittest.TestCase):
     def test_of_a_call_that_is_refused_nothing_is_kept(self) -> None:
-        """The desk has no memory for the request, or for the timer of the call."""
+        """The desk has no memory for the request."""
         def start(cx: r.Context) -> r.Next:
-            for module, name in ((asking, "ASK"), (tools, "START_TIMER")):
-                with mock.patch.object(module, name, lambda *_: p.Code.MEMORY), self.assertRaises(p.Fault):
-                    cx.call(server, 1, 0.01)
-                self.assertEqual((len(cx._engine.payloads), len(cx._seat.calls)), (0, 0))
+            with mock.patch.object(_sending, "ask", lambda *_: p.Code.MEMORY), self.assertRaises(p.Fault):
+                cx.call(server, 1, 0.01)
+            self.assertEqual((len(cx._engine.payloads), len(cx._seat.calls)), (0, 0))
             return r.Next.wait(0.1)
 
         run, told = r.Runtime(), list[Any]()
@@ -319,6 +318,53 @@ class Refused(unittest.TestCase):
         self.assertEqual((told, client.is_alive()), ([r.TIMEOUT, *told[1:]], False))
         self.assertFalse(any(isinstance(it, r.Answer) for it in told))
         self.assertEqual((len(engine.payloads), len(engine._alarms)), (0, 0))
+
+    def test_without_memory_for_a_timer_the_run_halts_and_what_was_to_be_done_is_done_as_it_goes_on(self) -> None:
+        """The library gets a timer once one may be due. Two are due at the same time, and come in the order in which they were set."""
+        def start(cx: r.Context) -> None:
+            cx.send_after(0.01, cx.me, "first")
+            cx.send_after(0.01, cx.me, "second")
+            cx.call(server, 1, 0.02)
+
+        def handle(cx: r.Context, event: Any) -> Optional[r.Next]:
+            told.append(event.value if isinstance(event, r.Message) else type(event.fault))
+            return r.Next.stop() if len(told) == 3 else None
+
+        run, told = r.Runtime(), list[Any]()
+        server = run.spawn(Doing(lambda cx, event: kept.append(event)))
+        kept: list[Any] = []
+        run.spawn(Doing(handle, start))
+        with mock.patch.object(tools, "START_TIMER", lambda *_: p.Code.MEMORY), self.assertRaises(p.Fault):
+            run.run()
+        self.assertEqual((told, len(run._engine._alarms), len(run._engine._timers)), ([], 3, 0))
+        run_and_stop(run, lambda: len(told) == 3)
+        self.assertEqual(told, ["first", "second", r.CallTimeout])
+        self.assertEqual((len(run._engine._alarms), run._engine._fresh, run._engine._started), (0, {}, {}))
+
+    def test_a_timer_that_is_cancelled_before_any_is_due_never_goes_to_the_library(self) -> None:
+        def start(cx: r.Context) -> r.Next:
+            timers = [cx.send_after(100.0, cx.me, number) for number in range(9)]
+            self.assertEqual(([cx.cancel(it) for it in timers], cx.cancel(timers[0])), ([True] * 9, False))
+            self.assertEqual((len(cx._engine._timers), cx._engine._fresh, cx._engine._alarms), (0, {}, {}))
+            return r.Next.stop()
+
+        run, notes = r.Runtime(), list[Any]()
+        run.spawn(Doing(None, start, notes))
+        run.run()
+        self.assertEqual(notes, [p.NORMAL])
+
+
+    def test_many_timers_go_to_the_library_in_a_time_for_each(self) -> None:
+        engine, times = r.Runtime(1)._engine, []
+        for count in (8_000, 80_000):
+            for number in range(count):
+                engine.set_alarm_at(2**60 + number, list)
+            began = time.process_time()
+            self.assertEqual((engine.next_alarm(), engine._fresh), (2**60, {}))
+            times.append(time.process_time() - began)
+        # (ten times as long is wanted, and it would be a hundred times if each were looked for behind all before it)
+        self.assertLess(times[1], 40 * times[0])
+        engine.abandon()
 
 
 class Faults(unittest.TestCase):

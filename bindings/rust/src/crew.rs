@@ -1,8 +1,8 @@
 //! The processes of one desk whose handlers are the program's own, and their supervisors.
 
 use crate::raw::{
-    self, Handle, RawAnswer, RawChild, RawChildCounts, RawChildSpec, RawGaveUp, RawJob, RawLoss, RawNext, RawPick,
-    RawReason, RawRef, RawTurned,
+    self, Handle, RawAnswer, RawBody, RawChild, RawChildCounts, RawChildSpec, RawGaveUp, RawItem, RawJob, RawLoss,
+    RawNext, RawPick, RawReason, RawRef, RawTurned,
 };
 use crate::supervisors::{Child, ChildCounts, ChildFault, ChildSpec, GaveUp, Origin, SupervisorSpec, asked};
 use crate::{
@@ -107,7 +107,11 @@ pub struct Crew {
     node: u64,
     number: u8,
     told: Vec<RawJob>,
+    /// The answers that were noted, and behind them places whose answer is to wait for whatever comes, as most are.
     answers: Vec<RawAnswer>,
+    noted: usize,
+    /// Whether another one was noted.
+    has_others: bool,
 }
 
 impl fmt::Debug for Crew {
@@ -135,7 +139,16 @@ impl Crew {
         let mut handle = NONE;
         told(unsafe { raw::pt_crew_open(&mut handle) })?;
         let Desk { origin, node, number, .. } = *desk;
-        Ok(Crew { handle: Held::new(handle), opened: origin.opened, node, number, told: vec![], answers: vec![] })
+        Ok(Crew {
+            handle: Held::new(handle),
+            opened: origin.opened,
+            node,
+            number,
+            told: vec![],
+            answers: vec![],
+            noted: 0,
+            has_others: false,
+        })
     }
 
     fn is_of(&self, desk: &Desk) -> Result<(), Fault> {
@@ -234,7 +247,7 @@ impl Crew {
     pub(crate) fn step_over(&mut self, desk: &mut Desk, budget: u32, most: usize) -> Result<(Turned, usize), Fault> {
         self.is_of(desk)?;
         if self.told.len() < most {
-            self.told.resize(most, RawJob::default());
+            self.make_room(most);
         }
         let (mut count, mut turned, buffer) = (0, RawTurned::default(), self.told.as_mut_ptr());
         let (crew, desk) = (self.handle.own(), desk.handle.own());
@@ -242,18 +255,51 @@ impl Crew {
         Ok((turned.into(), count))
     }
 
-    /// The job in this place of the last step, if it is a message: its process with its tag, the sender, and the body.
-    #[inline(always)]
-    pub(crate) fn letter(&self, place: usize) -> Option<(Pid, u64, Pid, Body)> {
-        let job = &self.told[place];
-        let is_letter = job.code == raw::PT_JOB_ITEM && job.item.code == raw::PT_ITEM_USER;
-        is_letter.then(|| (job.pid, job.tag, job.item.pid, job.item.body.into()))
+    /// Makes room for so many jobs.
+    #[cold]
+    fn make_room(&mut self, most: usize) {
+        self.told.resize(most, RawJob::default());
     }
 
-    /// The job in this place of the last step.
+    /// The job in this place of the last step, if it is a message that names nobody: its process with its tag, and the item.
+    #[inline(always)]
+    pub(crate) fn letter(&self, place: usize) -> Option<(Pid, u64, Item)> {
+        let job = &self.told[place];
+        let RawItem { code, pid: from, body: RawBody { kind, num, has_who, .. }, .. } = job.item;
+        if job.code != raw::PT_JOB_ITEM || code != raw::PT_ITEM_USER || has_who {
+            return None;
+        }
+        Some((job.pid, job.tag, Item::User(from, Body { kind, num, who: None })))
+    }
+
+    /// The same of any item.
+    #[inline(always)]
+    pub(crate) fn item(&self, place: usize) -> Option<(Pid, u64, Item)> {
+        let job = &self.told[place];
+        (job.code == raw::PT_JOB_ITEM).then(|| (job.pid, job.tag, job.item.into()))
+    }
+
+    /// The process of the job in this place of the last step with its tag, if it begins and no supervisor has started it.
+    #[inline(always)]
+    pub(crate) fn start(&self, place: usize) -> Option<(Pid, u64)> {
+        let job = &self.told[place];
+        (job.code == raw::PT_JOB_START && !job.has_supervisor).then_some((job.pid, job.tag))
+    }
+
+    /// The same, if it has exited, and the reason.
+    #[inline(always)]
+    pub(crate) fn exit(&self, place: usize) -> Option<(Pid, u64, Reason)> {
+        let job = &self.told[place];
+        (job.code == raw::PT_JOB_EXIT).then(|| (job.pid, job.tag, job.reason.into()))
+    }
+
+    /// The job in this place of the last step. (what one that has exited was to do is left out)
     #[inline(always)]
     pub(crate) fn job(&self, place: usize) -> Job {
-        Job::from(&self.told[place])
+        match self.exit(place) {
+            Some((pid, tag, reason)) => Job { pid, tag, what: What::Exit(reason, Next::Running) },
+            None => Job::from(&self.told[place]),
+        }
     }
 
     /// Says what running processes do next. The answers are taken in order, up to the first that is refused.
@@ -263,25 +309,56 @@ impl Crew {
     /// [`Fault::NotRunning`], if the process of an answer is not running or none of the crew. By that answer nothing has
     /// changed.
     pub fn answer(&mut self, answers: &[(Pid, Next)]) -> Result<(), NotTaken> {
-        self.answers.clear();
+        self.forget_noted();
         answers.iter().for_each(|&(pid, next)| self.note_answer(pid, next));
         self.answer_noted()
     }
 
     /// Notes an answer, which [`answer_noted`](Crew::answer_noted) gives with the others.
-    #[inline(always)]
+    #[inline(never)]
     pub(crate) fn note_answer(&mut self, pid: Pid, next: Next) {
-        // (most wait for whatever comes)
-        let next = if matches!(next, Next::Wait(Pick::Any)) { WAIT } else { next.into() };
-        self.answers.push(RawAnswer { pid, next });
+        self.note_wait(pid);
+        // (which has what is said of one that waits for whatever comes)
+        let noted = &mut self.answers[self.noted - 1].next;
+        match next {
+            Next::Proceed => noted.code = raw::PT_NEXT_PROCEED,
+            Next::Stop(reason) => (noted.code, noted.reason) = (raw::PT_NEXT_STOP, reason.into()),
+            next => *noted = next.into(),
+        }
+        self.has_others = true;
+    }
+
+    /// Notes the answer of a process that waits for whatever comes, as most do.
+    #[inline(always)]
+    pub(crate) fn note_wait(&mut self, pid: Pid) {
+        if self.noted == self.answers.len() {
+            self.make_room_for_answers();
+        }
+        self.answers[self.noted].pid = pid;
+        self.noted += 1;
+    }
+
+    #[cold]
+    fn make_room_for_answers(&mut self) {
+        let blank = RawAnswer { pid: Pid::default(), next: WAIT };
+        self.answers.resize(self.noted.max(32) * 2, blank);
+    }
+
+    /// Forgets the answers that were noted.
+    #[inline(always)]
+    fn forget_noted(&mut self) {
+        let count = std::mem::take(&mut self.noted);
+        if std::mem::take(&mut self.has_others) {
+            self.answers[..count].iter_mut().for_each(|answer| answer.next = WAIT);
+        }
     }
 
     /// Gives the answers that were noted, as [`answer`](Crew::answer) does.
     #[inline]
     pub(crate) fn answer_noted(&mut self) -> Result<(), NotTaken> {
         let (mut taken, buffer) = (0, self.answers.as_ptr());
-        let code = unsafe { raw::pt_crew_answer(self.handle.own(), buffer, self.answers.len(), &mut taken) };
-        self.answers.clear();
+        let code = unsafe { raw::pt_crew_answer(self.handle.own(), buffer, self.noted, &mut taken) };
+        self.forget_noted();
         if code == OK { Ok(()) } else { Err(NotTaken { taken, fault: fault_of(code) }) }
     }
 
@@ -303,7 +380,7 @@ impl Crew {
 
     /// Takes the oldest loss of the desk, which is this one.
     #[cold]
-    fn take_loss(&mut self, desk: &mut Desk, loss: RawLoss) -> Loss {
+    pub(crate) fn take_loss(&mut self, desk: &mut Desk, loss: RawLoss) -> Loss {
         unsafe { raw::pt_crew_note_loss(self.handle.own(), desk.handle.own(), 0) };
         desk.take_loss(loss)
     }

@@ -463,6 +463,12 @@ impl Desk {
         found(code, out)
     }
 
+    /// Passes over the oldest loss.
+    #[inline]
+    pub(crate) fn pass_loss(&mut self) {
+        unsafe { raw::pt_next_loss(self.handle.own()) };
+    }
+
     /// Takes the oldest loss, which is this one.
     pub(crate) fn take_loss(&mut self, out: RawLoss) -> Loss {
         let mut items = Vec::with_capacity(out.items);
@@ -471,7 +477,7 @@ impl Desk {
             unsafe { raw::pt_loss_item(self.handle.own(), 0, place, &mut item) };
             items.push(item.into());
         }
-        unsafe { raw::pt_next_loss(self.handle.own()) };
+        self.pass_loss();
         Loss { pid: out.pid, reason: out.has_exited.then(|| out.reason.into()), items }
     }
 

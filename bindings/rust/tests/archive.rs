@@ -1,10 +1,14 @@
 //! Files that have the histories of a run: one that goes on where it was, and files that follow one another by size.
 
-use pundewo::runtime::{Behaviour, Context, Event, HistoryFile, Next, Refusal, Runtime, Sink, StopFault, Summary};
-use pundewo::{Happened, History};
+use pundewo::runtime::{
+    Address, Behaviour, Context, Event, HistoryFile, Next, Refusal, Runtime, Sink, StopFault, Summary,
+};
+use pundewo::{Happened, History, Pick};
 use std::fs;
 use std::io::Write;
 use std::path::{Path, PathBuf};
+use std::sync::Arc;
+use std::sync::mpsc::{Sender, channel};
 
 type Error = Box<dyn std::error::Error>;
 
@@ -266,5 +270,54 @@ fn all_processes_are_in_the_files() -> Result<(), Error> {
     // (each desk has one that sends what comes from outside)
     assert_eq!(text.lines().filter(|line| line.contains(" born ")).count(), 32);
     assert_eq!((counts.iter().last(), text.lines().count() as u64), (Some(32), summary.archived));
+    Ok(())
+}
+
+/// Takes nothing that it is sent.
+struct Keeps;
+
+impl Behaviour for Keeps {
+    type Message = Arc<()>;
+
+    fn started(&mut self, _: &mut Context<'_, Arc<()>>) -> Next {
+        Next::Only(Pick::Kind(77))
+    }
+
+    fn handle(&mut self, _: &mut Context<'_, Arc<()>>, event: Event<Arc<()>>) -> Next {
+        panic!("{event:?}")
+    }
+}
+
+/// Sends that one values, tells the test so, and crashes.
+struct Fills(Address<Arc<()>>, Arc<()>, Sender<()>);
+
+impl Behaviour for Fills {
+    type Message = ();
+
+    fn started(&mut self, cx: &mut Context<'_, ()>) -> Next {
+        let sent = (0..100).filter(|_| cx.send(&self.0, self.1.clone())).count();
+        assert_eq!((sent, self.2.send(())), (100, Ok(())));
+        panic!("all is sent")
+    }
+
+    fn handle(&mut self, _: &mut Context<'_, ()>, _: Event<()>) -> Next {
+        Next::Wait
+    }
+}
+
+/// It is not settled as it ends. What it counts, and what becomes of the values that wait or are on their way, are the same.
+#[test]
+fn a_run_whose_history_nobody_gets_ends_as_one_that_is_archived() -> Result<(), Error> {
+    for is_archived in [true, false] {
+        let (builder, (give, told), value) = (Runtime::builder().desks(2), channel(), Arc::new(()));
+        let builder = if is_archived { builder.archive(|_: &History| Ok(())) } else { builder };
+        let runtime = builder.start()?;
+        let keeps = runtime.spawn_on(0, Keeps)?;
+        runtime.spawn_on(1, Fills(keeps.clone(), value.clone(), give))?;
+        told.recv()?;
+        let Summary { epochs, archived, spawned, panics } = runtime.stop()?;
+        assert_eq!((epochs, archived > 0, spawned, panics), (1, is_archived, 2, 1));
+        assert_eq!((Arc::strong_count(&value), keeps.send(value.clone()), keeps.waiting()), (1, false, 0));
+    }
     Ok(())
 }

@@ -20,7 +20,7 @@ use Rattle.pt_events.specs.declared.event.Stamped.{Stamped}
 use Rattle.pt_events.specs.History.{Past, Start, at_start, Phase, unborn, living, ended, life, state, state_of, gets, items_of, arrives, arrived_since, alive, is_living, while_living}
 use Rattle.pt_events.specs.Journal.{events, IsLocal, MayHere}
 use Rattle.pt_events.specs.Takes.{taken, taken_by}
-use Rattle.pt_signal.proofs.Handling.{handle_queues}
+use Rattle.pt_events.proofs.Handling.{handle_queues}
 use Rattle.pt_events.proofs.Phases.{each_branch}
 use Rattle.pt_events.proofs.Fields.{end_keeps, while_keeps, leaves_keeps, born_keeps, say_keeps}
 use Rattle.pt_accounts.specs.LifeState.{LifeState}

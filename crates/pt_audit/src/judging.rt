@@ -6,7 +6,7 @@ use crate::page::end_page;
 use crate::refusal::{Refusal, faulty, unread, wants_memory};
 use crate::source::{PIECE, Source};
 use pt_auditor::{Audit, Begun, Did, Fault, Foreign, Hearing, Verdict};
-use pt_chart::chart;
+use pt_chart::{Watch, chart_watched};
 use pt_events::{Event, Stamped};
 use pt_render::{
     JsonEvent, JsonLeftOver, JsonStep, JsonVerdict, MERMAID_HEAD, MermaidEvent, MermaidLeftOver,
@@ -400,21 +400,26 @@ fn print_verdict<W: Write>(
 }
 
 /// Prints what became of each process, or the chart, if that is asked for and the history is legal so far.
-pub fn print_end<W: Write>(
+pub fn print_end<P: Watch, W: Write>(
     alloc: Global,
     hearing: &Hearing,
     asked: &Asked<'_, '_>,
+    watch: &P,
     out: &mut Output<W>,
 ) -> Result<(), Refusal> {
     match asked.print {
         Print::Summary if hearing.end().is_ok() => print_summary(hearing, asked, out),
-        Print::Chart if hearing.end().is_ok() => print_chart(alloc, out),
+        Print::Chart if hearing.end().is_ok() => print_chart(alloc, watch, out),
         _ => Ok(()),
     }
 }
 
-fn print_chart<W: Write>(alloc: Global, out: &mut Output<W>) -> Result<(), Refusal> {
-    match chart(alloc, out.drawn.as_slice(), &[]) {
+fn print_chart<P: Watch, W: Write>(
+    alloc: Global,
+    watch: &P,
+    out: &mut Output<W>,
+) -> Result<(), Refusal> {
+    match chart_watched(alloc, out.drawn.as_slice(), &[], watch) {
         Ok(drawing) => print_drawing(drawing.as_str(), out),
         Err(error) => Err(Refusal::from(error)),
     }

@@ -1,74 +1,33 @@
-//! What a person who waits is told: how much of a history was read, and how long the rest takes.
+//! What a person who waits is told: how much of a history was read or drawn, and how long the rest takes.
 
+use pt_chart::{Watch, Work};
+use pt_render::{Part, Progress};
 use std::io::Read;
 use std::rt::Runtime;
-use std::sync::atomic::{AtomicU64, Ordering};
-use std::time::Instant;
 use std::{fmt, fs, io};
 
-/// How much was read, and when that was told last.
-#[derive(Drop)]
-pub struct Progress {
-    /// When the reading began, if a person looks on.
-    begun: Option<Instant>,
-    /// The second in which it told that last.
-    told: AtomicU64,
-    /// How many bytes were read.
-    read: AtomicU64,
-    /// How many there are, if that is known.
-    total: Option<u64>,
+/// The progress of reading these files.
+pub fn progress_of<R: Runtime>(rt: &R, is_watched: bool, files: &[&str]) -> Progress {
+    let progress = Progress::new(rt, is_watched);
+    if is_watched {
+        progress.begin(rt, total_of(rt, files));
+    }
+    progress
 }
 
-impl Progress {
-    /// The progress of reading these files. A clock that cannot be read tells nothing.
-    pub fn new<R: Runtime>(rt: &R, is_watched: bool, files: &[&str]) -> Progress {
-        let (begun, total) = if is_watched {
-            (Instant::now(rt).ok(), total_of(rt, files))
-        } else {
-            (None, None)
-        };
-        Progress {
-            begun,
-            told: AtomicU64::new(0),
-            read: AtomicU64::new(0),
-            total,
-        }
-    }
-
-    fn seconds<R: Runtime>(&self, rt: &R) -> Option<u64> {
-        Some(self.begun?.elapsed(rt).ok()?.as_secs())
-    }
-
-    /// Counts bytes that were read. In each second from the first on it tells on standard error how many there were.
-    fn count<R: Runtime>(&self, rt: &R, bytes: u64) {
-        let read = self
-            .read
-            .fetch_add(bytes, Ordering::SeqCst)
-            .saturating_add(bytes);
-        let Some(seconds) = self.seconds(rt) else {
-            return;
-        };
-        if seconds > self.told.load(Ordering::SeqCst) {
-            self.told.store(seconds, Ordering::SeqCst);
-            let _ = rt.eprintln(Part {
-                read,
-                total: self.total,
-                seconds,
-            });
-        }
-    }
-}
-
-/// The bytes of all files together, if there are files and each has its size.
-fn total_of<R: Runtime>(rt: &R, files: &[&str]) -> Option<u64> {
+/// The bytes of all files together, or 0 if one of them has no size.
+fn total_of<R: Runtime>(rt: &R, files: &[&str]) -> u64 {
     let mut total = 0u64;
     for file in files {
-        total = total.saturating_add(fs::metadata(rt, *file).ok()?.len());
+        let Ok(metadata) = fs::metadata(rt, *file) else {
+            return 0;
+        };
+        total = total.saturating_add(metadata.len());
     }
-    if total > 0 { Some(total) } else { None }
+    total
 }
 
-/// A reader of which the bytes are counted.
+/// A reader of which the bytes are counted. In each second from the first on it tells on standard error how many there were.
 #[derive(Drop)]
 pub struct Watched<'r, 'p, R, F> {
     rt: &'r R,
@@ -88,31 +47,55 @@ pub fn counting<'r, 'p, R: Runtime, F>(
 impl<R: Runtime, F: Read> Read for Watched<'_, '_, R, F> {
     fn read(&mut self, buf: &mut [u8]) -> io::Result<usize> {
         let count = self.from.read(buf)?;
-        self.progress.count(self.rt, count as u64);
+        if let Some(part) = self.progress.count(self.rt, count as u64) {
+            let _ = self.rt.eprintln(Bytes(part));
+        }
         Ok(count)
     }
 }
 
-/// How much was read, after so many seconds.
+/// How many bytes were read.
 #[derive(Clone, Copy)]
-struct Part {
-    read: u64,
-    total: Option<u64>,
-    seconds: u64,
-}
+struct Bytes(Part);
 
-impl fmt::Display for Part {
+impl fmt::Display for Bytes {
     fn fmt<W: fmt::Write>(&self, f: &mut fmt::Formatter<W>) -> fmt::Result {
-        let read = self.read;
-        match self.total {
-            Some(total) if 0 < read && read <= total => {
-                let percent = (read as u128 * 100) / (total as u128);
-                let left = (self.seconds as u128 * (total - read) as u128) / (read as u128);
+        match self.0.estimate() {
+            Some(estimate) => {
+                let (percent, left) = (estimate.percent, estimate.seconds);
                 write!(f, "{percent} % read, about {left} seconds left")
             }
-            _ => {
-                let megabytes = read / 1_000_000;
+            None => {
+                let megabytes = self.0.done / 1_000_000;
                 write!(f, "{megabytes} MB read so far")
+            }
+        }
+    }
+}
+
+/// Tells on standard error how much of a chart is drawn, in each second from the first on, if a person looks on.
+#[derive(Drop)]
+pub struct Drawing<'r, R> {
+    rt: &'r R,
+    progress: Progress,
+}
+
+/// The progress of a drawing.
+pub fn drawing_of<R: Runtime>(rt: &R, is_watched: bool) -> Drawing<'_, R> {
+    let progress = Progress::new(rt, is_watched);
+    Drawing { rt, progress }
+}
+
+impl<R: Runtime> Watch for Drawing<'_, R> {
+    fn begin(&self, _work: Work, total: Option<u64>) {
+        self.progress.begin(self.rt, total.unwrap_or(0));
+    }
+
+    fn count(&self) {
+        if let Some(part) = self.progress.count(self.rt, 1) {
+            if let Some(estimate) = part.estimate() {
+                let (percent, left) = (estimate.percent, estimate.seconds);
+                let _ = eprintln!(self.rt; "{percent} % drawn, about {left} seconds left");
             }
         }
     }

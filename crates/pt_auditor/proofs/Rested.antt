@@ -15,7 +15,7 @@ use Rattle.pt_signal.specs.declared.signal.Signal.TheVariants.{Message, Link, Un
 use Rattle.pt_signal.specs.Process.{ProcessState, handle, held, bounce}
 use Rattle.pt_signal.specs.Values.{same_pid, same_ref, same_link, fits}
 use Rattle.pt_signal.proofs.Same.{same_pid_refl}
-use Rattle.pt_signal.proofs.Handling.{living_answer, handle_answer}
+use Rattle.pt_events.proofs.Handling.{living_answer, handle_answer}
 use Rattle.pt_events.specs.declared.event.Event.{Event}
 use Rattle.pt_events.specs.declared.event.Event.TheVariants.{Born, Said, Came, Took, Flag, Left, Refused}
 use Rattle.pt_events.specs.declared.event.Stamped.{Stamped}

@@ -1,10 +1,10 @@
 -- Rows of handles: whether each crew is that of its desk, and how the crews go on.
-use Rattle.std.proofs.Common.{◌≡◌, ℕ, ◌+◌, ◌<◌, true, List, [], ◌∷◌, ◌++◌, length, map, set, get_or, refl, sym, ap, ◌∙◌}
+use Rattle.std.proofs.Common.{◌≡◌, ℕ, ◌+◌, ◌<◌, List, [], ◌∷◌, ◌++◌, length, map, set, get_or, refl, sym, ap, ◌∙◌}
 use Rattle.std.proofs.lemmas.List.{append_assoc, length-append}
 use Rattle.pt_events.specs.declared.event.Stamped.{Stamped}
 use Rattle.pt_c_values.specs.Places.{HandlePlace}
 use Rattle.pt_c_values.proofs.InRow.{changed}
-use Rattle.pt_c_values.proofs.AlongRow.{Looked, looked_all}
+use Rattle.pt_c_values.proofs.AlongRow.{Looked}
 use Rattle.pt_scheduler.specs.declared.scheduler.Scheduler.{Scheduler}
 use Rattle.pt_c_crews.specs.GoingOn.{AllCrewsGoOn, CrewGoesOn}
 use Rattle.pt_c_crews.specs.Owning.{are_own}
@@ -12,9 +12,6 @@ use Rattle.pt_c_crews.specs.Owning.{are_own}
 -- the crews, each with its own desk
 abbrev pub OwnSoFar : List (HandlePlace Scheduler) → ℕ → Type 0
 OwnSoFar whole k = Looked are_own whole k
-
-pub all_own : (whole : List (HandlePlace Scheduler)) (k : ℕ) → OwnSoFar whole k → k ≡ length whole → are_own 0 whole ≡ true
-all_own whole k l is = looked_all are_own whole k l is refl
 
 -- crews that go on -----------------------------------------------------------------------------
 

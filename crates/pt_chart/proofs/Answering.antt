@@ -5,7 +5,7 @@ use Rattle.pt_signal.specs.declared.ids.Ref.{Ref}
 use Rattle.pt_signal.specs.declared.signal.Signal.{Signal}
 use Rattle.pt_signal.specs.declared.signal.Signal.TheVariants.{AliveAsk, AliveSay}
 use Rattle.pt_signal.specs.Process.{ProcessState, Sent, handle, sent}
-use Rattle.pt_signal.proofs.Handling.{handle_answer, living_answer}
+use Rattle.pt_events.proofs.Handling.{handle_answer, living_answer}
 use Rattle.pt_process.specs.Outcome.{IsYes}
 
 -- the answer is a yes under this reference, so it goes back to the one who asked

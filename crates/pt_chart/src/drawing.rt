@@ -24,6 +24,7 @@ use crate::page::{BLOCK, Page};
 use crate::part::{Letter, Mark, Part};
 use crate::pids::Pids;
 use crate::text::{write_head, write_parts};
+use crate::watching::{Unwatched, Watch, Work};
 use indexmap::IndexSet;
 use pt_events::{Event, Stamped};
 use pt_signal::{Pid, Reason};
@@ -48,16 +49,29 @@ use std::alloc::{AllocError, Global};
 pub fn chart(alloc: Global, events: &[Stamped], called: &[Called<'_>]) -> Result<String, AllocError>
     ensures { IfOk result (λ text. IsChart events.now (map called_given called.now) (string_bytes text)) }
 {
+    chart_watched(alloc, events, called, &Unwatched)
+}
+
+/// The same. Meanwhile the watch hears of each part that is drawn.
+pub fn chart_watched<P: Watch>(
+    alloc: Global,
+    events: &[Stamped],
+    called: &[Called<'_>],
+    watch: &P,
+) -> Result<String, AllocError>
+    ensures { IfOk result (λ text. IsChart events.now (map called_given called.now) (string_bytes text)) }
+{
     let layout = lay_out(alloc, events)?;
-    drawing_of(alloc, events, called, &layout)
+    drawing_of(alloc, events, called, &layout, watch)
 }
 
 /// The drawing of a layout of the history.
-fn drawing_of(
+fn drawing_of<P: Watch>(
     alloc: Global,
     events: &[Stamped],
     called: &[Called<'_>],
     layout: &Layout,
+    watch: &P,
 ) -> Result<String, AllocError>
     requires { length layout.now.rows.items ≡ length events.now }
     ensures { IfOk result (λ text. string_bytes text ≡ drawing_text (page_of events.now layout.now)
@@ -73,51 +87,61 @@ fn drawing_of(
         names.as_slice(),
         layout,
         letters.as_slice(),
+        watch,
     )
 }
 
 /// The drawing of a layout and its letters on this page, if the processes of its columns have these names.
-fn drawing_with(
+fn drawing_with<P: Watch>(
     alloc: Global,
     events: &[Stamped],
     page: &Page,
     names: &[&str],
     layout: &Layout,
     letters: &[Letter],
+    watch: &P,
 ) -> Result<String, AllocError>
     requires { length layout.now.rows.items ≡ length events.now }
     ensures { IfOk result (λ text. string_bytes text ≡ drawing_text page.now (map (λ n. n.now) names.now)
         (drawn_in layout.now.rows.items events.now layout.now.columns.items letters.now)) }
 {
     let parts = parts_of(alloc, events, layout, letters)?;
-    text_of(alloc, page, names, parts.as_slice())
+    text_of(alloc, page, names, parts.as_slice(), watch)
 }
 
 /// The text of a drawing.
-fn text_of(alloc: Global, page: &Page, names: &[&str], parts: &[Part]) -> Result<String, AllocError>
+fn text_of<P: Watch>(
+    alloc: Global,
+    page: &Page,
+    names: &[&str],
+    parts: &[Part],
+    watch: &P,
+) -> Result<String, AllocError>
     ensures { IfOk result (λ text. string_bytes text
         ≡ drawing_text page.now (map (λ n. n.now) names.now) parts.now) }
 {
     let mut text = String::new(alloc);
-    match write_drawing(alloc, page, names, parts, &mut text) {
+    match write_drawing(alloc, page, names, parts, watch, &mut text) {
         Ok(()) => Ok(text),
         Err(error) => Err(error),
     }
 }
 
 /// Writes the whole text of a drawing.
-fn write_drawing(
+fn write_drawing<P: Watch>(
     alloc: Global,
     page: &Page,
     names: &[&str],
     parts: &[Part],
+    watch: &P,
     text: &mut String,
 ) -> Result<(), AllocError>
     ensures { OnOk result (string_bytes text.new
         ≡ string_bytes text.old ++ drawing_text page.now (map (λ n. n.now) names.now) parts.now) }
 {
+    watch.begin(Work::Draw, Some(parts.len() as u64));
     write_head(page, text)?;
-    write_parts(alloc, page, names, parts, text)?;
+    write_parts(alloc, page, names, parts, watch, text)?;
     text.push_str("</svg>\n")
 }
 

@@ -72,7 +72,9 @@ mod standing;
 mod strokes;
 mod style;
 mod text;
+mod watching;
 
 pub use called::Called;
-pub use drawing::chart;
+pub use drawing::{chart, chart_watched};
 pub use layout::{Arrow, Column, Layout, Sending, lay_out};
+pub use watching::{Unwatched, Watch, Work};

@@ -25,6 +25,7 @@ use crate::part::{Letter, Mark, Part};
 use crate::point::Point;
 use crate::strokes::{Stroke, is_owed};
 use crate::style::STYLE;
+use crate::watching::Watch;
 use pt_events::Stamped;
 use pt_signal::{Pid, Reason};
 use std::alloc::{AllocError, Global};
@@ -39,11 +40,12 @@ pub(crate) fn write_head(page: &Page, text: &mut String) -> Result<(), AllocErro
 }
 
 /// Writes the parts, one after the other. The processes of the columns have these names.
-pub(crate) fn write_parts(
+pub(crate) fn write_parts<P: Watch>(
     alloc: Global,
     page: &Page,
     names: &[&str],
     parts: &[Part],
+    watch: &P,
     text: &mut String,
 ) -> Result<(), AllocError>
     ensures { OnOk result (string_bytes text.new
@@ -51,6 +53,7 @@ pub(crate) fn write_parts(
 {
     for part in parts {
         write_part(alloc, page, names, *part, text)?;
+        watch.count();
     }
     Ok(())
 }

@@ -12,7 +12,7 @@ use Rattle.pt_shard.specs.ShardState.{ShardState}
 use Rattle.pt_crew.specs.declared.crew.Member.{Member}
 use Rattle.pt_crew.specs.declared.crew.Crew.{Crew}
 use Rattle.pt_crew.specs.Visiting.{AreSame}
-use Rattle.pt_crew.specs.Crews.{Attends, AreBorn, HasRoom, HasTimers, members, role, roles, queue}
+use Rattle.pt_crew.specs.Crews.{Attends, AreBorn, HasRoom, HasTimers, members, role, roles}
 use Rattle.pt_crew.specs.Parts.{MarkedBut, QueueHolds, Wakes, WakesAt}
 use Rattle.pt_signal.proofs.Same.{same_pid_is}
 use Rattle.pt_crew.proofs.Places.{same_pid_sym}
@@ -29,12 +29,6 @@ module _ {X : Type 0} where
   rest_of [] i e at = absurd (cc)
   rest_of (x ∷ es) zero e at = let same : x ≡ e = cc in ap (λ (y : Pid × X). y.0 ∷ keys_of es) same
   rest_of (x ∷ es) (suc i) e at = rest_of es i e at
-
-  pub none_past : (es : List (Pid × X)) (i : ℕ) → slice_get es i ≡ None → drop (suc i) (keys_of es) ≡ drop i (keys_of es)
-  none_past [] zero at = refl
-  none_past [] (suc i) at = refl
-  none_past (x ∷ es) zero at = absurd (cc)
-  none_past (x ∷ es) (suc i) at = none_past es i at
 
   pub dropped : (es : List (Pid × X)) (n : ℕ) → length es ≤ n → drop n (keys_of es) ≡ []
   dropped [] zero h = refl
@@ -75,17 +69,6 @@ woken_at i old new e at keys w = record {
   longer = w.longer;
   timers = w.timers;
   rest = w.rest;
-}
-
-pub none_at : {B : Type 0} (i : ℕ) (c : Crew B) → slice_get c.members.entries i ≡ None → WakesAt i c c
-none_at i c at = record {
-  keys = refl;
-  marked = λ before. subst (λ n. MarkedBut (drop n (keys_of c.members.entries)) c) (next_is i) (subst (λ (ps : List Pid). MarkedBut ps c) (sym (none_past c.members.entries i at)) before);
-  roles = λ p. refl;
-  queued = λ k. k;
-  longer = ([], sym (append-nil (queue c)));
-  timers = λ k. k;
-  rest = record { waiting = refl; left = refl; refused = refl; rounds = refl; time = refl };
 }
 
 count_keys : {X : Type 0} (es : List (Pid × X)) → length (keys_of es) ≡ length es

@@ -4,12 +4,10 @@ pub mod Accounts
 pub mod Posted
 pub mod Turning
 pub mod Calling
-pub mod Fresh
 pub mod Ending
 pub mod Deaths
 pub mod Before
 pub mod Seating
 mod Looking
 mod Telling
-pub mod Reached
 mod Forgetful

@@ -36,9 +36,6 @@ module _ (s : ShardState) (o : OutEnds) (i : InEnds) (directory : DirectoryState
   before = sight_of directory seat table
 
   module _ (whole : IsWhole s o i before seat) where
-    pub same_name : seat.name ≡ directory.name
-    same_name = ap (λ (z : SeatState). z.name) whole.1
-
     module _ (t : Pid) (known : knows s t ≡ true) where
       -- t has words in the directory
       pub words : HasWordsFor directory t × (0 < t.version)

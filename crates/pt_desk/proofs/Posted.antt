@@ -97,14 +97,6 @@ pub record PostsBelow (to : ℕ) (old new : DeskState) : Type 0 where
   pub only : OnlyPosts old new
   pub grows : total old.outs.posted ≤ total new.outs.posted
 
-pub below_none : (d : DeskState) → PostsBelow 0 d d
-below_none d = record {
-  each = λ e h. absurd (omega arith);
-  rest = λ e h. record { posted = refl; waits = refl; seen = refl };
-  only = record { shard = refl; place = refl; capacity = refl; ins = refl; sight = refl };
-  grows = omega arith;
-}
-
 pub below_next : (old mid new : DeskState) (to n : ℕ) → PostsBelow to old mid → PostsTo to mid new → PostsSome to n mid new → PostsBelow (to + 1) old new
 below_next old mid new to n below posts some = record {
   each = below_more (λ e. PostsTo e old new) to

@@ -16,7 +16,7 @@ use Rattle.pt_events.specs.Journal.{events, of_desk, IsHome}
 use Rattle.pt_events.specs.Locality.{AllHome}
 pub use Rattle.pt_events.specs.Journal.{in_lane}
 use Rattle.pt_events.proofs.Local.{life_local}
-use Rattle.pt_signal.proofs.Handling.{living_answer, handle_answer}
+use Rattle.pt_events.proofs.Handling.{living_answer, handle_answer}
 
 abbrev pub AllFrom : ℕ → List Sent → Type 0
 AllFrom d [] = ⊤

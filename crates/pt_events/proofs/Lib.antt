@@ -12,3 +12,4 @@ pub mod Agreeing
 pub mod Refusals
 pub mod Leaving
 pub mod Forgetting
+pub mod Handling

@@ -10,7 +10,7 @@ use Rattle.pt_signal.specs.declared.letter.Letter.{Letter}
 use Rattle.pt_signal.specs.declared.letter.LeftOver.{LeftOver}
 use Rattle.pt_signal.specs.Values.{same_pid, without_first}
 use Rattle.pt_signal.specs.Process.{Sent}
-use Rattle.pt_signal.proofs.Firsts.{first_wider}
+use Rattle.pt_laws.proofs.Firsts.{first_wider}
 use Rattle.pt_signal.proofs.Same.{same_pid_is, same_pid_refl}
 use Rattle.pt_events.specs.declared.event.Event.{Event}
 use Rattle.pt_events.specs.declared.event.Event.TheVariants.{Born, Said, Came, Took, Flag, Left, Refused}

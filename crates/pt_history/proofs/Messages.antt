@@ -19,7 +19,7 @@ use Rattle.pt_signal.specs.Process.{ProcessState, Sent, sent, verdict, obey, hel
 use Rattle.pt_events.specs.History.{Past, Start, Phase, unborn, living, ended, life, is_between, sent_by, got_sends, left_sends, end_sends, all_sent, emitted}
 use Rattle.pt_laws.specs.Sender.{body_of, said_by, said_messages, users}
 use Rattle.pt_laws.proofs.order.Flight.{between, between-append}
-use Rattle.pt_signal.proofs.Handling.{living_answer, handle_answer}
+use Rattle.pt_events.proofs.Handling.{living_answer, handle_answer}
 use Rattle.pt_history.specs.Custody.{messages_in}
 
 -- what is sent beside what a process says -----------------------------------------------------------

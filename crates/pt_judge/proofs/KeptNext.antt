@@ -14,7 +14,7 @@ use Rattle.pt_judge.specs.declared.cause.Cause.TheVariants.{BornTwice}
 use Rattle.pt_judge.specs.Judge.{IsAfter}
 use Rattle.pt_judge.specs.Judging.{JudgeState, now_is, known_state, cause, ListsBorn, MayBeBorn, answered, lived, judge_sends, IsObserved, IsStep}
 use Rattle.pt_signal.proofs.Same.{same_pid_refl}
-use Rattle.pt_signal.proofs.Handling.{living_answer, handle_answer}
+use Rattle.pt_events.proofs.Handling.{living_answer, handle_answer}
 use Rattle.pt_events.proofs.Phases.{after_born}
 use Rattle.pt_judge.proofs.Lives.{after_unborn, other_unborn}
 

@@ -7,3 +7,4 @@ pub mod monitoring
 pub mod living
 pub mod order
 pub mod lanes
+pub mod Firsts

@@ -23,7 +23,7 @@ use Rattle.pt_events.specs.Journal.{Journals, IsMerge, events, of_desk, content,
 use Rattle.pt_events.specs.Refusals.{stamped_below, IsTrueRefusal, AllTrueRefusals, RefusalsAreTrue}
 use Rattle.pt_signal.proofs.Same.{same_pid_is, same_pid_refl, same_ref_is, same_link_is}
 use Rattle.pt_events.proofs.Telling.{AllLocal, head_local, tail_local, all_home}
-use Rattle.pt_signal.proofs.Firsts.{filter_wider, filter_other, first_wider}
+use Rattle.pt_laws.proofs.Firsts.{filter_wider, filter_other, first_wider}
 use Rattle.pt_laws.proofs.lanes.Lanes.{AllAt-letters, Back, back, contents}
 use Rattle.pt_laws.proofs.lanes.Newest.{new_posts, new_gots, posts_step, gots_step, before_le, gots_up_to, new_up_to}
 use Rattle.pt_events.proofs.Refusals.{ended_below}

@@ -10,7 +10,7 @@ use Rattle.pt_signal.specs.declared.config.Config.{Config}
 use Rattle.pt_shard.specs.ShardState.{ShardState}
 use Rattle.pt_shard.specs.Opening.{fresh_shard}
 use Rattle.pt_desk.specs.DeskState.{DeskState}
-use Rattle.pt_desk.proofs.Fresh.{fresh_seated as fresh_seated_desk}
+use Rattle.pt_node.proofs.FreshSeat.{fresh_seated as fresh_seated_desk}
 use Rattle.pt_workers.specs.Desks.{AreWhole, all_shards}
 use Rattle.pt_node.specs.Opening.{AreFreshShards, AreFreshTables}
 use Rattle.pt_node.specs.Seating.{Seated, all_seats, all_tables, IsSeatOf, AreSeated, AreFreshSeats, AreOf}

@@ -1,4 +1,4 @@
-//! The command line of the program that runs a script.
+//! The command line of the program that runs a script, and what is said of a script that is refused.
 //!
 //! ```text
 //! pt_run [FILE] [--threads single|many] [--turns N] [--until turns|quiet] [--epochs N]
@@ -7,6 +7,8 @@
 //!
 //! [`options`] reads the words, and [`laws`] says what some words mean. `FILE` is the script; without it, and for `-`,
 //! the script is read from standard input.
+//!
+//! [`explained`] says why a script is refused, and which word may be meant. No clause says what it returns.
 //!
 //! Tests: `checks/tried/pt_scripts/command_lines.rt.txt`.
 //!
@@ -25,10 +27,12 @@ ghost use Rattle.clap.specs.Words.{app_of, found_of, new_rule, rows_of};
 ghost use Rattle.pt_options.specs.Choosing as spec;
 ghost use Rattle.pt_render.specs.declared.choices.TheConstants.{MOST_EPOCHS, MOST_TURNS};
 
+mod hint;
 pub mod laws;
 
 use clap::builder::ValueParser;
 use clap::{Arg, ArgAction, ArgMatches, Command};
+pub use hint::explained;
 pub use pt_render::{MOST_EPOCHS, MOST_TURNS, Mode, Options, Show, Until, VERSION};
 use std::alloc::{AllocError, Global};
 

@@ -12,7 +12,7 @@ use Rattle.pt_signal.specs.declared.signal.Signal.TheVariants.{Link, LinkExit, M
 use Rattle.pt_signal.specs.Values.{same_pid}
 use Rattle.pt_signal.specs.Process.{ProcessState, handle, Sent, sent, estate, bounce}
 use Rattle.pt_signal.proofs.Same.{same_pid_is, same_pid_refl}
-use Rattle.pt_signal.proofs.Handling.{living_answer, handle_answer}
+use Rattle.pt_events.proofs.Handling.{living_answer, handle_answer}
 use Rattle.pt_events.specs.declared.event.Event.{Event}
 use Rattle.pt_events.specs.declared.event.Event.TheVariants.{Said, Came, Left, Refused}
 use Rattle.pt_events.specs.History.{Past, Start, Phase, unborn, living, ended, after, is_unborn, is_ended, is_living, life, state, leaves, gets, live_or_end, is_between, landed, flying, sent_by, got_sends, left_sends, end_sends, MaySay, May, IsLegal}

@@ -3,6 +3,7 @@ pub mod MapLemmas
 pub mod FewLemmas
 pub mod GapLemmas
 pub mod PlaceLemmas
+pub mod MarkLemmas
 pub mod LinkLemmas
 pub mod WatchLemmas
 pub mod StateLemmas

@@ -1,16 +1,11 @@
 -- Look-ups by key in a list of entries, and what a removal and a write leave.
-use Rattle.std.proofs.Common.{◌≡◌, ◌+◌, Bool, true, false, cond, List, [], ◌∷◌, length, refl, ap, ◌∙◌, arith, Option, Some, None, Result, Ok, Err, OnErr, is_some, ◌||◌, if◌then◌else◌}
+use Rattle.std.proofs.Common.{◌≡◌, ◌+◌, Bool, true, false, cond, List, [], ◌∷◌, length, refl, ap, ◌∙◌, arith, Option, Some, None, is_some, ◌||◌, if◌then◌else◌}
 use Rattle.std.specs.List.{list_any}
 use Rattle.std.specs.Map.{lookup, remove_entry, set_value, keys_of}
 
 pub none_from_test : {V : Type 0} (o : Option V) → is_some o ≡ false → o ≡ None
 none_from_test None h = refl
 none_from_test (Some v) h = cc
-
--- what holds whatever the result
-pub on_err : {T E P : Type 0} (r : Result T E) → P → OnErr r P
-on_err (Ok x) p = tt
-on_err (Err e) p = p
 
 any_step : {V : Type 0} (b : Bool) (v : V) (r : Option V) → is_some (cond b (Some v) r) ≡ b || is_some r
 any_step true v r = refl

@@ -5,3 +5,4 @@ pub mod Places
 pub mod Peers
 pub mod Gaps
 pub mod Held
+pub mod Marks

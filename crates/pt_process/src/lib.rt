@@ -39,7 +39,8 @@
 //! exceptions:
 //!
 //! - `first` and `take` cost what they look at. A take moves the items before its item or after it, whichever are
-//!   fewer.
+//!   fewer. A pick of the answer to the newest reference that was answered looks at nothing before that answer, and a
+//!   pick of the answer to a newer one at nothing.
 //! - `kept` searches the watches.
 //! - `estate` and reading it cost what is owed.
 //! - If more than eight are linked, a link with a peer that was unlinked before, and whose gap is still there, costs

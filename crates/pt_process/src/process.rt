@@ -25,11 +25,12 @@ const _: () = prove!(size_of::<Process>() <= 256);
 #[derive(Drop)]
 pub struct Process {
     me: Pid,
+    /// It has its place behind the pid, where there is room for it: so a process is shorter by a word.
+    traps: bool,
     waiting: Mailbox,
     links: Entries<Pid, Ids>,
     watching: Entries<Ref, Pid>,
     kept: Entries<(Ref, Pid), ()>,
-    traps: bool,
 }
 
 impl Model for Process {

@@ -16,6 +16,10 @@ pub record IsStepping (events rest : List Stamped) (list : List Step) (state : J
   pub told : map step_told list ++ steps_after past rest ≡ steps_after [] events
   pub back : (c : Cause) → StepsFail past rest c → StepsFail [] events c
 
+pub begun : (events : List Stamped) (list : List Step) (state : JudgeState) → list ≡ [] → IsAfter [] [] state → IsStepping events events list state
+begun events list state none after =
+    record { past = []; after = after; told = ap (λ l. map step_told l ++ steps_after [] events) none; back = λ c fails. fails }
+
 pub goes_on : (events all rest : List Stamped) (s : Stamped) (list new : List Step) (state next : JudgeState) (k : IsStepping events all list state) → all ≡ s ∷ rest → IsStepAdded k.past s list new next → IsStepping events rest new next
 goes_on events all rest s list new state next k is on = record {
   past = s.event ∷ k.past;

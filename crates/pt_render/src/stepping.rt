@@ -8,6 +8,7 @@ ghost use Rattle.pt_auditor.specs.Changes.{event_changes};
 ghost use Rattle.pt_render.specs.Pages.{IsStepAdded, StepsFail, step_told, steps_after};
 
 use pt_auditor::{Begun, Did};
+use pt_chart::{Unwatched, Watch, Work};
 use pt_events::Stamped;
 use pt_judge::{Cause, State};
 use std::alloc::{AllocError, Global};
@@ -28,6 +29,19 @@ pub fn steps_of(alloc: Global, events: &[Stamped]) -> Result<Vec<Step>, Cause>
     ensures told { IfOk result (λ list. map step_told list.items ≡ steps_after [] events.now) }
     ensures fails { IfErr result (StepsFail [] events.now) }
 {
+    steps_watched(alloc, events, &Unwatched)
+}
+
+/// The same. Meanwhile the watch hears of each event.
+pub fn steps_watched<P: Watch>(
+    alloc: Global,
+    events: &[Stamped],
+    watch: &P,
+) -> Result<Vec<Step>, Cause>
+    ensures told { IfOk result (λ list. map step_told list.items ≡ steps_after [] events.now) }
+    ensures fails { IfErr result (StepsFail [] events.now) }
+{
+    watch.begin(Work::Judge, Some(events.len() as u64));
     let mut state = State::new(alloc);
     let mut list = Vec::new(alloc);
     let mut rest = events;
@@ -37,6 +51,7 @@ pub fn steps_of(alloc: Global, events: &[Stamped]) -> Result<Vec<Step>, Cause>
             Err(cause) => return Err(cause),
         }
         rest = more;
+        watch.count();
     }
     Ok(list)
 }

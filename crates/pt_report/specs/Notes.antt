@@ -47,17 +47,17 @@ ending_of e p = or_unseen (get same_pid e.ended p)
 
 -- why it ended ------------------------------------------------------------------------------
 
-abbrev pub is_other : ℕ → Reason → Bool
-is_other n (Other m) = m == n
-is_other n _ = false
+abbrev pub is_other_reason : ℕ → Reason → Bool
+is_other_reason n (Other m) = m == n
+is_other_reason n _ = false
 
 -- by what an operation ends its process, if it is one that ends with this reason
 abbrev pub ends_by : Sources → ℕ → Reason → Operation → Option (List ℕ)
 ends_by s process reason (ExitOp r) = Some (codes "exit")
 ends_by s process reason (Spawn child linked) =
-    cond (is_other 1 reason && not (is_born_on s.runners.now child)) (Some (codes "spawn refused as full")) None
+    cond (is_other_reason 1 reason && not (is_born_on s.runners.now child)) (Some (codes "spawn refused as full")) None
 ends_by s process reason (Monitor to tag) =
-    cond (is_other 5 reason && (to == process)) (Some (codes "monitor refused as myself")) None
+    cond (is_other_reason 5 reason && (to == process)) (Some (codes "monitor refused as myself")) None
 ends_by s process reason _ = None
 
 abbrev pub first_end : ℕ → Option (List ℕ) → List ℕ → List ℕ

@@ -6,7 +6,8 @@ ghost use Rattle.pt_report.specs.Called as spec;
 
 use pt_chart::Called;
 use pt_node::Pid;
-use pt_runner::{Runner, name_at};
+use pt_runner::Runner;
+use pt_script::name_at;
 use std::alloc::{AllocError, Global};
 
 /// The pids of a script's processes, as its runners have them, each with the name at its process's number.

@@ -14,8 +14,9 @@ ghost use Rattle.pt_report.specs.declared.fault.ReportFault.TheVariants.{File};
 use crate::called::called_by;
 use crate::fault::ReportFault;
 use crate::history::all_events;
-use pt_chart::chart;
+use pt_chart::chart_watched;
 use pt_node::{Gathered, Stamped};
+use pt_render::Watch;
 use pt_runner::Runner;
 use pt_script::process_names;
 use std::alloc::{AllocError, Global};
@@ -24,12 +25,13 @@ use std::io::Write;
 
 /// Prints the chart of the histories of epochs and of the last one's node, which these runners ran. The processes have
 /// their names of the script's bytes.
-pub(crate) fn print_chart<W: Write>(
+pub(crate) fn print_chart<P: Watch, W: Write>(
     alloc: Global,
     script: &[u8],
     runners: &[Runner<'_>],
     kept: Vec<Stamped>,
     gathered: &Gathered,
+    watch: &P,
     out: &mut W,
 ) -> Result<(), ReportFault>
     ensures text { OnOk result
@@ -40,7 +42,7 @@ pub(crate) fn print_chart<W: Write>(
     ensures untouched { IfErr result (λ f. f ≢ File → out.new ≡ out.old) }
 {
     let events = all_events(kept, gathered)?;
-    let drawing = drawing_of(alloc, script, runners, events.as_slice())?;
+    let drawing = drawing_of(alloc, script, runners, events.as_slice(), watch)?;
     match write_text(out, drawing.as_str()) {
         Ok(()) => Ok(()),
         Err(_) => Err(ReportFault::File),
@@ -48,18 +50,19 @@ pub(crate) fn print_chart<W: Write>(
 }
 
 /// The chart of these events.
-fn drawing_of(
+fn drawing_of<P: Watch>(
     alloc: Global,
     script: &[u8],
     runners: &[Runner<'_>],
     events: &[Stamped],
+    watch: &P,
 ) -> Result<String, AllocError>
     ensures { IfOk result
         (λ text. IsChart events.now (called_by (names_in script.now) runners.now) (string_bytes text)) }
 {
     let names = process_names(alloc, script)?;
     let called = called_by(alloc, names.as_slice(), runners)?;
-    chart(alloc, events, called.as_slice())
+    chart_watched(alloc, events, called.as_slice(), watch)
 }
 
 /// Writes a text, and flushes the writer.

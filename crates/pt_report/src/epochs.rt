@@ -17,8 +17,9 @@ use crate::fault::ReportFault;
 use crate::form::Form;
 use crate::history::write_events;
 use crate::running::run_epoch;
+use crate::watching::Counting;
 use pt_node::{Node, Settled, Stamped};
-use pt_render::{Options, Show};
+use pt_render::{Options, Show, Unwatched, Watch};
 use pt_runner::Runner;
 use std::alloc::Global;
 use std::io;
@@ -27,13 +28,14 @@ use std::thread::Threads;
 
 /// Runs all epochs but the last. As the options say, it writes the history of each as it ends, or keeps it after those
 /// before it.
-pub(crate) fn pass_epochs<R: Threads + Sync, W: Write>(
+pub(crate) fn pass_epochs<R: Threads + Sync, P: Watch + Sync, W: Write>(
     rt: &R,
     alloc: Global,
     options: &Options,
     budget: u32,
     node: Node,
     runners: &mut Vec<Runner<'_>>,
+    gate: &Counting<'_, P>,
     kept: &mut Vec<Stamped>,
     out: &mut W,
 ) -> Result<Node, ReportFault>
@@ -52,19 +54,20 @@ pub(crate) fn pass_epochs<R: Threads + Sync, W: Write>(
     let mut node = node;
     let before = options.epochs.saturating_sub(1);
     for _epoch in 0..before {
-        node = next_epoch(rt, alloc, options, budget, node, runners, kept, out)?;
+        node = next_epoch(rt, alloc, options, budget, node, runners, gate, kept, out)?;
     }
     Ok(node)
 }
 
 /// Runs one epoch, and writes or keeps its history as the options say.
-fn next_epoch<R: Threads + Sync, W: Write>(
+fn next_epoch<R: Threads + Sync, P: Watch + Sync, W: Write>(
     rt: &R,
     alloc: Global,
     options: &Options,
     budget: u32,
     node: Node,
     runners: &mut Vec<Runner<'_>>,
+    gate: &Counting<'_, P>,
     kept: &mut Vec<Stamped>,
     out: &mut W,
 ) -> Result<Node, ReportFault>
@@ -78,19 +81,21 @@ fn next_epoch<R: Threads + Sync, W: Write>(
         (λ f. IsOfPrint f ⊎ IsOfEpoch options.now budget (node, runners.old.items) f) }
     ensures untouched { IfErr result (λ f. f ≢ File → out.new ≡ out.old) }
 {
-    let (next, history) = pass_epoch(rt, alloc, options, budget, node, runners)?;
+    let (next, history) = pass_epoch(rt, alloc, options, budget, node, runners, gate)?;
     put(options.print, history.as_slice(), kept, out)?;
+    gate.0.count();
     Ok(next)
 }
 
 /// Runs one epoch, and returns its history.
-fn pass_epoch<R: Threads + Sync>(
+fn pass_epoch<R: Threads + Sync, P: Watch + Sync>(
     rt: &R,
     alloc: Global,
     options: &Options,
     budget: u32,
     node: Node,
     runners: &mut Vec<Runner<'_>>,
+    gate: &Counting<'_, P>,
 ) -> Result<(Node, Vec<Stamped>), ReportFault>
     requires { CanBegin node runners.old.items }
     ensures passes { IfOk result
@@ -98,7 +103,7 @@ fn pass_epoch<R: Threads + Sync>(
     ensures fault { IfErr result (IsOfEpoch options.now budget (node, runners.old.items)) }
 {
     let mut node = node;
-    run_epoch(rt, options, budget, &mut node, runners)?;
+    run_epoch(rt, options, budget, &mut node, runners, gate)?;
     let ended = end_epoch(alloc, node)?;
     begin_again(runners);
     Ok(ended)
@@ -183,6 +188,6 @@ fn write_epoch<W: Write>(out: &mut W, form: Form, events: &[Stamped]) -> Result<
 fn write_all<W: Write>(out: &mut W, form: Form, events: &[Stamped]) -> io::Result<()>
     ensures { OnOk result (Appends (W.contents out.old) (W.contents out.new) (lines form events.now)) }
 {
-    write_events(out, form, events)?;
+    write_events(out, form, events, &Unwatched)?;
     out.flush()
 }

@@ -13,15 +13,17 @@ ghost use Rattle.pt_report.specs.declared.fault.ReportFault.TheVariants.{File};
 use crate::fault::ReportFault;
 use crate::form::{Form, write_event, write_head, write_letter};
 use pt_node::{Gathered, LeftOver, Stamped};
+use pt_render::{Watch, Work};
 use std::alloc::AllocError;
 use std::io;
 use std::io::Write;
 
 /// Prints, in this form, the histories of epochs and of the last one's node, and the letters left over.
-pub(crate) fn print_history<W: Write>(
+pub(crate) fn print_history<P: Watch, W: Write>(
     form: Form,
     kept: Vec<Stamped>,
     gathered: &Gathered,
+    watch: &P,
     out: &mut W,
 ) -> Result<(), ReportFault>
     ensures text { OnOk result
@@ -33,7 +35,7 @@ pub(crate) fn print_history<W: Write>(
 {
     let events = all_events(kept, gathered)?;
     let letters = gathered.left_over()?;
-    match write_history(out, form, events.as_slice(), letters.as_slice()) {
+    match write_history(out, form, events.as_slice(), letters.as_slice(), watch) {
         Ok(()) => Ok(()),
         Err(_) => Err(ReportFault::File),
     }
@@ -58,27 +60,35 @@ pub(crate) fn all_events(
 
 /// Writes the events, then the letters left over, and flushes the writer.
 #[tactic(auto, using(crate::proofs::Writing::appends_then, crate::proofs::Writing::appends_keeps))]
-fn write_history<W: Write>(
+fn write_history<P: Watch, W: Write>(
     out: &mut W,
     form: Form,
     events: &[Stamped],
     letters: &[LeftOver],
+    watch: &P,
 ) -> io::Result<()>
     ensures { OnOk result
         (Appends (W.contents out.old) (W.contents out.new) (history_text form events.now letters.now)) }
 {
+    watch.begin(Work::Print, Some(events.len() as u64));
     write_head(out, form)?;
-    write_events(out, form, events)?;
+    write_events(out, form, events, watch)?;
     write_letters(out, form, letters)?;
     out.flush()
 }
 
-/// Writes one line for each event.
-pub(crate) fn write_events<W: Write>(out: &mut W, form: Form, events: &[Stamped]) -> io::Result<()>
+/// Writes one line for each event, of which the watch hears.
+pub(crate) fn write_events<P: Watch, W: Write>(
+    out: &mut W,
+    form: Form,
+    events: &[Stamped],
+    watch: &P,
+) -> io::Result<()>
     ensures { OnOk result (Appends (W.contents out.old) (W.contents out.new) (lines form events.now)) }
 {
     for event in events {
         write_event(out, form, *event)?;
+        watch.count();
     }
     Ok(())
 }

@@ -66,7 +66,9 @@ mod reporting;
 mod running;
 mod summary;
 mod totals;
+mod watching;
 mod words;
 
 pub use fault::ReportFault;
+pub use pt_render::{Watch, Work};
 pub use reporting::{report, report_left};

@@ -18,7 +18,7 @@ use crate::fault::ReportFault;
 use crate::history::all_events;
 use pt_chart::Called;
 use pt_node::{Gathered, LeftOver, Stamped};
-use pt_render::{Step, steps_of, write_page, write_steps};
+use pt_render::{Step, Watch, steps_watched, write_page, write_steps};
 use pt_runner::Runner;
 use pt_script::process_names;
 use std::alloc::{AllocError, Global};
@@ -26,10 +26,11 @@ use std::io;
 use std::io::Write;
 
 /// Prints the events of epochs and of the last one's node as JSON, each with what it changed, and the letters left over.
-pub(crate) fn print_steps<W: Write>(
+pub(crate) fn print_steps<P: Watch, W: Write>(
     alloc: Global,
     kept: Vec<Stamped>,
     gathered: &Gathered,
+    watch: &P,
     out: &mut W,
 ) -> Result<(), ReportFault>
     ensures text { OnOk result
@@ -41,7 +42,7 @@ pub(crate) fn print_steps<W: Write>(
 {
     let events = all_events(kept, gathered)?;
     let letters = gathered.left_over()?;
-    let told = told_of(alloc, events.as_slice())?;
+    let told = told_of(alloc, events.as_slice(), watch)?;
     match write_lines(out, told.as_slice(), letters.as_slice()) {
         Ok(()) => Ok(()),
         Err(_) => Err(ReportFault::File),
@@ -50,12 +51,13 @@ pub(crate) fn print_steps<W: Write>(
 
 /// Prints the page of the histories of epochs and of the last one's node, which these runners ran. The processes have
 /// their names of the script's bytes.
-pub(crate) fn print_page<W: Write>(
+pub(crate) fn print_page<P: Watch, W: Write>(
     alloc: Global,
     script: &[u8],
     runners: &[Runner<'_>],
     kept: Vec<Stamped>,
     gathered: &Gathered,
+    watch: &P,
     out: &mut W,
 ) -> Result<(), ReportFault>
     ensures text { OnOk result
@@ -68,7 +70,7 @@ pub(crate) fn print_page<W: Write>(
 {
     let events = all_events(kept, gathered)?;
     let letters = gathered.left_over()?;
-    let told = told_of(alloc, events.as_slice())?;
+    let told = told_of(alloc, events.as_slice(), watch)?;
     print_named(
         alloc,
         script,
@@ -80,10 +82,10 @@ pub(crate) fn print_page<W: Write>(
 }
 
 /// What each event changed. The history of a node is legal, so memory is all that can be wanting.
-fn told_of(alloc: Global, events: &[Stamped]) -> Result<Vec<Step>, AllocError>
+fn told_of<P: Watch>(alloc: Global, events: &[Stamped], watch: &P) -> Result<Vec<Step>, AllocError>
     ensures { IfOk result (λ list. map step_told list.items ≡ steps_after [] events.now) }
 {
-    match steps_of(alloc, events) {
+    match steps_watched(alloc, events, watch) {
         Ok(list) => Ok(list),
         Err(_) => Err(AllocError),
     }

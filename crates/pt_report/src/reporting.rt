@@ -11,7 +11,8 @@ use crate::form::Form;
 use crate::history::print_history;
 use crate::pages::{print_page, print_steps};
 use crate::running::run_script;
-use pt_render::{Options, Show};
+use crate::watching::Counting;
+use pt_render::{Options, Show, Unwatched, Watch};
 use pt_script::Script;
 use std::alloc::Global;
 use std::io::Write;
@@ -47,19 +48,30 @@ pub fn report<R: Threads + Sync, W: Write>(
         ⊎ HasWrittenOf script.now options.now (W.contents out.old) (W.contents out.new)) }
 {
     let mut left = 0;
-    run_and_report(rt, alloc, options, script, out, &mut left)
+    run_and_report(
+        rt,
+        alloc,
+        options,
+        script,
+        &Counting(&Unwatched),
+        out,
+        &mut left,
+    )
 }
 
 /// Reports as [`report`] does, and returns the number of processes that have operations left: 0 if the run is at rest.
+/// Meanwhile the watch hears of each turn of a desk, and then of each event that is printed or judged, or part that is drawn. A
+/// pause between two epochs counts as a turn.
 ///
 /// A run is at rest if no letter is in flight, and each process has seen all that happened in the last turn. Each
 /// process must also have exited, or wait for an item that has not arrived. Else all live processes of the script are
 /// counted.
-pub fn report_left<R: Threads + Sync, W: Write>(
+pub fn report_left<R: Threads + Sync, P: Watch + Sync, W: Write>(
     rt: &R,
     alloc: Global,
     options: &Options,
     script: &[u8],
+    watch: &P,
     out: &mut W,
 ) -> Result<u64, ReportFault>
     ensures text { IfOk result
@@ -69,17 +81,18 @@ pub fn report_left<R: Threads + Sync, W: Write>(
         ⊎ HasWrittenOf script.now options.now (W.contents out.old) (W.contents out.new)) }
 {
     let mut left = 0;
-    run_and_report(rt, alloc, options, script, out, &mut left)?;
+    run_and_report(rt, alloc, options, script, &Counting(watch), out, &mut left)?;
     Ok(left)
 }
 
 /// Reads a script, runs it, prints what happened, and notes how many processes have operations left.
 #[tactic(auto, using(crate::proofs::Faults::of_run, crate::proofs::Faults::of_print, crate::proofs::Faults::of_summary))]
-fn run_and_report<R: Threads + Sync, W: Write>(
+fn run_and_report<R: Threads + Sync, P: Watch + Sync, W: Write>(
     rt: &R,
     alloc: Global,
     options: &Options,
     script: &[u8],
+    gate: &Counting<'_, P>,
     out: &mut W,
     left: &mut u64,
 ) -> Result<(), ReportFault>
@@ -91,23 +104,16 @@ fn run_and_report<R: Threads + Sync, W: Write>(
 {
     let read = Script::from_bytes(alloc, script)?;
     let mut kept = Vec::new(alloc);
-    let (gathered, runners, behind) = run_script(rt, alloc, options, &read, &mut kept, out)?;
+    let (gathered, runners, behind) = run_script(rt, alloc, options, &read, gate, &mut kept, out)?;
     *left = behind;
+    let staff = runners.as_slice();
     match options.print {
-        Show::Summary => summarize(
-            alloc,
-            options.explain,
-            script,
-            &read,
-            runners.as_slice(),
-            gathered,
-            out,
-        ),
-        Show::History => print_history(Form::Lines, kept, &gathered, out),
-        Show::Mermaid => print_history(Form::Diagram, kept, &gathered, out),
-        Show::Json => print_history(Form::Objects, kept, &gathered, out),
-        Show::Chart => print_chart(alloc, script, runners.as_slice(), kept, &gathered, out),
-        Show::Steps => print_steps(alloc, kept, &gathered, out),
-        Show::Page => print_page(alloc, script, runners.as_slice(), kept, &gathered, out),
+        Show::Summary => summarize(alloc, options.explain, script, &read, staff, gathered, out),
+        Show::History => print_history(Form::Lines, kept, &gathered, gate.0, out),
+        Show::Mermaid => print_history(Form::Diagram, kept, &gathered, gate.0, out),
+        Show::Json => print_history(Form::Objects, kept, &gathered, gate.0, out),
+        Show::Chart => print_chart(alloc, script, staff, kept, &gathered, gate.0, out),
+        Show::Steps => print_steps(alloc, kept, &gathered, gate.0, out),
+        Show::Page => print_page(alloc, script, staff, kept, &gathered, gate.0, out),
     }
 }

@@ -11,8 +11,9 @@ ghost use Rattle.pt_report.specs.declared.fault.ReportFault.TheVariants.{File, M
 
 use crate::epochs::pass_epochs;
 use crate::fault::ReportFault;
-use pt_node::{Desk, FreeGate, Gathered, Node, Stamped, abandon, open};
-use pt_render::{MOST_TURNS, Mode, Options, Until};
+use crate::watching::{Counting, turns_of};
+use pt_node::{Desk, Gathered, Node, Stamped, abandon, open};
+use pt_render::{MOST_TURNS, Mode, Options, Until, Watch, Work};
 use pt_runner::{Runner, are_idle};
 use pt_script::Script;
 use std::alloc::{AllocError, Global};
@@ -22,11 +23,12 @@ use std::thread::Threads;
 /// The node of a script, run as the options say and gathered in its last epoch, the runners that ran it, and how many
 /// processes have operations left. The histories of the epochs before are in the writer or kept, as the options say.
 #[tactic(auto, using(crate::proofs::Faults::told_of_start))]
-pub(crate) fn run_script<'a, R: Threads + Sync, W: Write>(
+pub(crate) fn run_script<'a, R: Threads + Sync, P: Watch + Sync, W: Write>(
     rt: &R,
     alloc: Global,
     options: &Options,
     script: &'a Script,
+    gate: &Counting<'_, P>,
     kept: &mut Vec<Stamped>,
     out: &mut W,
 ) -> Result<(Gathered, Vec<Runner<'a>>, u64), ReportFault>
@@ -48,8 +50,10 @@ pub(crate) fn run_script<'a, R: Threads + Sync, W: Write>(
     };
     match Runner::start(alloc, script, desks.as_mut_slice()) {
         Ok(runners) => {
+            gate.0
+                .begin(Work::Run, turns_of(options, script.config().desks));
             let node = Node::of_desks(alloc, desks);
-            run_epochs(rt, alloc, options, script, node, runners, kept, out)
+            run_epochs(rt, alloc, options, script, node, runners, gate, kept, out)
         }
         Err(fault) => {
             abandon(desks);
@@ -59,13 +63,14 @@ pub(crate) fn run_script<'a, R: Threads + Sync, W: Write>(
 }
 
 /// Runs all epochs of a node, and gathers it in the last.
-fn run_epochs<'a, R: Threads + Sync, W: Write>(
+fn run_epochs<'a, R: Threads + Sync, P: Watch + Sync, W: Write>(
     rt: &R,
     alloc: Global,
     options: &Options,
     script: &Script,
     node: Node,
     runners: Vec<Runner<'a>>,
+    gate: &Counting<'_, P>,
     kept: &mut Vec<Stamped>,
     out: &mut W,
 ) -> Result<(Gathered, Vec<Runner<'a>>, u64), ReportFault>
@@ -84,8 +89,18 @@ fn run_epochs<'a, R: Threads + Sync, W: Write>(
 {
     let mut runners = runners;
     let budget = script.budget();
-    let mut node = pass_epochs(rt, alloc, options, budget, node, &mut runners, kept, out)?;
-    run_epoch(rt, options, budget, &mut node, &mut runners)?;
+    let mut node = pass_epochs(
+        rt,
+        alloc,
+        options,
+        budget,
+        node,
+        &mut runners,
+        gate,
+        kept,
+        out,
+    )?;
+    run_epoch(rt, options, budget, &mut node, &mut runners, gate)?;
     let desks = node.desks();
     let staff = runners.as_slice();
     let alive = alive_in(desks, staff);
@@ -120,12 +135,13 @@ fn alive_in(desks: &[Desk], runners: &[Runner<'_>]) -> u64
 }
 
 /// Runs the desks for one epoch, as the options say.
-pub(crate) fn run_epoch<R: Threads + Sync>(
+pub(crate) fn run_epoch<R: Threads + Sync, P: Watch + Sync>(
     rt: &R,
     options: &Options,
     budget: u32,
     node: &mut Node,
     runners: &mut Vec<Runner<'_>>,
+    gate: &Counting<'_, P>,
 ) -> Result<(), ReportFault>
     requires { CanBegin node.old runners.old.items }
     ensures runs { OnOk result
@@ -134,19 +150,20 @@ pub(crate) fn run_epoch<R: Threads + Sync>(
     ensures fault { IfErr result (λ f. f ≡ Memory) }
 {
     match options.until {
-        Until::Turns => run_once(rt, options, budget, node, runners),
-        Until::Quiet => run_until_quiet(rt, options, budget, node, runners),
+        Until::Turns => run_once(rt, options, budget, node, runners, gate),
+        Until::Quiet => run_until_quiet(rt, options, budget, node, runners, gate),
     }
 }
 
 /// Lets each desk take its turns again and again, one at least each time, until nothing more can happen, or the largest
 /// number of turns was taken.
-fn run_until_quiet<R: Threads + Sync>(
+fn run_until_quiet<R: Threads + Sync, P: Watch + Sync>(
     rt: &R,
     options: &Options,
     budget: u32,
     node: &mut Node,
     runners: &mut Vec<Runner<'_>>,
+    gate: &Counting<'_, P>,
 ) -> Result<(), ReportFault>
     requires { CanBegin node.old runners.old.items }
     ensures runs { OnOk result
@@ -156,7 +173,7 @@ fn run_until_quiet<R: Threads + Sync>(
 {
     let each = with_a_turn(options);
     for _run in 0..most_runs(options) {
-        let quiet = run_and_rest(rt, &each, budget, node, runners)?;
+        let quiet = run_and_rest(rt, &each, budget, node, runners, gate)?;
         if quiet {
             return Ok(());
         }
@@ -183,12 +200,13 @@ fn most_runs(options: &Options) -> u64
 
 /// Lets each desk take its turns once, then delivers every letter in flight, and returns whether nothing more can
 /// happen.
-fn run_and_rest<R: Threads + Sync>(
+fn run_and_rest<R: Threads + Sync, P: Watch + Sync>(
     rt: &R,
     options: &Options,
     budget: u32,
     node: &mut Node,
     runners: &mut Vec<Runner<'_>>,
+    gate: &Counting<'_, P>,
 ) -> Result<bool, ReportFault>
     requires { CanBegin node.old runners.old.items }
     ensures runs { IfOk result (λ quiet.
@@ -197,7 +215,7 @@ fn run_and_rest<R: Threads + Sync>(
     ensures begins { OnOk result (CanBegin node.new runners.new.items) }
     ensures fault { IfErr result (λ f. f ≡ Memory) }
 {
-    run_once(rt, options, budget, node, runners)?;
+    run_once(rt, options, budget, node, runners, gate)?;
     let rested = node.turn_until_still(budget);
     match rested.stopped {
         Some(_stop) => Ok(false),
@@ -206,12 +224,13 @@ fn run_and_rest<R: Threads + Sync>(
 }
 
 /// Lets each desk take its turns once.
-fn run_once<R: Threads + Sync>(
+fn run_once<R: Threads + Sync, P: Watch + Sync>(
     rt: &R,
     options: &Options,
     budget: u32,
     node: &mut Node,
     runners: &mut Vec<Runner<'_>>,
+    gate: &Counting<'_, P>,
 ) -> Result<(), ReportFault>
     requires { CanBegin node.old runners.old.items }
     ensures runs { OnOk result (RunsOn options.now budget (node.old, runners.old.items) (node.new, runners.new.items)) }
@@ -220,11 +239,11 @@ fn run_once<R: Threads + Sync>(
 {
     match options.threads {
         Mode::Single => {
-            node.run_single(runners, options.turns, budget, &FreeGate)?;
+            node.run_single(runners, options.turns, budget, gate)?;
             Ok(())
         }
         Mode::Many => {
-            node.run(rt, runners, options.turns, budget, &FreeGate)?;
+            node.run(rt, runners, options.turns, budget, gate)?;
             Ok(())
         }
     }

@@ -3,4 +3,5 @@ pub mod Acting
 pub mod Finding
 pub mod Starting
 pub mod Stepping
+pub mod NothingFound
 pub mod Waiting

@@ -21,7 +21,8 @@ use Rattle.pt_shard.specs.Calls.{Calls, CanWriteIf, after_if, first_match, take_
 use Rattle.pt_shard.specs.Extends.{Extends}
 use Rattle.pt_workers.specs.Waking.{came_in, came_to}
 use Rattle.pt_workers.proofs.Unread.{Oldest, oldest}
-use Rattle.pt_workers.proofs.Waiting.{finds_nothing_later, neither}
+use Rattle.pt_workers.proofs.Waiting.{neither}
+use Rattle.pt_runner.proofs.NothingFound.{finds_nothing_later}
 use Rattle.pt_script.specs.Plans.{Plan}
 use Rattle.pt_script.specs.declared.values.Operation.{Operation}
 use Rattle.pt_script.specs.declared.values.Operation.TheVariants.{Receive}

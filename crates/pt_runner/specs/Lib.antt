@@ -2,4 +2,3 @@ pub mod Acting
 pub mod Starting
 pub mod Stepping
 pub mod Waiting
-pub mod Words

@@ -61,16 +61,12 @@
 //!   of memory or at the clock's limit. (`GoesBehind`)
 //! - **Idle runners.** If a runner is idle, each of its processes has exited, or waits for an item that has not
 //!   arrived. So it is if `finds_nothing` says so, which looks into the mailboxes. (`AllRest`)
-//! - **Words.** A process is written as its name, or as its number if it has none. What a `receive` takes is written with
-//!   that. (`process_text`, `awaited_text`)
-#![tactic(auto, unfolding(crate::specs::Words::process_text, crate::specs::Words::awaited_text))]
+#![tactic(auto)]
 
 mod calls;
 mod idle;
 mod runner;
 mod start;
-mod words;
 
 pub use idle::are_idle;
 pub use runner::{Place, Runner, place_among};
-pub use words::{Named, Wanted, name_at, pattern_of};

@@ -69,16 +69,6 @@ no_end None h is = is refl
 
 -- one exit, and one more --------------------------------------------------------------------------
 
--- an event that is no exit
-pub other_kept : (e : Event) (h : Scheduler) → ((q : Pid) → exit_by q e None ≡ None) → KeepsExit e h h
-other_kept e h none = record {
-  members = λ q. none_kept (roles h.crew q) ∙ ap (λ (x : Option Reason). option_map (member_role_kept x) (roles h.crew q)) (sym (none q));
-  desk = refl;
-  queue = refl;
-  rest = record { waiting = refl; left = refl; refused = refl; rounds = refl; time = refl };
-  attends = λ d a. a;
-}
-
 -- of one that is none of these
 pub none_of_these : (h : Scheduler) (p : Pid) (r : Reason) → roles h.crew p ≡ None → KeepsExit (Left p r) h h
 none_of_these h p r none = record {

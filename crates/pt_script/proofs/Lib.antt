@@ -24,3 +24,4 @@ pub mod CalledFacts
 pub mod FindingFacts
 pub mod WalkFacts
 pub mod SpotFacts
+pub mod Spreading

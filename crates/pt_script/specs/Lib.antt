@@ -18,3 +18,5 @@ pub mod Explaining
 pub mod WhyTexts
 pub mod Walks
 pub mod Spots
+pub mod Spreading
+pub mod Words

@@ -27,11 +27,15 @@
 //! - **Well formed.** An accepted script names only processes and tags of its own, and keeps the limits. (`laws`)
 //! - **Reading back.** Each well-formed script is read back from what is written of it.
 //! - **Names.** `process_names` returns the names of the processes of a text, by their places in it.
+//! - **Own desks.** `Script::spread` returns the script with a desk for each of its processes, in their order. All else is as
+//!   it was. It does so exactly if none of them is spawned, and if there are 64 at most. (`spread`)
 //! - **Explanations.** The line of `explain` has the text of a place, of a member if one is wrong, and of what is wrong.
 //!   The place is the one that was passed, and the names of its process and operation are theirs in the text. (`IsSaidOf`)
 //! - **Lines and columns.** The line and the column of an explanation are those of the byte at which the member that it
 //!   names has its value there. If it names none, or one that is missing, they are those of the process, the operation
 //!   or the script. (`IsSpotOf`)
+//! - **Words.** A process is written as its name, or as its number if it has none. What a `receive` takes is written with
+//!   that. (`process_text`, `awaited_text`)
 #![tactic(auto)]
 
 mod called;
@@ -49,9 +53,11 @@ mod operation;
 mod reading;
 mod script;
 mod values;
+mod words;
 
 pub use called::process_names;
 pub use explanation::explain;
 pub use fault::{Fault, Place, ScriptError};
 pub use script::{Process, Script};
 pub use values::{Operation, Pattern, Settings, Top};
+pub use words::{Named, Wanted, name_at, pattern_of};

@@ -1,10 +1,12 @@
 //! What a script says.
 
-ghost use Rattle.std.specs.Prelude.{◌≡◌};
+ghost use Rattle.std.specs.Prelude.{◌≡◌, ◌+◌, ◌≤◌, length};
 ghost use Rattle.pt_signal.specs.Settings.{IsInRange};
 ghost use Rattle.pt_script.specs.Nodes.{config_of};
 ghost use Rattle.pt_script.specs.Sound.{IsSoundScript};
+ghost use Rattle.pt_script.specs.Spreading.{placed, spread};
 
+use crate::limits::MAX_DESKS;
 use crate::values::{Operation, Settings, Top};
 use pt_signal::Config;
 use std::marker::Model;
@@ -127,5 +129,29 @@ impl Script {
         ensures sound { IsSoundScript self.now }
     {
         self.processes.as_slice()
+    }
+
+    /// The script with one desk for each of its processes, in their order. `None` if it has more than 64 processes, or if
+    /// one of them is spawned.
+    pub fn spread(mut self) -> Option<Script>
+        ensures { result ≡ spread self }
+    {
+        let count = self.tops.len();
+        if count != self.processes.len() || MAX_DESKS < count {
+            return None;
+        }
+        place(self.tops.as_mut_slice());
+        self.settings.desks = count.max(1) as u8;
+        Some(self)
+    }
+}
+
+/// Puts each process on the desk of its place.
+fn place(tops: &mut [Top])
+    requires { length tops.old ≤ MAX_DESKS }
+    ensures { tops.new ≡ placed 0 tops.old }
+{
+    for desk in 0..tops.len() {
+        tops[desk].desk = desk as u8;
     }
 }

@@ -23,7 +23,7 @@ use Rattle.pt_signal.proofs.Lists.{map-set_more, map-set_same, get_or-map_read, 
 use Rattle.pt_shard.specs.declared.stop.Stop.{Stop}
 use Rattle.pt_shard.specs.declared.stop.Stop.TheVariants.{Memory}
 use Rattle.pt_shard.specs.LettersState.{LettersState}
-use Rattle.pt_shard.specs.LedgerState.{Book, LedgerState, wrote, IsUpTo, Prepares, is_of_desk, HasLossRoom}
+use Rattle.pt_shard.specs.LedgerState.{Book, LedgerState, wrote, IsUpTo, Prepares, is_of_desk}
 use Rattle.pt_shard.specs.Sound.{Every}
 
 -- an event stamped above the clock is newer than the journal
@@ -66,10 +66,6 @@ pub out_of_memory : (floor : ℕ) (HasRoom : LedgerState → Type 0) (old new : 
     → IsErr result × IsErrAnd result (λ f. f ≡ Memory) → new.book ≡ old.book → max old.book.clock floor < 2 ^ 62 → Prepares floor HasRoom old result new
 out_of_memory floor HasRoom old new (Ok u) h same can = absurd (cc)
 out_of_memory floor HasRoom old new (Err f) h same can = subst (λ x. Prepares floor HasRoom old (Err x) new) (sym h.1) (same, can)
-
--- an event leaves the room for a loss
-pub room_to_lose : (old new : LedgerState) (n : ℕ) (e : Event) (ls : List Letter) → new.book ≡ wrote n e ls old.book → new.lost_room ≡ old.lost_room → HasLossRoom old → HasLossRoom new
-room_to_lose old new n e ls is room has = λ keeps. subst (λ r. 0 < r) (sym room) (has (sym (ap (λ (b : Book). b.keeps) is) ∙ keeps))
 
 -- letters put one by one -----------------------------------------------------------------
 

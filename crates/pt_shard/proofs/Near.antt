@@ -19,7 +19,7 @@ use Rattle.pt_events.specs.declared.event.Stamped.{Stamped}
 use Rattle.pt_events.specs.History.{Past, Start, Phase, unborn, living, ended, life, change, touches, newborn, while_living, linked, gets, leaves, live_or_end, sent_by, got_sends, left_sends, end_sends, is_unborn}
 use Rattle.pt_events.specs.Journal.{events, clock, IsLocal, IsHome, IsNewAt, IsOf, IsKnown}
 use Rattle.pt_events.proofs.Phases.{each_branch, after_born}
-use Rattle.pt_signal.proofs.Handling.{living_answer, handle_answer}
+use Rattle.pt_events.proofs.Handling.{living_answer, handle_answer}
 use Rattle.pt_shard.specs.Begun.{Every, IsPeer, IsWatch, IsNearState, IsNearPhase, IsBegun}
 use Rattle.pt_shard.specs.Sound.{IsNear, AllNear}
 

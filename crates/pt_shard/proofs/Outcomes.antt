@@ -1,5 +1,5 @@
 -- What the calls answer, told by the parts of the desk before and after.
-use Rattle.std.proofs.Common.{◌≡◌, ℕ, true, false, Option, Some, IsSome, refl, sym, ap, ◌∙◌, subst, arith}
+use Rattle.std.proofs.Common.{◌≡◌, ℕ, true, false, Option, Some, IsSome, refl, sym, subst, arith}
 use Rattle.std.specs.Prelude.{Result, Ok, Err}
 use Rattle.std.specs.Result.{IsErr, IsErrAnd}
 use Rattle.pt_signal.specs.declared.pid.Pid.{Pid}
@@ -12,17 +12,14 @@ use Rattle.pt_shard.specs.declared.fault.Fault.TheVariants as fault
 use Rattle.pt_shard.specs.declared.stop.Stop.{Stop}
 use Rattle.pt_shard.specs.declared.stop.Stop.TheVariants as stop
 use Rattle.pt_shard.specs.Faults.{fault_of}
-use Rattle.pt_shard.specs.ShardState.{ShardState, lives, shard_after}
+use Rattle.pt_shard.specs.ShardState.{ShardState, lives}
 use Rattle.pt_shard.specs.declared.fault.Fault.{Fault}
 use Rattle.pt_shard.specs.LedgerState.{Book, LedgerState, Prepares}
 use Rattle.pt_shard.specs.Processes.{ProcessesState, IsSameTable}
 use Rattle.pt_shard.specs.Whole.{Parts, parts_of, shard_of}
-use Rattle.pt_shard.specs.Calls.{Calls, Monitors, CanWrite, CanWriteIf, after_if, new_ref}
+use Rattle.pt_shard.specs.Calls.{Calls, Monitors, new_ref}
 
 module _ {A : Type 0} (p : Pid) (event : Option Event) (answer : A) (old new : ShardState) where
-  pub did : (e : Event) (a : A) → lives old p ≡ true → event ≡ Some e → answer ≡ a → CanWrite old → new ≡ shard_after e old → Calls p event answer old (Ok a) new
-  did e a alive is same can left = (alive, subst (λ x. CanWriteIf x old) (sym is) can, sym same, left ∙ ap (λ x. after_if x old) (sym is))
-
   -- the ledger could not be prepared
   pub not_prepared : (e : Event) (ledger prepared : LedgerState) (s : Stop) (HasRoom : LedgerState → Type 0) → old.clock ≡ ledger.book.clock → Prepares 0 HasRoom ledger (Err s) prepared → lives old p ≡ true → event ≡ Some e → new ≡ old
       → (r : Result A Fault) → IsErr r × IsErrAnd r (λ f. f ≡ fault_of s) → Calls p event answer old r new

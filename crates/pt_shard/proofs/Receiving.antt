@@ -9,7 +9,7 @@ use Rattle.pt_signal.specs.declared.signal.Signal.{Signal}
 use Rattle.pt_signal.specs.Values.{same_pid}
 use Rattle.pt_signal.specs.Process.{ProcessState, handle, sent, bounce}
 use Rattle.pt_signal.proofs.Same.{same_pid_refl, same_pid_is}
-use Rattle.pt_signal.proofs.Handling.{living_answer, handle_answer}
+use Rattle.pt_events.proofs.Handling.{living_answer, handle_answer}
 use Rattle.pt_events.specs.History.{Phase, unborn, living, ended, life, gets, live_or_end, got_sends, sent_by}
 use Rattle.pt_events.specs.Journal.{letter}
 use Rattle.pt_process.specs.ProcessView.{Owing}

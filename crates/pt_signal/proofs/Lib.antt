@@ -1,6 +1,4 @@
 -- The lemmas that more than one function of the crate uses.
 pub mod Same
-pub mod Firsts
-pub mod Handling
 pub mod Lists
 pub mod Boxes

@@ -1,5 +1,5 @@
 -- Who waits, waits still where nothing came to it.
-use Rattle.std.proofs.Common.{◌≡◌, Bool, true, false, cond, ◌||◌, List, [], ◌∷◌, ◌++◌, Option, Some, None, refl, sym, ap, subst, ◌∙◌}
+use Rattle.std.proofs.Common.{◌≡◌, Bool, true, false, cond, ◌||◌, List, [], ◌∷◌, ◌++◌, Option, Some, None, refl, sym, subst}
 use Rattle.std.specs.Prelude.{is_some}
 use Rattle.std.specs.List.{find}
 use Rattle.pt_signal.specs.declared.pid.Pid.{Pid}
@@ -12,13 +12,12 @@ use Rattle.pt_signal.specs.Process.{ProcessState, fresh, say}
 use Rattle.pt_events.specs.declared.event.Event.{Event}
 use Rattle.pt_events.specs.declared.event.Event.TheVariants.{Born, Said, Came, Took, Flag, Left, Refused}
 use Rattle.pt_events.specs.declared.event.Stamped.{Stamped}
-use Rattle.pt_events.specs.History.{Phase, unborn, living, ended, Start, life, after, is_living, is_unborn, state_of, touches, newborn, linked, while_living}
+use Rattle.pt_events.specs.History.{Phase, unborn, living, ended, Start, life, after, is_unborn, touches, newborn, linked, while_living}
 use Rattle.pt_events.specs.Journal.{events}
 use Rattle.pt_events.proofs.Phases.{after_born, each_branch}
 use Rattle.pt_events.proofs.Fields.{say_keeps}
-use Rattle.pt_shard.specs.Calls.{first_match}
 use Rattle.pt_shard.specs.Extends.{Extends}
-use Rattle.pt_shard.specs.ShardState.{ShardState, lives, phase_of}
+use Rattle.pt_shard.specs.ShardState.{ShardState, phase_of}
 use Rattle.pt_workers.specs.Waking.{came_in, came_to, need_not_wait}
 
 -- what is found without one item was there before
@@ -106,30 +105,3 @@ pub born_later : (old new : ShardState) (e : Extends old new) (p : Pid) → is_u
 born_later old new e p h =
     subst (λ (t : Start). is_unborn (life t (events new.journal) p) ≡ false) (sym e.start)
     (subst (λ (j : List Stamped). is_unborn (life old.start (events j) p) ≡ false) (sym e.journal) (born_on old.start p e.more old.journal h))
-
--- who lives and finds nothing that k fits, and to whom nothing came, lives still and finds nothing
-is_none : {X : Type 0} (o : Option X) → is_some o ≡ false → o ≡ None
-is_none None h = refl
-is_none (Some x) h = absurd (cc)
-
-waiting_lives : (k : Pick) (f : Phase) → need_not_wait k f ≡ false → is_unborn f ≡ false → (is_living f ≡ true) × (find (fits k) (state_of f).waiting ≡ None)
-waiting_lives k unborn w b = absurd (cc)
-waiting_lives k (living s) w b = (refl, is_none (find (fits k) s.waiting) w)
-waiting_lives k (ended r s) w b = absurd (cc)
-
-lives_waiting : (k : Pick) (f : Phase) → is_living f ≡ true → find (fits k) (state_of f).waiting ≡ None → (need_not_wait k f ≡ false) × (is_unborn f ≡ false)
-lives_waiting k unborn a n = absurd (cc)
-lives_waiting k (living s) a n = (ap is_some n, refl)
-lives_waiting k (ended r s) a n = absurd (cc)
-
-waits_later : (old new : ShardState) (e : Extends old new) (k : Pick) (p : Pid) → came_in p e.more ≡ false → need_not_wait k (phase_of old p) ≡ false → need_not_wait k (phase_of new p) ≡ false
-waits_later old new e k p none was = go (need_not_wait k (phase_of new p)) refl
-  where
-    go : (b : Bool) → need_not_wait k (phase_of new p) ≡ b → need_not_wait k (phase_of new p) ≡ false
-    go false is = is
-    go true is = absurd (let w : true ≡ false = sym (need_not_before old new e k p none is) ∙ was in cc)
-
-pub finds_nothing_later : (old new : ShardState) (e : Extends old new) (k : Pick) (p : Pid) → came_in p e.more ≡ false → lives old p ≡ true → first_match old p k ≡ None → (lives new p ≡ true) × (first_match new p k ≡ None)
-finds_nothing_later old new e k p none alive nothing =
-    let was = lives_waiting k (phase_of old p) alive nothing in
-    waiting_lives k (phase_of new p) (waits_later old new e k p none was.0) (born_later old new e p was.1)

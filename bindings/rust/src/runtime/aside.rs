@@ -62,8 +62,11 @@ pub(crate) fn older<M>(values: &Values<M>, waiting: impl Iterator<Item = Item>, 
     count
 }
 
-/// The items that wait for one process, the oldest first.
-pub(crate) struct Aside<M> {
+/// The items that wait for one process. (most processes never have one)
+pub(crate) struct Aside<M>(Option<Box<Row<M>>>);
+
+/// The items, the oldest first.
+struct Row<M> {
     held: VecDeque<Held<M>>,
     /// The greatest number of an item.
     last: u64,
@@ -76,32 +79,79 @@ pub(crate) struct Aside<M> {
 
 impl<M> Aside<M> {
     pub(crate) fn new() -> Aside<M> {
-        Aside { held: VecDeque::new(), last: 0, seen: 0, looked: Wanted::All, has_answers: false }
+        Aside(None)
     }
 
     pub(crate) fn is_empty(&self) -> bool {
-        self.held.is_empty()
+        self.0.as_ref().is_none_or(|row| row.held.is_empty())
     }
 
     pub(crate) fn len(&self) -> usize {
-        self.held.len()
+        self.0.as_ref().map_or(0, |row| row.held.len())
     }
 
+    fn row(&mut self) -> &mut Row<M> {
+        let (held, looked) = (VecDeque::new(), Wanted::All);
+        self.0.get_or_insert_with(|| Box::new(Row { held, last: 0, seen: 0, looked, has_answers: false }))
+    }
+
+    /// Keeps an item that the library has just handed out.
+    pub(crate) fn keep(&mut self, item: Item, panic: Option<Arc<str>>) {
+        let row = self.row();
+        let age = row.count();
+        row.has_answers |= matches!(item, Item::User(_, Body { kind: ANSWER | OVER, .. }));
+        row.held.push_back(Held { age, item, panic, event: None, is_postponed: false });
+    }
+
+    /// Looks for the oldest item that is taken now, and returns whether there is one.
+    pub(crate) fn has(&mut self, wanted: Wanted, ends_call: impl Fn(&Item) -> bool) -> bool {
+        self.0.as_mut().is_some_and(|row| row.has(wanted, ends_call))
+    }
+
+    /// Takes the item out that the last look has found.
+    pub(crate) fn take(&mut self) -> Option<Held<M>> {
+        let row = self.0.as_mut()?;
+        row.held.remove(row.seen)
+    }
+
+    /// Keeps what the handler is told now, in its place, until the process retries it.
+    pub(crate) fn postpone(&mut self, told: Told<'_>, event: Event<M>, values: &Values<M>) {
+        self.row().postpone(told, event, values);
+    }
+
+    /// All that was postponed may be taken.
+    pub(crate) fn retry(&mut self) {
+        if let Some(row) = &mut self.0 {
+            row.held.iter_mut().for_each(|held| held.is_postponed = false);
+            row.seen = 0;
+        }
+    }
+
+    /// A call has ended: the next look is at all items, among which others of the call may be. They are nothing to the handler.
+    #[inline]
+    pub(crate) fn look_again(&mut self) {
+        if let Some(row) = self.0.as_mut().filter(|row| row.has_answers) {
+            row.seen = 0;
+        }
+    }
+
+    /// Drops the news of a monitor that was taken back.
+    #[inline]
+    pub(crate) fn forget(&mut self, monitor: Ref) {
+        if let Some(row) = &mut self.0 {
+            row.forget(monitor);
+        }
+    }
+}
+
+impl<M> Row<M> {
     /// The number of the item that the library has just handed out.
     fn count(&mut self) -> u64 {
         self.last += 1;
         self.last
     }
 
-    /// Keeps an item that the library has just handed out.
-    pub(crate) fn keep(&mut self, item: Item, panic: Option<Arc<str>>) {
-        let age = self.count();
-        self.has_answers |= matches!(item, Item::User(_, Body { kind: ANSWER | OVER, .. }));
-        self.held.push_back(Held { age, item, panic, event: None, is_postponed: false });
-    }
-
-    /// Looks for the oldest item that is taken now, and returns whether there is one.
-    pub(crate) fn has(&mut self, wanted: Wanted, ends_call: impl Fn(&Item) -> bool) -> bool {
+    fn has(&mut self, wanted: Wanted, ends_call: impl Fn(&Item) -> bool) -> bool {
         if self.looked != wanted {
             (self.looked, self.seen) = (wanted, 0);
         }
@@ -112,13 +162,7 @@ impl<M> Aside<M> {
         found.is_some()
     }
 
-    /// Takes the item out that the last look has found.
-    pub(crate) fn take(&mut self) -> Option<Held<M>> {
-        self.held.remove(self.seen)
-    }
-
-    /// Keeps what the handler is told now, in its place, until the process retries it.
-    pub(crate) fn postpone(&mut self, Told { age, item, .. }: Told<'_>, event: Event<M>, values: &Values<M>) {
+    fn postpone(&mut self, Told { age, item, .. }: Told<'_>, event: Event<M>, values: &Values<M>) {
         let (age, item) = (age.unwrap_or_else(|| self.count()), *item);
         let event = match (event, item) {
             (Event::Message(message), Item::User(_, Body { num, .. })) => {
@@ -132,21 +176,7 @@ impl<M> Aside<M> {
         self.seen += usize::from(place < self.seen);
     }
 
-    /// All that was postponed may be taken.
-    pub(crate) fn retry(&mut self) {
-        self.held.iter_mut().for_each(|held| held.is_postponed = false);
-        self.seen = 0;
-    }
-
-    /// A call has ended: the next look is at all items, among which others of the call may be. They are nothing to the handler.
-    pub(crate) fn look_again(&mut self) {
-        if self.has_answers {
-            self.seen = 0;
-        }
-    }
-
-    /// Drops the news of a monitor that was taken back.
-    pub(crate) fn forget(&mut self, monitor: Ref) {
+    fn forget(&mut self, monitor: Ref) {
         let is_of = |held: &Held<M>| matches!(held.item, Item::Down(of, ..) if of == monitor);
         if let Some(place) = self.held.iter().position(is_of) {
             self.held.remove(place);

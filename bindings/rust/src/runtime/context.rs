@@ -1,16 +1,16 @@
 //! What a process may do as it handles something.
 
 use super::address::Address;
-use super::aside::{Aside, Told};
+use super::aside::Told;
 use super::behaviour::{Behaviour, Event};
-use super::calls::{Call, CallFault, Calls, Open, Reply, fresh_number, number_of};
+use super::calls::{Call, CallFault, Open, Reply, fresh_number, number_of};
 use super::child::Listed;
-use super::gone::{Gone, gone_monitor, number_of_gone};
+use super::gone::{gone_monitor, number_of_gone};
 use super::group::Group;
 use super::hub::Origin;
 use super::inbox::Task;
 use super::payloads::{News, Slot};
-use super::process::keep_older;
+use super::process::{Own, keep_older};
 use super::target::Target;
 use super::timing::{Alarm, Key, Timer};
 use super::worker::{Parent, Worker};
@@ -27,13 +27,9 @@ use std::time::Duration;
 /// If the desk has no memory or no stamp for a call, the run halts with that fault as the step is over.
 pub struct Context<'a, M> {
     pub(crate) worker: &'a mut Worker,
-    pub(crate) me: &'a Address<M>,
-    pub(crate) calls: &'a mut Calls,
-    pub(crate) aside: &'a mut Aside<M>,
+    pub(crate) own: &'a mut Own<M>,
     /// The item that its handler is told, unless it has postponed that.
     pub(crate) told: Option<Told<'a>>,
-    pub(crate) gone: &'a mut Gone,
-    pub(crate) parent: Option<Pid>,
 }
 
 impl<M: Send + 'static> fmt::Debug for Context<'_, M> {
@@ -46,19 +42,19 @@ impl<M: Send + 'static> Context<'_, M> {
     /// The address of the process itself.
     #[must_use]
     pub fn me(&self) -> &Address<M> {
-        self.me
+        &self.own.me
     }
 
     /// Its name in the table.
     #[must_use]
     pub fn pid(&self) -> Pid {
-        self.me.pid()
+        self.own.me.pid()
     }
 
     /// How many messages were sent to this process and it has not taken.
     #[must_use]
     pub fn waiting(&self) -> usize {
-        self.me.waiting()
+        self.own.me.waiting()
     }
 
     /// How many desks the node has. A process is on the one that its pid names.
@@ -74,7 +70,7 @@ impl<M: Send + 'static> Context<'_, M> {
     ///
     /// A process of another run gets it as from outside: see [`Address::send`]. So it is with [`send_after`](Context::send_after).
     pub fn send<N: Send + 'static>(&mut self, to: &Address<N>, message: N) -> bool {
-        self.worker.send(self.me.pid(), to, message)
+        self.worker.send(self.own.me.pid(), to, message)
     }
 
     /// Sends each member of a group the message that is made for it, as [`send`](Context::send), and returns how many were sent.
@@ -86,11 +82,11 @@ impl<M: Send + 'static> Context<'_, M> {
     /// Sends a message when so much time has gone by: Erlang's `send_after`. The desk sends it, not this process, so it
     /// comes also if this one has exited.
     pub fn send_after<N: Send + 'static>(&mut self, time: Duration, to: &Address<N>, message: N) -> Timer {
-        let (at, to) = (self.worker.hub.after(time), to.clone());
+        let (at, to) = (self.worker.after(time), to.clone());
         let alarm = move |worker: &mut Worker| {
             worker.send(worker.porter, &to, message);
         };
-        let key = self.worker.set_alarm(at, Alarm::Do(Box::new(alarm))).unwrap_or(Key::NONE);
+        let key = self.worker.set_alarm(at, Alarm::Do(Box::new(alarm))).ok();
         Timer { run: self.worker.hub.run, desk: self.worker.number, key }
     }
 
@@ -98,7 +94,7 @@ impl<M: Send + 'static> Context<'_, M> {
     /// desk's or another run's.
     pub fn cancel(&mut self, timer: Timer) -> bool {
         let is_own = (timer.run, timer.desk) == (self.worker.hub.run, self.worker.number);
-        is_own && self.worker.alarms.cancel(timer.key).is_some()
+        is_own && timer.key.is_some_and(|key| self.worker.alarms.cancel(key))
     }
 
     /// Spawns a process on the same desk.
@@ -107,7 +103,7 @@ impl<M: Send + 'static> Context<'_, M> {
     ///
     /// [`Fault::Full`] if no slot is free, [`Fault::Worn`] or [`Fault::Memory`]. The behaviour is dropped.
     pub fn spawn<B: Behaviour>(&mut self, behaviour: B) -> Result<Address<B::Message>, Fault> {
-        self.worker.spawn(Parent::Process { pid: self.me.pid(), linked: false }, behaviour)
+        self.worker.spawn(Parent::Process { pid: self.own.me.pid(), linked: false }, behaviour)
     }
 
     /// Spawns a process on the same desk that is linked with this one from the first.
@@ -116,7 +112,7 @@ impl<M: Send + 'static> Context<'_, M> {
     ///
     /// As [`spawn`](Context::spawn).
     pub fn spawn_linked<B: Behaviour>(&mut self, behaviour: B) -> Result<Address<B::Message>, Fault> {
-        self.worker.spawn(Parent::Process { pid: self.me.pid(), linked: true }, behaviour)
+        self.worker.spawn(Parent::Process { pid: self.own.me.pid(), linked: true }, behaviour)
     }
 
     /// Spawns a process on a desk, through the inbox of that desk. Its address is the answer of the call.
@@ -150,7 +146,7 @@ impl<M: Send + 'static> Context<'_, M> {
 
     /// The same, or `None` if the process is known to have exited.
     fn monitor_living(&mut self, target: Pid) -> Result<Option<Ref>, Fault> {
-        let made = self.worker.desk().monitor(self.me.pid(), target);
+        let made = self.worker.desk().monitor(self.own.me.pid(), target);
         match self.worker.noted(made) {
             Ok(monitor) => Ok(Some(monitor)),
             Err(Fault::NoProc) => Ok(None),
@@ -161,25 +157,25 @@ impl<M: Send + 'static> Context<'_, M> {
     /// Has this process told that one which it monitors had exited.
     fn monitor_gone(&mut self, target: Pid) -> Result<Ref, Fault> {
         let number = self.tell_gone(GONE, target)?;
-        self.gone.monitored.insert(number, target);
+        self.own.gone.monitors(number, target);
         Ok(gone_monitor(number))
     }
 
     /// Sends the news of an exited process, and returns the number of the news.
     fn tell_gone(&mut self, kind: u32, target: Pid) -> Result<i64, Fault> {
         let num = fresh_number();
-        self.worker.tell_itself(self.me.pid(), Body { kind, num, who: Some(target) })?;
+        self.worker.tell_itself(self.own.me.pid(), Body { kind, num, who: Some(target) })?;
         Ok(num)
     }
 
     /// Takes a monitor back. Nothing more is told of it.
     pub fn demonitor(&mut self, monitor: Ref) {
         if let Some(number) = number_of_gone(monitor) {
-            self.gone.monitored.remove(&number);
+            self.own.gone.take_monitored(number);
             return;
         }
-        self.aside.forget(monitor);
-        demonitor(self.worker, self.me, monitor);
+        self.own.aside.forget(monitor);
+        demonitor(self.worker, &self.own.me, monitor);
     }
 
     /// Links this process with another: Erlang's `link`. If that had exited before, its exit signal comes with
@@ -189,7 +185,7 @@ impl<M: Send + 'static> Context<'_, M> {
     ///
     /// [`Fault::OtherRun`], [`Fault::Outside`], [`Fault::Unknown`], [`Fault::Worn`] or [`Fault::Memory`].
     pub fn link(&mut self, to: impl Into<Target>) -> Result<(), Fault> {
-        let (me, to) = (self.me.pid(), to.into().mortal_in(&self.worker.hub)?);
+        let (me, to) = (self.own.me.pid(), to.into().mortal_in(&self.worker.hub)?);
         let made = self.worker.desk().link(me, to);
         match self.worker.noted(made) {
             Err(Fault::NoProc) => self.link_gone(to),
@@ -199,16 +195,16 @@ impl<M: Send + 'static> Context<'_, M> {
 
     /// Has this process get the exit signal of one that had exited.
     fn link_gone(&mut self, to: Pid) -> Result<(), Fault> {
-        let (me, porter) = (self.me.pid(), self.worker.porter);
+        let (me, porter) = (self.own.me.pid(), self.worker.porter);
         if self.worker.desk().traps(me) == Some(true) {
             let number = self.tell_gone(GONE_LINK, to)?;
-            self.gone.linked.insert(number, to);
+            self.own.gone.links(number, to);
             return Ok(());
         }
         let sent = self.worker.desk().exit_signal(porter, me, Reason::Noproc);
         self.worker.noted(sent)?;
         // (it may trap exits before the signal comes)
-        self.gone.sent(to);
+        self.own.gone.sent(to);
         Ok(())
     }
 
@@ -218,9 +214,9 @@ impl<M: Send + 'static> Context<'_, M> {
     ///
     /// [`Fault::OtherRun`], [`Fault::Unknown`], [`Fault::Worn`] or [`Fault::Memory`].
     pub fn unlink(&mut self, to: impl Into<Target>) -> Result<(), Fault> {
-        let (me, to) = (self.me.pid(), to.into().pid_in(&self.worker.hub)?);
-        self.me.mailbox.take_panic(News::Exit(to));
-        self.gone.unlink(to);
+        let (me, to) = (self.own.me.pid(), to.into().pid_in(&self.worker.hub)?);
+        self.own.me.mailbox.take_panic(News::Exit(to));
+        self.own.gone.unlink(to);
         let done = self.worker.desk().unlink(me, to);
         self.worker.noted(done)
     }
@@ -232,7 +228,7 @@ impl<M: Send + 'static> Context<'_, M> {
     ///
     /// [`Fault::OtherRun`], [`Fault::Outside`], [`Fault::Unknown`], [`Fault::Worn`] or [`Fault::Memory`].
     pub fn exit(&mut self, to: impl Into<Target>, reason: Reason) -> Result<(), Fault> {
-        let (me, to) = (self.me.pid(), to.into().mortal_in(&self.worker.hub)?);
+        let (me, to) = (self.own.me.pid(), to.into().mortal_in(&self.worker.hub)?);
         let sent = self.worker.desk().exit_signal(me, to, reason);
         self.worker.noted(sent)
     }
@@ -243,7 +239,7 @@ impl<M: Send + 'static> Context<'_, M> {
     ///
     /// [`Fault::Worn`] or [`Fault::Memory`].
     pub fn trap_exits(&mut self, on: bool) -> Result<(), Fault> {
-        let me = self.me.pid();
+        let me = self.own.me.pid();
         let set = self.worker.desk().trap(me, on).map(drop);
         self.worker.noted(set)
     }
@@ -265,9 +261,9 @@ impl<M: Send + 'static> Context<'_, M> {
         let server = Target::from(to).pid_in(&self.worker.hub)?;
         let monitor = if to.mailbox.is_open() { self.monitor_living(server)? } else { None };
         let Some(monitor) = monitor else { return self.call_gone(server.shard) };
-        let (at, number) = (self.worker.hub.after(limit), number_of(monitor));
-        let alarm = self.worker.set_alarm(at, Alarm::Over(self.me.pid(), number));
-        let alarm = alarm.inspect_err(|_| demonitor(self.worker, self.me, monitor))?;
+        let (at, number) = (self.worker.after(limit), number_of(monitor));
+        let alarm = self.worker.set_alarm(at, Alarm::Over(self.own.me.pid(), number));
+        let alarm = alarm.inspect_err(|_| demonitor(self.worker, &self.own.me, monitor))?;
         let (call, reply) = self.open(number, to.pid().shard, Some(monitor), Some(alarm));
         self.send(to, ask(reply));
         Ok(call)
@@ -282,42 +278,42 @@ impl<M: Send + 'static> Context<'_, M> {
     pub fn postpone(&mut self, event: Event<M>) -> bool {
         let Some(told) = self.told.take() else { return false };
         if told.is_picked {
-            keep_older(self.worker, self.me, self.aside, self.gone, told.item);
+            keep_older(self.worker, self.own, told.item);
         }
-        self.aside.postpone(told, event, &self.me.mailbox);
-        self.me.look_at_bound();
+        self.own.aside.postpone(told, event, &self.own.me.mailbox);
+        self.own.me.look_at_bound();
         true
     }
 
     /// All that was postponed may be taken from now on, in order, before what has come since: what `gen_statem` does as the
     /// state changes.
     pub fn retry(&mut self) {
-        self.aside.retry();
+        self.own.aside.retry();
     }
 
     /// A call of a server on this desk that had exited.
     fn call_gone<R: Send + 'static>(&mut self, desk: u8) -> Result<Call<R>, Fault> {
         let number = fresh_number();
-        self.worker.tell_itself(self.me.pid(), Body { kind: ANSWER, num: number, who: None })?;
-        self.me.mailbox.put_answer(number, Err(CallFault::Down(Reason::Noproc, None)));
-        self.calls.insert(number, Open { desk, monitor: None, alarm: None });
+        self.worker.tell_itself(self.own.me.pid(), Body { kind: ANSWER, num: number, who: None })?;
+        self.own.me.mailbox.put_answer(number, Err(CallFault::Down(Reason::Noproc, None)));
+        self.own.calls.insert(number, Open { desk, monitor: None, alarm: None });
         Ok(Call { number, of: PhantomData })
     }
 
     /// Answers a request. The answer comes after all that this process has sent the client.
     pub fn reply<R: Send + 'static>(&mut self, reply: Reply<R>, value: R) {
-        self.worker.reply(self.me.pid(), reply, value);
+        self.worker.reply(self.own.me.pid(), reply, value);
     }
 
     /// Spawns the supervisor behind this process.
     pub(crate) fn supervise(&mut self, spec: SupervisorSpec, children: &mut Vec<Listed>) -> Result<Pid, Fault> {
-        self.worker.supervise(self.me.pid(), spec, children)
+        self.worker.supervise(self.own.me.pid(), spec, children)
     }
 
     /// Whether a signal of this process is one of the parent, which is the process that spawned this one, or of those
     /// outside.
     pub(crate) fn is_of_parent(&self, from: Pid) -> bool {
-        self.parent == Some(from) || self.worker.porter == from
+        self.own.parent == Some(from) || self.worker.porter == from
     }
 
     fn open<R: Send + 'static>(
@@ -327,8 +323,8 @@ impl<M: Send + 'static> Context<'_, M> {
         monitor: Option<Ref>,
         alarm: Option<Key>,
     ) -> (Call<R>, Reply<R>) {
-        self.calls.insert(number, Open { desk, monitor, alarm });
-        let reply = Reply::to_process(self.me.mailbox.clone(), self.me.hub.clone(), number);
+        self.own.calls.insert(number, Open { desk, monitor, alarm });
+        let reply = Reply::to_process(self.own.me.mailbox.clone(), self.own.me.hub.clone(), number);
         (Call { number, of: PhantomData }, reply)
     }
 }
@@ -358,7 +354,10 @@ impl Worker {
             return to.send(message);
         }
         let kind = to.mailbox.letter_of(&message);
-        let Ok(number) = to.mailbox.put_free(message) else { return false };
+        let number = match to.mailbox.put_free(message) {
+            Ok(number) => number,
+            Err(_message) => return false,
+        };
         let sent = self.say(from, to.pid(), kind, number);
         if sent {
             to.look_at_bound();

@@ -147,7 +147,7 @@ impl Worker {
             supervision.away = None;
         }
         for job in mem::take(&mut self.early) {
-            self.tell(job);
+            self.tell(&job);
         }
         self.answer();
         self.may_want(supervisor);
@@ -270,7 +270,7 @@ impl Worker {
         for &pid in &linked {
             let (Some(mut sent), Some(place)) = (self.arriving.remove(&pid), self.seat_of(pid)) else { continue };
             sent.child.iter_mut().for_each(Listed::begins);
-            self.handle(pid, place, What::Start(None));
+            self.handle(pid, place, &What::Start(None));
             self.answer();
             self.tell_desk_of(sent.supervisor, move |worker| worker.begun_elsewhere(sent, pid));
         }

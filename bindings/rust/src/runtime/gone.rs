@@ -5,13 +5,16 @@ use super::numbers::Numbered;
 use crate::{Item, Pid, Reason, Ref};
 use std::collections::VecDeque;
 
-/// The processes of those whose news has not come.
+/// The processes of those whose news has not come. (most processes never have one)
 #[derive(Default)]
-pub(crate) struct Gone {
+pub(crate) struct Gone(Option<Box<Known>>);
+
+#[derive(Default)]
+struct Known {
     /// Those that are monitored, by the numbers of the news.
-    pub(crate) monitored: Numbered<Pid>,
+    monitored: Numbered<Pid>,
     /// Those that are linked with a process that trapped exits then, by the numbers of the news.
-    pub(crate) linked: Numbered<Pid>,
+    linked: Numbered<Pid>,
     /// Those that are linked with one that did not, in order. `None` if the link was taken away.
     signals: VecDeque<Option<Pid>>,
 }
@@ -19,24 +22,56 @@ pub(crate) struct Gone {
 impl Gone {
     /// The desk has sent the exit signal of this one.
     pub(crate) fn sent(&mut self, pid: Pid) {
-        self.signals.push_back(Some(pid));
+        self.0.get_or_insert_default().signals.push_back(Some(pid));
+    }
+
+    /// The desk sends the news of this one, which is monitored, under this number.
+    pub(crate) fn monitors(&mut self, number: i64, pid: Pid) {
+        self.0.get_or_insert_default().monitored.insert(number, pid);
+    }
+
+    /// The same of one that is linked.
+    pub(crate) fn links(&mut self, number: i64, pid: Pid) {
+        self.0.get_or_insert_default().linked.insert(number, pid);
+    }
+
+    /// Takes out the one that is monitored whose news has this number.
+    pub(crate) fn take_monitored(&mut self, number: i64) -> Option<Pid> {
+        self.0.as_mut()?.monitored.remove(&number)
+    }
+
+    /// The same of one that is linked.
+    pub(crate) fn take_linked(&mut self, number: i64) -> Option<Pid> {
+        self.0.as_mut()?.linked.remove(&number)
     }
 
     /// The link with this one is taken away: its exit signal is nothing to the process.
     pub(crate) fn unlink(&mut self, pid: Pid) {
-        self.linked.retain(|_, of| *of != pid);
-        self.signals.iter_mut().filter(|of| **of == Some(pid)).for_each(|of| *of = None);
+        let Some(known) = &mut self.0 else { return };
+        known.linked.retain(|_, of| *of != pid);
+        known.signals.iter_mut().filter(|of| **of == Some(pid)).for_each(|of| *of = None);
     }
 
     /// Whether the exit signal of this one is to come.
     pub(crate) fn has_link(&self, pid: Pid) -> bool {
-        self.linked.values().any(|of| *of == pid) || self.signals.contains(&Some(pid))
+        let has = |known: &Known| known.linked.values().any(|of| *of == pid) || known.signals.contains(&Some(pid));
+        self.0.as_deref().is_some_and(has)
     }
 
     /// The item, with the exited process in it if the desk has sent it in the place of that. `None` if the link with that was
     /// taken away.
-    pub(crate) fn name(&mut self, porter: Pid, item: Item) -> Option<Item> {
-        match item {
+    #[inline(always)]
+    pub(crate) fn name(&mut self, porter: Pid, item: &Item) -> Option<Item> {
+        match &mut self.0 {
+            Some(known) => known.name(porter, item),
+            None => Some(*item),
+        }
+    }
+}
+
+impl Known {
+    fn name(&mut self, porter: Pid, item: &Item) -> Option<Item> {
+        match *item {
             Item::Exit(from, Reason::Noproc) if from == porter => {
                 let of = self.signals.pop_front().unwrap_or(Some(from))?;
                 Some(Item::Exit(of, Reason::Noproc))

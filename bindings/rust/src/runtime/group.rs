@@ -139,7 +139,7 @@ impl<M: Send + 'static> Group<M> {
     /// How many processes are in the group, each counted once.
     #[must_use]
     pub fn len(&self) -> usize {
-        let table = |place: &Place| place.table().0.as_ref().map_or(0, |groups| groups.len(self.number));
+        let table = |place: &Arc<Place>| place.table().0.as_ref().map_or(0, |groups| groups.len(self.number));
         self.hub.places.iter().map(table).sum()
     }
 

@@ -33,7 +33,7 @@ pub(crate) enum Origin {
 
 /// A time in microseconds.
 pub(crate) fn micros(time: Duration) -> u64 {
-    u64::try_from(time.as_micros()).unwrap_or(u64::MAX)
+    time.as_secs().saturating_mul(1_000_000).saturating_add(time.subsec_micros().into())
 }
 
 /// What all threads of a runtime share.
@@ -43,7 +43,8 @@ pub(crate) struct Hub {
     begun: Instant,
     /// The time of a trial, whose clock stands still until the trial lets time go on.
     pub(crate) trial: Option<AtomicU64>,
-    pub(crate) places: Vec<Place>,
+    /// (each thread keeps its own at hand)
+    pub(crate) places: Vec<Arc<Place>>,
     pub(crate) meeting: Meeting,
     order: AtomicU8,
     /// How many processes live, and how many were spawned.
@@ -70,7 +71,7 @@ impl Hub {
             run: RUNS.fetch_add(1, SeqCst),
             begun: Instant::now(),
             trial: None,
-            places: (0..desks).map(|_| Place::default()).collect(),
+            places: (0..desks).map(|_| Arc::default()).collect(),
             meeting,
             order: AtomicU8::new(GO_ON),
             alive: Apart(AtomicUsize::new(0)),
@@ -126,13 +127,18 @@ impl Hub {
         self.place(pid).slot(pid)
     }
 
+    /// The mailboxes of all live processes, by pid.
+    pub(crate) fn slots(&self) -> impl Iterator<Item = Arc<dyn Slot>> + '_ {
+        self.places.iter().flat_map(|place| place.slots())
+    }
+
     /// The desk whose turn it is to get a process.
     pub(crate) fn next_desk(&self) -> usize {
         self.next_desk.fetch_add(1, SeqCst) % self.places.len()
     }
 
     pub(crate) fn ring_all(&self) {
-        self.places.iter().for_each(Place::ring);
+        self.places.iter().for_each(|place| place.ring());
     }
 
     /// Wakes the desks to which one has posted, a bit for each, and those that wait for room in a lane, if one has made some.
@@ -146,9 +152,14 @@ impl Hub {
         }
     }
 
+    /// Whether one of these desks is to be rung for what others give it.
+    pub(crate) fn listens(&self, desks: u64) -> bool {
+        self.places.iter().enumerate().any(|(number, place)| desks >> number & 1 == 1 && place.listens())
+    }
+
     /// The run is over: nothing comes in any more, and all that is kept for processes is dropped.
     pub(crate) fn close(&self) {
-        self.places.iter().for_each(Place::close);
+        self.places.iter().for_each(|place| place.close());
         self.meeting.book.taps.end();
     }
 
@@ -170,13 +181,13 @@ impl Hub {
 
     /// Nothing new comes in from here on.
     pub(crate) fn drain(&self) {
-        self.places.iter().for_each(Place::drain);
+        self.places.iter().for_each(|place| place.drain());
     }
 
     /// Whether all desks rest, nothing is on its way, and no call is open.
     pub(crate) fn is_quiet(&self) -> bool {
-        let rests = || self.places.iter().map(Place::quiet).collect::<Option<Vec<u64>>>();
-        let is_asked = || self.places.iter().flat_map(Place::slots).any(|slot| slot.is_asked());
+        let rests = || self.places.iter().map(|place| place.quiet()).collect::<Option<Vec<u64>>>();
+        let is_asked = || self.slots().any(|slot| slot.is_asked());
         // (a desk that rested at both looks, and as often before, has rested in between: so all did at the same time)
         let before = rests();
         before.is_some() && !is_asked() && before == rests()
@@ -184,7 +195,7 @@ impl Hub {
 
     /// How many messages no process has taken.
     pub(crate) fn waiting(&self) -> usize {
-        self.places.iter().flat_map(Place::slots).map(|slot| slot.waiting()).sum()
+        self.slots().map(|slot| slot.waiting()).sum()
     }
 
     /// How many epochs have ended. While a handler runs, none ends.
@@ -207,9 +218,8 @@ impl Hub {
     /// A live process, and the name of its behaviour: one whose handler runs, if there is one, and else no supervisor,
     /// since that may wait for a child.
     pub(crate) fn somebody(&self) -> Option<(Pid, &'static str)> {
-        let living = || self.places.iter().flat_map(Place::slots);
         let waits = |slot: &Arc<dyn Slot>| slot.name() == type_name::<Supervisor>();
         let found = (0..self.places.len()).find_map(|desk| self.running(desk));
-        found.or_else(|| living().min_by_key(waits).map(|slot| (slot.pid(), slot.name())))
+        found.or_else(|| self.slots().min_by_key(waits).map(|slot| (slot.pid(), slot.name())))
     }
 }

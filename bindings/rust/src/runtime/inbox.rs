@@ -58,6 +58,46 @@ impl Inbox {
     }
 }
 
+/// The live processes of a desk.
+#[derive(Default)]
+struct Living {
+    /// The last one of each slot of the desk, if it lives.
+    by_slot: Vec<Option<Arc<dyn Slot>>>,
+    /// Those whose slot another one has already, since they have exited, and their exits were not told.
+    before: ByPid<Arc<dyn Slot>>,
+}
+
+impl Living {
+    fn put(&mut self, slot: Arc<dyn Slot>) {
+        let place = slot.pid().slot as usize;
+        if self.by_slot.len() <= place {
+            self.by_slot.resize(place + 1, None);
+        }
+        if let Some(before) = self.by_slot[place].replace(slot) {
+            self.before.insert(before.pid(), before);
+        }
+    }
+
+    fn get(&self, pid: Pid) -> Option<&Arc<dyn Slot>> {
+        let last = self.by_slot.get(pid.slot as usize).and_then(Option::as_ref);
+        last.filter(|slot| slot.pid() == pid).or_else(|| self.before.get(&pid))
+    }
+
+    fn take(&mut self, pid: Pid) -> Option<Arc<dyn Slot>> {
+        match self.by_slot.get_mut(pid.slot as usize) {
+            Some(last) if last.as_ref().is_some_and(|slot| slot.pid() == pid) => last.take(),
+            _ => self.before.remove(&pid),
+        }
+    }
+
+    /// All of them, by pid.
+    fn all(&self) -> Vec<Arc<dyn Slot>> {
+        let mut slots: Vec<_> = self.by_slot.iter().flatten().chain(self.before.values()).cloned().collect();
+        slots.sort_by_key(|slot| slot.pid());
+        slots
+    }
+}
+
 /// A value that has lines of a processor's cache to itself. (processors fetch them in pairs)
 #[derive(Default)]
 #[repr(align(128))]
@@ -95,7 +135,7 @@ pub(crate) struct Place {
     signs: Apart<Signs>,
     pub(crate) room: Room,
     /// The live processes of the desk.
-    live: Mutex<ByPid<Arc<dyn Slot>>>,
+    live: Mutex<Living>,
     /// Which of them is in which group.
     pub(crate) groups: Mutex<Table>,
     /// Whose handler runs, by its slot and its version, and 0 if none does. (it is written with each handler)
@@ -125,7 +165,7 @@ impl Place {
     /// Wakes the thread, if it does not look by itself. Who has given it something that is none of `SeqCst` fences that first.
     #[inline]
     pub(crate) fn ring(&self) {
-        if self.signs.listens.load(SeqCst) {
+        if self.listens() {
             self.ring_surely();
         }
     }
@@ -148,6 +188,11 @@ impl Place {
         if resting {
             self.bell.notify_one();
         }
+    }
+
+    /// Whether the thread is to be rung.
+    pub(crate) fn listens(&self) -> bool {
+        self.signs.listens.load(SeqCst)
     }
 
     /// Says whether the thread is to be rung. It looks for what others have given it once more before it rests.
@@ -244,29 +289,28 @@ impl Place {
         drop(inbox);
         self.room.shut(true);
         let live = std::mem::take(&mut *locked(&self.live));
-        live.values().for_each(|slot| slot.close(None));
+        live.all().iter().for_each(|slot| slot.close(None));
         let groups = std::mem::take(&mut *locked(&self.groups));
         drop(groups);
         tasks.into_iter().for_each(drop_quietly);
     }
 
     pub(crate) fn admit(&self, slot: Arc<dyn Slot>) {
-        locked(&self.live).insert(slot.pid(), slot);
+        locked(&self.live).put(slot);
     }
 
     pub(crate) fn dismiss(&self, pid: Pid) {
-        locked(&self.live).remove(&pid);
+        let slot = locked(&self.live).take(pid);
+        drop(slot);
     }
 
     pub(crate) fn slot(&self, pid: Pid) -> Option<Arc<dyn Slot>> {
-        locked(&self.live).get(&pid).cloned()
+        locked(&self.live).get(pid).cloned()
     }
 
     /// The mailboxes of all live processes, by pid.
     pub(crate) fn slots(&self) -> Vec<Arc<dyn Slot>> {
-        let mut slots: Vec<_> = locked(&self.live).values().cloned().collect();
-        slots.sort_by_key(|slot| slot.pid());
-        slots
+        locked(&self.live).all()
     }
 
     /// Whether the desk waits for room.
@@ -293,5 +337,30 @@ impl Place {
     pub(crate) fn running(&self, shard: u8) -> Option<Pid> {
         let word = self.running.load(Acquire);
         (word != 0).then_some(Pid { shard, slot: (word >> 32) as u32, version: word as u32 })
+    }
+}
+
+#[cfg(test)]
+mod tests {
+    use super::super::behaviour::Bound;
+    use super::super::payloads::Values;
+    use super::Living;
+    use crate::Pid;
+    use std::sync::Arc;
+
+    #[test]
+    fn one_whose_slot_another_one_has_is_still_there() {
+        let [other, first, second] = [(1, 1), (3, 1), (3, 2)].map(|(slot, version)| Pid { shard: 0, slot, version });
+        let mut living = Living::default();
+        for pid in [first, other, second] {
+            living.put(Arc::new(Values::new(pid, "", Bound::None, |(): &()| 0)));
+        }
+        let pids = |living: &Living| living.all().iter().map(|slot| slot.pid()).collect::<Vec<_>>();
+        assert_eq!(pids(&living), [other, first, second]);
+        assert!([other, first, second].iter().all(|&pid| living.get(pid).is_some_and(|slot| slot.pid() == pid)));
+        assert!(living.take(first).is_some_and(|slot| slot.pid() == first) && living.take(first).is_none());
+        assert!(living.get(first).is_none() && pids(&living) == [other, second]);
+        assert!(living.take(second).is_some() && living.take(second).is_none() && pids(&living) == [other]);
+        assert!(living.take(Pid { slot: 9, ..first }).is_none() && living.get(Pid { slot: 9, ..first }).is_none());
     }
 }

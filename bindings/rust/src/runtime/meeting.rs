@@ -69,6 +69,11 @@ impl Stage {
 }
 
 impl Book {
+    /// Whether somebody gets the next history.
+    fn is_read(&self) -> bool {
+        locked(&self.sink).is_some() || self.taps.any()
+    }
+
     /// Where the next histories go.
     pub(crate) fn open(&self, sink: Option<Box<dyn Sink>>) {
         let old = std::mem::replace(&mut *locked(&self.sink), sink);
@@ -181,6 +186,11 @@ impl Meeting {
     fn go_on(&self, hub: &Hub, desks: Vec<Desk>, fault: Option<Fault>) -> Result<Vec<Desk>, Outcome> {
         let closed = match fault {
             Some(fault) => Err(Stuck { why: fault.into(), stage: Stage::Desks(desks) }),
+            // (a node is settled so that it goes on, or for its history: this one does not, and nobody gets that)
+            None if hub.is_over() && !self.book.is_read() => {
+                self.book.epochs.fetch_add(1, SeqCst);
+                return Err(Outcome::Ended);
+            }
             None => Stage::Desks(desks).close(&self.book),
         };
         match closed {

@@ -108,6 +108,7 @@ mod promise;
 mod report;
 mod room;
 mod run;
+mod seats;
 mod selection;
 mod sending;
 pub(crate) mod spawning;

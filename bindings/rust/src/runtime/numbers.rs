@@ -103,7 +103,8 @@ pub(crate) struct Row<T> {
     row: VecDeque<Option<T>>,
     /// How many values are in the row.
     count: usize,
-    before: Numbered<T>,
+    /// Those before the row, if there ever were some.
+    before: Option<Box<Numbered<T>>>,
 }
 
 /// How long a row is at least of which values go into the map.
@@ -111,11 +112,11 @@ const LONG: usize = 32;
 
 impl<T> Row<T> {
     pub(crate) fn new() -> Row<T> {
-        Row { first: 1, row: VecDeque::new(), count: 0, before: Numbered::default() }
+        Row { first: 1, row: VecDeque::new(), count: 0, before: None }
     }
 
     pub(crate) fn len(&self) -> usize {
-        self.count + self.before.len()
+        self.count + self.before.as_ref().map_or(0, |before| before.len())
     }
 
     /// The number of the last value that was put.
@@ -128,30 +129,34 @@ impl<T> Row<T> {
     pub(crate) fn push(&mut self, value: T) -> i64 {
         self.row.push_back(Some(value));
         self.count += 1;
-        if self.row.len() >= LONG && self.count <= self.row.len() / 4 {
+        if self.row.len() >= LONG {
             self.thin_out();
         }
         self.last()
     }
 
-    /// Puts what is left in the first half of the row into the map.
-    #[cold]
+    /// Puts what is left in the first half of the row into the map, if few are left in a long row.
+    #[inline(never)]
     fn thin_out(&mut self) {
+        if self.count > self.row.len() / 4 {
+            return;
+        }
         for _ in 0..self.row.len() / 2 {
             if let Some(Some(value)) = self.row.pop_front() {
-                self.before.insert(self.first, value);
+                self.before.get_or_insert_default().insert(self.first, value);
                 self.count -= 1;
             }
             self.first += 1;
         }
     }
 
-    #[inline]
+    #[inline(always)]
     pub(crate) fn remove(&mut self, number: i64) -> Option<T> {
         if number == self.first { self.pop() } else { self.remove_within(number) }
     }
 
     /// The same of one that is not the first of the row.
+    #[inline(never)]
     fn remove_within(&mut self, number: i64) -> Option<T> {
         match usize::try_from(number.wrapping_sub(self.first)) {
             Ok(place) => {
@@ -159,12 +164,12 @@ impl<T> Row<T> {
                 self.count -= usize::from(taken.is_some());
                 taken
             }
-            Err(_) => self.before.remove(&number),
+            Err(_) => self.before.as_mut()?.remove(&number),
         }
     }
 
     /// Takes the first of the row, with the gaps behind it. (no gap is in front)
-    #[inline]
+    #[inline(always)]
     fn pop(&mut self) -> Option<T> {
         let taken = self.row.pop_front()?;
         self.first += 1;
@@ -175,6 +180,7 @@ impl<T> Row<T> {
         taken
     }
 
+    #[inline(never)]
     fn pop_gaps(&mut self) {
         while let Some(None) = self.row.front() {
             self.row.pop_front();
@@ -190,12 +196,13 @@ impl<T> Row<T> {
                 *place = Some(value);
                 self.count += 1;
             }
-            None => _ = self.before.insert(number, value),
+            None => _ = self.before.get_or_insert_default().insert(number, value),
         }
     }
 
     pub(crate) fn into_values(self) -> impl Iterator<Item = T> {
-        self.before.into_values().chain(self.row.into_iter().flatten())
+        let before = self.before.into_iter().flat_map(|before| before.into_values());
+        before.chain(self.row.into_iter().flatten())
     }
 }
 

@@ -212,7 +212,7 @@ impl Paces {
     }
 
     /// The earliest time at which something is to be done.
-    pub(crate) fn next_time(&self) -> Option<u64> {
+    pub(crate) fn next_time(&mut self) -> Option<u64> {
         [self.worker.crew.next_time(), self.worker.alarms.next()].into_iter().flatten().min()
     }
 
@@ -292,7 +292,7 @@ impl Paces {
             self.jobs.extend(self.worker.handed(count));
         }
         if let Some(job) = self.jobs.pop_front() {
-            self.worker.tell(job);
+            self.worker.tell(&job);
         }
         self.may = bit(Pace::Job.place());
         if self.jobs.is_empty() {

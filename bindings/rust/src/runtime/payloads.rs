@@ -18,7 +18,7 @@ use crate::{Body, Item, Pid, Reason, Ref};
 use std::any::Any;
 use std::collections::HashMap;
 use std::panic::{AssertUnwindSafe, catch_unwind};
-use std::sync::atomic::AtomicBool;
+use std::sync::atomic::{AtomicBool, Ordering::SeqCst};
 use std::sync::{Arc, Mutex, MutexGuard, PoisonError};
 
 /// The texts of panics, each with the epoch in which it was put.
@@ -43,6 +43,10 @@ pub(crate) struct Values<M> {
     kind: fn(&M) -> u32,
     // `None` once the process has exited
     kept: Mutex<Option<Kept<M>>>,
+    /// Whether it has exited. (it is asked without the lock)
+    is_closed: AtomicBool,
+    /// Whether there may be the text of a panic.
+    has_panics: AtomicBool,
     /// Whether the process may be in a group.
     pub(crate) is_in_groups: AtomicBool,
     /// The names that it has.
@@ -53,16 +57,23 @@ struct Kept<M> {
     /// No message has a smaller number. (it is known only where the oldest is dropped)
     oldest: i64,
     messages: Row<M>,
-    /// The room that messages take in an inbox with a bound.
-    tickets: Numbered<Ticket>,
+    /// What most processes never have.
+    beside: Option<Box<Beside>>,
+}
+
+/// What a process may have beside its messages.
+#[derive(Default)]
+struct Beside {
+    /// The room that messages take in an inbox with a bound, if there ever was one.
+    tickets: Option<Numbered<Ticket>>,
     /// The open calls from outside.
     calls: Few<Arc<dyn Fails>>,
     /// The text of its own panic.
     crash: Option<Arc<str>>,
     /// The answers of calls, each with the number of the last message before it.
     answers: Few<(i64, Given)>,
-    /// The texts of panics, if there ever were some.
-    panics: Option<Box<Panics>>,
+    /// The texts of panics.
+    panics: Panics,
 }
 
 impl<M> Kept<M> {
@@ -71,10 +82,40 @@ impl<M> Kept<M> {
         while self.oldest < self.messages.last() {
             self.oldest += 1;
             if let Some(message) = self.messages.remove(self.oldest) {
-                return Some((message, self.tickets.remove(&self.oldest)));
+                return Some((message, self.take_ticket(self.oldest)));
             }
         }
         None
+    }
+
+    /// Whether there is nothing that a program has made, or waits for.
+    fn is_bare(&self) -> bool {
+        self.messages.len() == 0 && self.beside.is_none()
+    }
+
+    #[inline(always)]
+    fn beside(&mut self) -> &mut Beside {
+        if self.beside.is_none() {
+            self.begin_beside();
+        }
+        self.beside.as_mut().expect("what was begun")
+    }
+
+    #[cold]
+    fn begin_beside(&mut self) {
+        self.beside = Some(Box::default());
+    }
+
+    /// Whether messages may have room. (an inbox without a bound has none)
+    #[inline]
+    fn has_tickets(&self) -> bool {
+        self.beside.as_ref().is_some_and(|beside| beside.tickets.is_some())
+    }
+
+    /// Takes the room of a message out.
+    #[inline]
+    fn take_ticket(&mut self, number: i64) -> Option<Ticket> {
+        self.beside.as_mut()?.tickets.as_mut()?.remove(&number)
     }
 }
 
@@ -110,17 +151,10 @@ pub(crate) trait Slot: Send + Sync {
 
 impl<M> Values<M> {
     pub(crate) fn new(pid: Pid, name: &'static str, bound: Bound, kind: fn(&M) -> u32) -> Values<M> {
-        let kept = Kept {
-            oldest: 0,
-            messages: Row::new(),
-            tickets: Numbered::default(),
-            calls: Few::default(),
-            crash: None,
-            answers: Few::default(),
-            panics: None,
-        };
+        let kept = Kept { oldest: 0, messages: Row::new(), beside: None };
         let (kept, is_in_groups) = (Mutex::new(Some(kept)), AtomicBool::new(false));
-        Values { pid, name, bound, kind, kept, is_in_groups, names: Names::default() }
+        let (is_closed, has_panics) = (AtomicBool::new(false), AtomicBool::new(false));
+        Values { pid, name, bound, kind, kept, is_closed, has_panics, is_in_groups, names: Names::default() }
     }
 
     /// (nothing of the program's own runs under the lock: values are moved, and dropped outside of it)
@@ -141,7 +175,7 @@ impl<M> Values<M> {
         };
         let number = kept.messages.push(message);
         if !ticket.is_free() {
-            kept.tickets.insert(number, ticket);
+            kept.beside().tickets.get_or_insert_default().insert(number, ticket);
         }
         drop(state);
         if let Some((message, ticket)) = oldest {
@@ -153,13 +187,13 @@ impl<M> Values<M> {
 
     /// The same of a message that needs no room in an inbox. (most mailboxes have no bound either)
     #[inline]
-    pub(crate) fn put_free(&self, message: M) -> Result<i64, SendFault<M>> {
+    pub(crate) fn put_free(&self, message: M) -> Result<i64, M> {
         if self.bound != Bound::None {
-            return self.put(message, Ticket::FREE);
+            return self.put(message, Ticket::FREE).map_err(SendFault::into_message);
         }
         match &mut *self.lock() {
             Some(kept) => Ok(kept.messages.push(message)),
-            None => Err(SendFault::Exited(message)),
+            None => Err(message),
         }
     }
 
@@ -199,44 +233,52 @@ impl<M> Values<M> {
 
     /// A call from outside begins. It returns `false` if the process has exited.
     pub(crate) fn open_call(&self, number: i64, call: Arc<dyn Fails>) -> bool {
-        match &mut *self.lock() {
-            // (one that has crashed is still here until its exit is told)
-            Some(kept) if kept.crash.is_none() => {
-                kept.calls.insert(number, call);
-                true
-            }
-            Some(_) | None => false,
-        }
+        let mut state = self.lock();
+        // (one that has crashed is still here until its exit is told)
+        let living = state.as_mut().map(Kept::beside).filter(|beside| beside.crash.is_none());
+        living.map(|beside| beside.calls.insert(number, call)).is_some()
     }
 
     /// Whether the process has not exited.
     pub(crate) fn is_open(&self) -> bool {
-        self.lock().is_some()
+        touch(1 << self.pid.shard);
+        !self.is_closed.load(SeqCst)
     }
 
-    #[inline]
+    #[inline(never)]
     pub(crate) fn take(&self, number: i64) -> Option<M> {
-        let mut kept = self.lock();
-        let kept_now = kept.as_mut()?;
-        let message = kept_now.messages.remove(number);
-        // (an inbox without a bound has no tickets)
-        if !kept_now.tickets.is_empty() {
-            let ticket = kept_now.tickets.remove(&number);
-            drop(kept);
-            drop(ticket);
+        self.take_here(number)
+    }
+
+    /// The same, within its caller.
+    #[inline(always)]
+    pub(crate) fn take_here(&self, number: i64) -> Option<M> {
+        let mut state = self.lock();
+        match &mut *state {
+            Some(kept) if !kept.has_tickets() => kept.messages.remove(number),
+            _ => Self::take_with_ticket(state, number),
         }
+    }
+
+    /// The same of a message that may have room.
+    #[inline(never)]
+    fn take_with_ticket(mut state: MutexGuard<'_, Option<Kept<M>>>, number: i64) -> Option<M> {
+        let kept = state.as_mut()?;
+        let (message, ticket) = (kept.messages.remove(number), kept.take_ticket(number));
+        drop(state);
+        drop(ticket);
         message
     }
 
     pub(crate) fn take_answer(&self, call: i64) -> Option<Given> {
-        self.lock().as_mut()?.answers.remove(call).map(|(_, given)| given)
+        self.lock().as_mut()?.beside.as_mut()?.answers.remove(call).map(|(_, given)| given)
     }
 
     /// The age of a message or of an answer: what a process has sent later has a greater one.
     pub(crate) fn age_of(&self, item: &Item) -> Option<i64> {
         match *item {
             Item::User(_, Body { kind: ANSWER, num, .. }) => {
-                self.lock().as_ref()?.answers.get(num).map(|(age, _)| *age)
+                self.lock().as_ref()?.beside.as_ref()?.answers.get(num).map(|(age, _)| *age)
             }
             Item::User(_, Body { kind: OVER | MORE | GONE | GONE_LINK, .. }) => None,
             Item::User(_, Body { num, .. }) => Some(num),
@@ -244,8 +286,15 @@ impl<M> Values<M> {
         }
     }
 
+    #[inline]
     pub(crate) fn take_panic(&self, news: News) -> Option<Arc<str>> {
-        self.lock().as_mut()?.panics.as_mut()?.remove(&news).map(|(_, text)| text)
+        touch(1 << self.pid.shard);
+        if self.has_panics.load(SeqCst) { self.take_panic_now(news) } else { None }
+    }
+
+    #[cold]
+    fn take_panic_now(&self, news: News) -> Option<Arc<str>> {
+        self.lock().as_mut()?.beside.as_mut()?.panics.remove(&news).map(|(_, text)| text)
     }
 }
 
@@ -265,7 +314,8 @@ impl<M: Send + 'static> Slot for Values<M> {
     fn put_answer(&self, call: i64, given: Given) -> bool {
         let back = match &mut *self.lock() {
             Some(kept) => {
-                kept.answers.insert(call, (kept.messages.last(), given));
+                let age = kept.messages.last();
+                kept.beside().answers.insert(call, (age, given));
                 None
             }
             None => Some(given),
@@ -275,13 +325,14 @@ impl<M: Send + 'static> Slot for Values<M> {
 
     fn put_panic(&self, news: News, text: Arc<str>, epoch: u64) {
         if let Some(kept) = &mut *self.lock() {
-            kept.panics.get_or_insert_default().insert(news, (epoch, text));
+            kept.beside().panics.insert(news, (epoch, text));
+            self.has_panics.store(true, SeqCst);
         }
     }
 
     fn keep_panics(&self, epoch: u64, of: &dyn Fn(&News) -> bool) {
-        if let Some(Kept { panics: Some(panics), .. }) = &mut *self.lock() {
-            panics.retain(|news, (put, _)| *put >= epoch || of(news));
+        if let Some(Kept { beside: Some(beside), .. }) = &mut *self.lock() {
+            beside.panics.retain(|news, (put, _)| *put >= epoch || of(news));
         }
     }
 
@@ -290,39 +341,42 @@ impl<M: Send + 'static> Slot for Values<M> {
     }
 
     fn is_asked(&self) -> bool {
-        self.lock().as_ref().is_some_and(|kept| !kept.calls.is_empty())
+        let is_asked = |kept: &Kept<M>| kept.beside.as_ref().is_some_and(|beside| !beside.calls.is_empty());
+        self.lock().as_ref().is_some_and(is_asked)
     }
 
     fn forget_call(&self, number: i64) {
-        let call = self.lock().as_mut().and_then(|kept| kept.calls.remove(number));
+        let call = self.lock().as_mut().and_then(|kept| kept.beside.as_mut()?.calls.remove(number));
         drop(call);
     }
 
     fn fail_calls(&self, fault: &CallFault) {
-        let calls = self.lock().as_mut().map(|kept| std::mem::take(&mut kept.calls));
+        let calls = self.lock().as_mut().and_then(|kept| Some(std::mem::take(&mut kept.beside.as_mut()?.calls)));
         calls.into_iter().flat_map(Few::into_values).for_each(|call| call.fail(fault.clone()));
     }
 
     fn crashed(&self, text: &Arc<str>) {
         if let Some(kept) = &mut *self.lock() {
-            kept.crash = Some(text.clone());
+            kept.beside().crash = Some(text.clone());
         }
         self.fail_calls(&CallFault::Down(PANIC, Some(text.clone())));
     }
 
     fn close(&self, why: Option<Reason>) {
-        let kept = self.lock().take();
-        if let Some(kept) = kept {
-            let fault = why.map_or(CallFault::Over, |why| CallFault::Down(why, kept.crash));
-            if !kept.calls.is_empty() {
-                kept.calls.into_values().for_each(|call| call.fail(fault.clone()));
-            }
-            if kept.messages.len() > 0 {
-                kept.messages.into_values().for_each(drop_quietly);
-            }
-            if !kept.answers.is_empty() {
-                kept.answers.into_values().for_each(|(_, given)| drop_quietly(given));
-            }
+        let mut state = self.lock();
+        self.is_closed.store(true, SeqCst);
+        if state.as_ref().is_some_and(Kept::is_bare) {
+            *state = None;
+            return;
+        }
+        let kept = state.take();
+        drop(state);
+        if let Some(Kept { messages, beside, .. }) = kept {
+            let Beside { calls, crash, answers, .. } = beside.map(|beside| *beside).unwrap_or_default();
+            let fault = why.map_or(CallFault::Over, |why| CallFault::Down(why, crash));
+            calls.into_values().for_each(|call| call.fail(fault.clone()));
+            messages.into_values().for_each(drop_quietly);
+            answers.into_values().for_each(|(_, given)| drop_quietly(given));
         }
     }
 

@@ -21,10 +21,12 @@ use std::sync::atomic::Ordering::SeqCst;
 
 /// A process of a desk.
 pub(crate) trait Actor: Send {
-    /// It is told this, by which its handler may panic.
-    fn told(&mut self, worker: &mut Worker, what: What) -> Next;
-    /// The same of a letter from this process.
-    fn letter(&mut self, worker: &mut Worker, from: Pid, body: Body) -> Next;
+    /// It is told this, by which its handler may panic. It returns what it does next, or `None` if it waits for whatever comes.
+    fn told(&mut self, worker: &mut Worker, what: &What) -> Option<Next>;
+    /// The same of one that begins.
+    fn starts(&mut self, worker: &mut Worker) -> Option<Next>;
+    /// The same of this item, which is a letter mostly.
+    fn letter(&mut self, worker: &mut Worker, item: &Item) -> Option<Next>;
     /// It has exited.
     fn ended(self: Box<Self>, worker: &mut Worker, why: Reason);
     /// Whether it is a supervisor.
@@ -41,51 +43,84 @@ pub(crate) trait Actor: Send {
     fn behaviour(&self) -> &dyn Any;
 }
 
+/// What a process has beside its behaviour.
+pub(crate) struct Own<M> {
+    pub(crate) me: Address<M>,
+    pub(crate) calls: Calls,
+    /// What it was handed and did not take.
+    pub(crate) aside: Aside<M>,
+    pub(crate) gone: Gone,
+    /// The process that spawned it.
+    pub(crate) parent: Option<Pid>,
+}
+
 pub(crate) struct Process<B: Behaviour> {
     behaviour: B,
-    me: Address<B::Message>,
-    calls: Calls,
-    gone: Gone,
-    /// The process that spawned it.
-    parent: Option<Pid>,
+    own: Own<B::Message>,
     /// What it does next, and what it takes then.
     next: Next,
     wanted: Wanted,
-    /// What it was handed and did not take, and whether it is to take some of that first.
-    aside: Aside<B::Message>,
+    /// Whether that is to wait for whatever comes.
+    waits: bool,
+    /// Whether it is to take some of what it did not take first.
     takes_aside: bool,
 }
 
 impl<B: Behaviour> Process<B> {
     pub(crate) fn new(behaviour: B, me: Address<B::Message>, parent: Option<Pid>) -> Process<B> {
-        Process {
-            behaviour,
-            me,
-            calls: Calls::default(),
-            gone: Gone::default(),
-            parent,
-            next: Next::Wait(Pick::Any),
-            wanted: Wanted::All,
-            aside: Aside::new(),
-            takes_aside: false,
-        }
+        let own = Own { me, calls: Calls::default(), aside: Aside::new(), gone: Gone::default(), parent };
+        let (next, wanted) = (Next::Wait(Pick::Any), Wanted::All);
+        Process { behaviour, own, next, wanted, waits: true, takes_aside: false }
     }
 
-    /// Runs a handler, and says what the process does next.
+    /// Runs a handler, and returns what the process does next, or `None` if it waits for whatever comes.
     #[inline(always)]
     fn run(
         &mut self,
         worker: &mut Worker,
         told: Option<Told<'_>>,
         handles: impl FnOnce(&mut B, &mut Context<'_, B::Message>) -> behaviour::Next,
-    ) -> Next {
-        let Process { behaviour, me, calls, aside, gone, parent, .. } = self;
+    ) -> Option<Next> {
         worker.record.handles();
-        let mut cx = Context { worker, me, calls, aside, told, gone, parent: *parent };
-        let next = handles(behaviour, &mut cx);
+        let next = handles(&mut self.behaviour, &mut Context { worker, own: &mut self.own, told });
+        if matches!(next, behaviour::Next::Wait) && self.waits && self.own.aside.is_empty() {
+            return None;
+        }
+        self.does(next)
+    }
+
+    /// Is told a letter, which may be an answer. (what waits for whatever comes needs no more than what the item is to it)
+    #[inline(never)]
+    fn letter_of_others(&mut self, worker: &mut Worker, item: &Item) -> Option<Next> {
+        if !self.waits {
+            return self.item(worker, item);
+        }
+        let Some(event) = self.event_of(worker, item, None) else { return Some(self.next) };
+        let told = Some(Told { item, age: None, is_picked: false });
+        self.run(worker, told, |behaviour, cx| behaviour.handle(cx, event))
+    }
+
+    /// Is told an item that the library has handed out.
+    fn item(&mut self, worker: &mut Worker, item: &Item) -> Option<Next> {
+        let panic = news_of(item).and_then(|news| self.own.me.mailbox.take_panic(news));
+        let Some(item) = self.own.gone.name(worker.porter, item) else { return Some(self.next) };
+        let told = Some(Told { item: &item, age: None, is_picked: self.picks() });
+        match self.event_from_table(worker, &item, panic) {
+            Some(event) => self.run(worker, told, |behaviour, cx| behaviour.handle(cx, event)),
+            None => Some(self.next),
+        }
+    }
+
+    /// Notes what the process does next, and returns it as `run` does.
+    #[inline(never)]
+    fn does(&mut self, next: behaviour::Next) -> Option<Next> {
+        self.waits = matches!(next, behaviour::Next::Wait);
         self.wanted = next.wanted();
-        self.next = next.for_crew(&self.me.hub, &self.gone);
-        if self.aside.is_empty() { self.next } else { self.next_with_aside() }
+        self.next = next.for_crew(&self.own.me.hub, &self.own.gone);
+        if !self.own.aside.is_empty() {
+            return Some(self.next_with_aside());
+        }
+        if self.waits { None } else { Some(self.next) }
     }
 
     /// Whether the library picks out what the process takes.
@@ -98,11 +133,11 @@ impl<B: Behaviour> Process<B> {
     fn event_from_table(
         &mut self,
         worker: &mut Worker,
-        item: Item,
+        item: &Item,
         panic: Option<Arc<str>>,
     ) -> Option<Event<B::Message>> {
-        if !matches!(self.wanted, Wanted::All) && !self.wanted.takes(&item, ends_call(&self.calls, &item)) {
-            self.aside.keep(item, panic);
+        if !matches!(self.wanted, Wanted::All) && !self.wanted.takes(item, ends_call(&self.own.calls, item)) {
+            self.own.aside.keep(*item, panic);
             return None;
         }
         self.event_of(worker, item, panic)
@@ -110,9 +145,9 @@ impl<B: Behaviour> Process<B> {
 
     /// What the handler is told of what was kept aside, the oldest that it takes, with the item and its number.
     fn event_from_aside(&mut self, worker: &mut Worker) -> Option<(Event<B::Message>, Item, u64)> {
-        while self.aside.has(self.wanted, |item| ends_call(&self.calls, item)) {
-            let Held { age, item, panic, event, .. } = self.aside.take()?;
-            if let Some(event) = event.or_else(|| self.event_of(worker, item, panic)) {
+        while self.own.aside.has(self.wanted, |item| ends_call(&self.own.calls, item)) {
+            let Held { age, item, panic, event, .. } = self.own.aside.take()?;
+            if let Some(event) = event.or_else(|| self.event_of(worker, &item, panic)) {
                 return Some((event, item, age));
             }
         }
@@ -121,10 +156,10 @@ impl<B: Behaviour> Process<B> {
 
     /// What an item is to the handler, with the text of the panic that it is the news of. `None` if it is nothing to it, such as
     /// an answer that comes too late.
-    fn event_of(&mut self, worker: &mut Worker, item: Item, panic: Option<Arc<str>>) -> Option<Event<B::Message>> {
-        match item {
+    fn event_of(&mut self, worker: &mut Worker, item: &Item, panic: Option<Arc<str>>) -> Option<Event<B::Message>> {
+        match *item {
             Item::User(_, Body { kind: ANSWER, num: number, .. }) => {
-                let given = self.me.mailbox.take_answer(number)?;
+                let given = self.own.me.mailbox.take_answer(number)?;
                 self.close(worker, number).then_some(Event::Answer(Answer { number, given }))
             }
             Item::User(_, Body { kind: OVER, num: number, .. }) => {
@@ -132,18 +167,18 @@ impl<B: Behaviour> Process<B> {
                 self.close(worker, number).then_some(Event::Answer(Answer { number, given }))
             }
             Item::User(_, Body { kind: GONE, num: number, .. }) => {
-                let (monitor, pid) = (gone_monitor(number), self.gone.monitored.remove(&number)?);
+                let (monitor, pid) = (gone_monitor(number), self.own.gone.take_monitored(number)?);
                 Some(Event::Down(Down { monitor, pid, reason: Reason::Noproc, panic: None }))
             }
             Item::User(_, Body { kind: GONE_LINK, num: number, .. }) => {
-                let pid = self.gone.linked.remove(&number)?;
+                let pid = self.own.gone.take_linked(number)?;
                 Some(Event::Exit(Exit { pid, reason: Reason::Noproc, panic: None }))
             }
             // (a mailbox was read)
             Item::User(_, Body { kind: MORE, .. }) => Some(Event::Proceed),
-            Item::User(_, Body { num, .. }) => match self.me.mailbox.take(num) {
+            Item::User(_, Body { num, .. }) => match self.own.me.mailbox.take(num) {
                 Some(message) => Some(Event::Message(message)),
-                None => matches!(self.me.mailbox.bound, Bound::DropOldest(_)).then_some(Event::Lost),
+                None => matches!(self.own.me.mailbox.bound, Bound::DropOldest(_)).then_some(Event::Lost),
             },
             Item::Down(monitor, pid, reason) => Some(self.down(worker, Down { monitor, pid, reason, panic })),
             Item::Exit(pid, reason) => Some(Event::Exit(Exit { pid, reason, panic })),
@@ -154,14 +189,14 @@ impl<B: Behaviour> Process<B> {
     /// What it does next if something was kept aside: it takes that first, if it waits for it.
     fn next_with_aside(&mut self) -> Next {
         let waits = matches!(self.next, Next::Wait(_) | Next::WaitUntil(..));
-        self.takes_aside = waits && self.aside.has(self.wanted, |item| ends_call(&self.calls, item));
+        self.takes_aside = waits && self.own.aside.has(self.wanted, |item| ends_call(&self.own.calls, item));
         // (so the others of its desk have their turn, too)
         if self.takes_aside { Next::Proceed } else { self.next }
     }
 
     /// The process whose handler runs on the desk that was asked, if that is another desk than this one.
     fn holder(&self, worker: &Worker, number: i64) -> Option<(Pid, &'static str)> {
-        let desk = self.calls.get(number)?.desk;
+        let desk = self.own.calls.get(number)?.desk;
         if desk == worker.number { None } else { worker.hub.running(usize::from(desk)) }
     }
 
@@ -177,27 +212,22 @@ impl<B: Behaviour> Process<B> {
 
     /// Ends a call, and returns whether it was open.
     fn close(&mut self, worker: &mut Worker, number: i64) -> bool {
-        let Some(open) = self.calls.remove(number) else { return false };
-        self.aside.look_again();
+        let Some(open) = self.own.calls.remove(number) else { return false };
+        self.own.aside.look_again();
         if let Some(alarm) = open.alarm {
             worker.alarms.cancel(alarm);
         }
         if let Some(monitor) = open.monitor {
-            self.aside.forget(monitor);
-            demonitor(worker, &self.me, monitor);
+            self.own.aside.forget(monitor);
+            demonitor(worker, &self.own.me, monitor);
         }
         true
     }
 }
 
 /// Keeps what waits and is older than an item that the library has picked out, so that it comes first later.
-pub(crate) fn keep_older<M: Send + 'static>(
-    worker: &mut Worker,
-    me: &Address<M>,
-    aside: &mut Aside<M>,
-    gone: &mut Gone,
-    picked: &Item,
-) {
+pub(crate) fn keep_older<M: Send + 'static>(worker: &mut Worker, own: &mut Own<M>, picked: &Item) {
+    let Own { me, aside, gone, .. } = own;
     let pid = me.pid();
     let waiting = worker.desk().waiting(pid);
     let count = waiting.map_or(0, |waiting| older(&me.mailbox, waiting, picked));
@@ -205,8 +235,8 @@ pub(crate) fn keep_older<M: Send + 'static>(
         let taken = worker.desk().receive(pid, Pick::Any);
         let Ok(Some(item)) = worker.noted(taken) else { return };
         worker.record.took(&item);
-        let panic = news_of(item).and_then(|news| me.mailbox.take_panic(news));
-        if let Some(item) = gone.name(worker.porter, item) {
+        let panic = news_of(&item).and_then(|news| me.mailbox.take_panic(news));
+        if let Some(item) = gone.name(worker.porter, &item) {
             aside.keep(item, panic);
         }
     }
@@ -222,50 +252,43 @@ fn ends_call(calls: &Calls, item: &Item) -> bool {
 }
 
 impl<B: Behaviour> Actor for Process<B> {
-    fn told(&mut self, worker: &mut Worker, what: What) -> Next {
-        let held;
-        let mut told = None;
-        let event = match &what {
-            What::Start(_) | What::Exit(..) => None,
+    fn told(&mut self, worker: &mut Worker, what: &What) -> Option<Next> {
+        let (held, told, event);
+        match what {
+            What::Start(_) | What::Exit(..) => return self.starts(worker),
+            What::Item(item) => return self.item(worker, item),
             What::Proceed if mem::take(&mut self.takes_aside) => {
-                let Some((event, item, age)) = self.event_from_aside(worker) else { return self.next };
+                let Some((of, item, age)) = self.event_from_aside(worker) else { return Some(self.next) };
                 held = item;
-                told = Some(Told { item: &held, age: Some(age), is_picked: false });
-                Some(event)
+                (told, event) = (Some(Told { item: &held, age: Some(age), is_picked: false }), of);
             }
-            What::Proceed => Some(Event::Proceed),
-            What::Timeout => Some(Event::Timeout),
-            What::Item(item) => {
-                let panic = news_of(*item).and_then(|news| self.me.mailbox.take_panic(news));
-                let Some(item) = self.gone.name(worker.porter, *item) else { return self.next };
-                held = item;
-                told = Some(Told { item: &held, age: None, is_picked: self.picks() });
-                match self.event_from_table(worker, item, panic) {
-                    Some(event) => Some(event),
-                    None => return self.next,
-                }
-            }
-        };
-        match event {
-            Some(event) => self.run(worker, told, |behaviour, cx| behaviour.handle(cx, event)),
-            None => self.run(worker, told, Behaviour::started),
+            What::Proceed => (told, event) = (None, Event::Proceed),
+            What::Timeout => (told, event) = (None, Event::Timeout),
         }
+        self.run(worker, told, |behaviour, cx| behaviour.handle(cx, event))
     }
 
-    fn letter(&mut self, worker: &mut Worker, from: Pid, body: Body) -> Next {
-        let item = Item::User(from, body);
-        let is_plain = matches!(self.wanted, Wanted::All) && is_message(body.kind);
-        let Some(message) = (if is_plain { self.me.mailbox.take(body.num) } else { None }) else {
-            return self.told(worker, What::Item(item));
-        };
-        let told = Some(Told { item: &item, age: None, is_picked: self.picks() });
-        self.run(worker, told, |behaviour, cx| behaviour.handle(cx, Event::Message(message)))
+    fn starts(&mut self, worker: &mut Worker) -> Option<Next> {
+        self.run(worker, None, Behaviour::started)
+    }
+
+    fn letter(&mut self, worker: &mut Worker, item: &Item) -> Option<Next> {
+        let Item::User(_, Body { kind, num, .. }) = *item else { return self.item(worker, item) };
+        if self.waits && is_message(kind) {
+            if let Some(message) = self.own.me.mailbox.take_here(num) {
+                let told = Some(Told { item, age: None, is_picked: false });
+                return self.run(worker, told, |behaviour, cx| behaviour.handle(cx, Event::Message(message)));
+            }
+        }
+        self.letter_of_others(worker, item)
     }
 
     fn ended(self: Box<Self>, worker: &mut Worker, why: Reason) {
-        let Process { behaviour, me, calls, .. } = *self;
-        for alarm in calls.into_values().filter_map(|open| open.alarm) {
-            worker.alarms.cancel(alarm);
+        let Process { behaviour, own: Own { me, calls, .. }, .. } = *self;
+        if !calls.is_empty() {
+            for alarm in calls.into_values().filter_map(|open| open.alarm) {
+                worker.alarms.cancel(alarm);
+            }
         }
         me.mailbox.close(Some(why));
         if me.mailbox.is_in_groups.load(SeqCst) {
@@ -279,15 +302,15 @@ impl<B: Behaviour> Actor for Process<B> {
     }
 
     fn owed(&self) -> usize {
-        self.calls.len()
+        self.own.calls.len()
     }
 
     fn slot(&self) -> &dyn Slot {
-        &*self.me.mailbox
+        &*self.own.me.mailbox
     }
 
     fn outline(&self) -> Outline {
-        Outline { next: self.next, wanted: self.wanted, aside: self.aside.len(), calls: self.calls.len() }
+        Outline { next: self.next, wanted: self.wanted, aside: self.own.aside.len(), calls: self.own.calls.len() }
     }
 
     fn inspect(&self) -> String {

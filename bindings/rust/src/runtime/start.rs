@@ -57,7 +57,8 @@ impl Builder {
         self
     }
 
-    /// Goes on once a journal has more events than this, so that memory is kept low. Without this 100,000.
+    /// Goes on once a journal has more events than this, so that memory is kept low. Without this 100,000. A desk that is busy
+    /// looks at a journal of thousands of events once in some rounds, and at a shorter one in each.
     #[must_use]
     pub fn going_on_every(mut self, events: usize) -> Builder {
         self.every = Some(events);

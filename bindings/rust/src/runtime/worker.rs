@@ -5,7 +5,7 @@ use super::address::Address;
 use super::asked::tell_dropped;
 use super::behaviour::{Behaviour, Bound};
 use super::elsewhere::Sent;
-use super::hub::{END, GO_ON, Hub, KILL, Origin};
+use super::hub::{END, GO_ON, Hub, KILL, Origin, micros};
 use super::inbox::{Place, Task};
 use super::observing::Record;
 use super::payloads::{News, Values, drop_quietly, quietly};
@@ -14,17 +14,22 @@ use super::report::Report;
 use super::supervision::Supervision;
 use super::timing::Alarms;
 use crate::crew::{Crew, Job, Next, What};
-use crate::{Body, Desk, Fault, Item, Loss, Pid, Reason, Turned};
+use crate::{Body, Desk, Fault, Item, Pid, Reason, Turned};
 use std::any::Any;
 use std::collections::HashMap;
 use std::panic::{AssertUnwindSafe, catch_unwind};
 use std::sync::Arc;
 use std::sync::atomic::Ordering::SeqCst;
-use std::time::Instant;
+use std::time::{Duration, Instant};
 
 /// How many letters a turn handles at most, and how many jobs a step has.
 const BUDGET: u32 = 256;
 pub(super) const MOST: usize = 256;
+/// After how many rounds at most a thread looks for what is seldom there, and how long a journal may be at least for that.
+const ROUNDS: u32 = 8;
+const LONG: usize = 4_096;
+/// For how many rounds a reading of the clock serves a thread that does not rest meanwhile.
+const SERVES: u32 = 2;
 
 /// The tag of a supervisor that the library runs.
 pub(crate) const SUPERVISOR: u64 = 1 << 62;
@@ -78,9 +83,9 @@ pub(super) struct Seat {
     pub(super) pid: Pid,
     pub(super) parent: Parent,
     /// The order that it was told.
-    told: u8,
+    pub(super) told: u8,
     /// Whether its handler has panicked.
-    crashed: bool,
+    pub(super) crashed: bool,
     /// `None` while its handler runs.
     pub(super) actor: Option<Box<dyn Actor>>,
 }
@@ -89,6 +94,8 @@ pub(super) struct Seat {
 pub(crate) struct Worker {
     pub(crate) hub: Arc<Hub>,
     pub(crate) number: u8,
+    /// The place of the desk, which is among those of the hub.
+    home: Arc<Place>,
     /// The process in whose name things are sent from outside.
     pub(crate) porter: Pid,
     pub(crate) alarms: Alarms,
@@ -96,11 +103,13 @@ pub(crate) struct Worker {
     pub(super) desk: Option<Desk>,
     pub(super) crew: Crew,
     /// How many slots the desk has for those that are known outside.
-    slots: usize,
+    pub(super) slots: usize,
     pub(super) seats: Vec<Option<Seat>>,
     pub(super) free: Vec<usize>,
-    /// The seats of those that supervisors have spawned, by their slots: the last one of each slot.
-    by_slot: Vec<usize>,
+    /// The versions and the places of those that have or had a seat, by their slots: the last one of each slot.
+    pub(super) by_slot: Vec<(u32, usize)>,
+    /// The places of those whose slot another one has already, since they have exited, and their exits were not told.
+    pub(super) before: Vec<usize>,
     /// The supervisors that live.
     pub(super) supervisions: HashMap<Pid, Supervision>,
     /// Those of which something was asked that is not done.
@@ -116,15 +125,22 @@ pub(crate) struct Worker {
     /// The order that all processes were told.
     pub(super) told: u8,
     pub(super) fault: Option<Fault>,
+    /// How many rounds there were since it has looked for what is seldom there, and after how many it does.
+    rounds: u32,
+    most_rounds: u32,
     /// Whether the last step came to all who had something to do.
     whole: bool,
     /// Whether the desk is that of a node that has just gone on.
-    resumed: bool,
+    pub(super) resumed: bool,
     /// Whether a process may wait until a time. (else the crew need not be told what time it is)
     timed: bool,
-    /// The exits of which the losses of the last step tell, in order, and the place of the next one that is asked for.
-    exits: Vec<(Pid, Reason)>,
-    next_exit: usize,
+    /// What the clock said as it was read last, and for how many rounds more that is what time it is.
+    read: u64,
+    serves: u32,
+    /// The exits of which the losses tell that were taken since the last step, in order, and the place of the next one that is
+    /// asked for.
+    pub(super) exits: Vec<(Pid, Reason)>,
+    pub(super) next_exit: usize,
     /// What it counts.
     pub(crate) record: Record,
 }
@@ -137,6 +153,7 @@ impl Worker {
         Ok(Worker {
             hub: hub.clone(),
             number,
+            home: hub.places[usize::from(number)].clone(),
             porter,
             alarms: Alarms::new()?,
             desk: Some(desk),
@@ -145,6 +162,7 @@ impl Worker {
             seats: Vec::new(),
             free: Vec::new(),
             by_slot: Vec::new(),
+            before: Vec::new(),
             supervisions: HashMap::new(),
             asked: Vec::new(),
             left: Vec::new(),
@@ -153,15 +171,21 @@ impl Worker {
             arriving: HashMap::new(),
             told: GO_ON,
             fault: None,
+            rounds: 0,
+            // (a run whose epochs are short ends each in the round in which it is to)
+            most_rounds: if hub.every < LONG { 1 } else { ROUNDS },
             whole: true,
             resumed: false,
             timed: false,
+            read: 0,
+            serves: 0,
             exits: Vec::new(),
             next_exit: 0,
             record: Record::default(),
         })
     }
 
+    #[inline]
     pub(crate) fn desk(&mut self) -> &mut Desk {
         self.desk.as_mut().expect("a desk, outside of a meeting")
     }
@@ -171,7 +195,7 @@ impl Worker {
     }
 
     pub(super) fn place(&self) -> &Place {
-        &self.hub.places[usize::from(self.number)]
+        &self.home
     }
 
     /// Runs until the run is over or halts, and returns what the thread had.
@@ -179,7 +203,7 @@ impl Worker {
         let mut listens = false;
         loop {
             let busy = self.round();
-            if self.has_to_meet() {
+            if self.has_to_meet(!busy) {
                 if !self.meet() {
                     self.place().halt(true);
                     return self;
@@ -208,11 +232,28 @@ impl Worker {
         self.serve_all() && self.crew.queued() > 0 || some
     }
 
-    /// What time it is, if anything is to be done at a time.
+    /// What time it is, if anything is to be done at a time. It may have been read in one of the two rounds before.
     #[inline]
-    fn clock(&self) -> Option<u64> {
+    fn clock(&mut self) -> Option<u64> {
         let asks = self.timed || self.alarms.any() || !self.supervisions.is_empty();
-        asks.then(|| self.hub.now())
+        asks.then(|| {
+            if self.serves == 0 {
+                self.read_clock();
+            }
+            self.serves -= 1;
+            self.read
+        })
+    }
+
+    /// Reads the clock.
+    fn read_clock(&mut self) -> u64 {
+        (self.read, self.serves) = (self.hub.now(), SERVES);
+        self.read
+    }
+
+    /// The time when so much has gone by, at the earliest.
+    pub(super) fn after(&mut self, time: Duration) -> u64 {
+        self.read_clock().saturating_add(micros(time)).saturating_add(1)
     }
 
     /// Serves the supervisors, and returns whether there is one.
@@ -254,21 +295,22 @@ impl Worker {
 
     /// A step of the crew: a turn, and then the handlers of those who have something to do.
     fn step(&mut self, most: usize, now: Option<u64>) -> bool {
-        if let Some(now) = now {
+        // (an alarm is nothing to the crew)
+        if let Some(now) = now.filter(|_| self.timed || !self.supervisions.is_empty()) {
             self.crew.set_time(now);
         }
         let several = self.hub.places.len() > 1;
-        let out = if several { self.desk().letters_out() & !(1 << self.number) } else { 0 };
+        let out = if several { self.posts_to() } else { 0 };
         let (turned, count) = self.hand_out(BUDGET, most);
         if several && turned.posted + turned.handled > 0 {
             self.hub.ring_others(if turned.posted > 0 { out } else { 0 }, turned.handled > 0);
         }
-        if self.crew.was_refused() || turned.stopped.is_some() {
-            self.fault = turned.stopped.or(Some(Fault::Memory));
+        if turned.stopped.is_some() {
+            self.fault = turned.stopped;
         }
         self.whole = count < most;
         if self.resumed {
-            self.handed(count).into_iter().for_each(|job| self.tell(job));
+            self.handed(count).iter().for_each(|job| self.tell(job));
         } else {
             (0..count).for_each(|place| self.tell_in(place));
         }
@@ -276,18 +318,22 @@ impl Worker {
         count > 0 || turned.posted + turned.handled > 0
     }
 
+    /// The other desks to which the next turn posts, or all of them if none is to be rung: the call costs as much as some letters
+    /// do. (who says only later that it is to be rung may be rung for nothing)
+    fn posts_to(&mut self) -> u64 {
+        let others = !(1 << self.number);
+        if self.hub.listens(others) { self.desk().letters_out() & others } else { others }
+    }
+
     /// Turns the desk, and has the crew say who has something to do. It returns how many jobs these are.
-    ///
-    /// What was lost is taken right after that: it tells the reason of an exit which the crew does not know yet.
-    #[inline]
+    #[inline(always)]
     pub(super) fn hand_out(&mut self, budget: u32, most: usize) -> (Turned, usize) {
         let desk = self.desk.as_mut().expect("a desk, outside of a meeting");
         let stepped = self.crew.step_over(desk, budget, most).expect("the crew of this desk");
-        self.exits.clear();
-        self.next_exit = 0;
-        while let Some(Loss { pid, reason, items }) = self.crew.next_loss(desk).expect("the crew of this desk") {
-            self.record.lost(&items);
-            self.exits.extend(reason.map(|reason| (pid, reason)));
+        // (on the desk of a node that has just gone on those before the meeting come first)
+        if !self.resumed {
+            self.exits.clear();
+            self.next_exit = 0;
         }
         stepped
     }
@@ -296,33 +342,10 @@ impl Worker {
     #[inline(always)]
     pub(super) fn job(&mut self, place: usize) -> Job {
         let mut job = self.crew.job(place);
-        if let What::Exit(reason @ Reason::Noproc, _) = &mut job.what {
-            *reason = self.exit_of(job.pid).unwrap_or(Reason::Noproc);
+        if let What::Exit(reason, _) = &mut job.what {
+            *reason = self.reason_of(job.pid, *reason);
         }
         job
-    }
-
-    /// The reason of an exit of which a loss of this step tells. (exits are told in the order of their losses, mostly)
-    #[inline(never)]
-    fn exit_of(&mut self, pid: Pid) -> Option<Reason> {
-        let count = self.exits.len();
-        let mut places = (0..count).map(|place| (self.next_exit + place) % count);
-        let found = places.find(|&place| self.exits[place].0 == pid)?;
-        self.next_exit = found + 1;
-        Some(self.exits[found].1)
-    }
-
-    /// The jobs that the crew has handed out. On the desk of a node that has just gone on those that have exited come first, in
-    /// the order of their exits. (a crew that begins again comes to its processes in another)
-    #[cold]
-    pub(super) fn handed(&mut self, count: usize) -> Vec<Job> {
-        let mut jobs: Vec<Job> = (0..count).map(|place| self.job(place)).collect();
-        if std::mem::take(&mut self.resumed) {
-            let order: HashMap<Pid, usize> = self.exits.iter().map(|&(pid, _)| pid).zip(0..).collect();
-            let first = |job: &Job| matches!(job.what, What::Exit(..)).then(|| order.get(&job.pid).copied());
-            jobs.sort_by_key(|job| first(job).flatten().unwrap_or(usize::MAX));
-        }
-        jobs
     }
 
     /// Tells the process of the job in this place what it is to be told.
@@ -330,29 +353,55 @@ impl Worker {
     fn tell_in(&mut self, place: usize) {
         // (most jobs are letters: these do not become a job first)
         match self.crew.letter(place) {
-            Some((pid, tag, from, body)) if tag < SUPERVISOR => self.deliver(pid, tag as usize, from, body),
-            _ => {
-                let job = self.job(place);
-                self.tell(job);
+            Some((pid, tag, item)) if tag < SUPERVISOR => self.deliver(pid, tag as usize, &item),
+            _ => self.tell_other(place),
+        }
+    }
+
+    /// The same of a job that is no letter. (of these, too, most do not become one)
+    #[inline(never)]
+    fn tell_other(&mut self, place: usize) {
+        if let Some((pid, tag, item)) = self.crew.item(place) {
+            if tag < SUPERVISOR {
+                self.work(
+                    pid,
+                    tag as usize,
+                    |record| record.begin_item(&item),
+                    |actor, worker| actor.letter(worker, &item),
+                );
+                return;
+            }
+        } else if let Some((pid, tag, why)) = self.crew.exit(place) {
+            if tag < SUPERVISOR {
+                let why = self.reason_of(pid, why);
+                self.unseat(pid, tag, tag as usize, why);
+                return;
+            }
+        } else if let Some((pid, tag)) = self.crew.start(place) {
+            if tag < SUPERVISOR && self.arriving.is_empty() {
+                self.work(pid, tag as usize, Record::begin_other, |actor, worker| actor.starts(worker));
+                return;
             }
         }
+        let job = self.job(place);
+        self.tell(&job);
     }
 
     /// Has a process handle a letter.
     #[inline(always)]
-    fn deliver(&mut self, pid: Pid, place: usize, from: Pid, body: Body) {
-        self.work(pid, place, |record| record.begin_letter(), |actor, worker| actor.letter(worker, from, body));
+    fn deliver(&mut self, pid: Pid, place: usize, item: &Item) {
+        self.work(pid, place, |record| record.begin_letter(), |actor, worker| actor.letter(worker, item));
     }
 
     /// Tells a process of the crew what it is to be told. A child that was not made is told nothing.
     #[inline(never)]
-    pub(super) fn tell(&mut self, job: Job) {
-        let Some(place) = (if job.tag < SUPERVISOR { usize::try_from(job.tag).ok() } else { self.supervised(&job) })
+    pub(super) fn tell(&mut self, job: &Job) {
+        let Some(place) = (if job.tag < SUPERVISOR { usize::try_from(job.tag).ok() } else { self.supervised(job) })
         else {
             return;
         };
-        match job.what {
-            What::Exit(why, _) => self.unseat(job, place, why),
+        match &job.what {
+            What::Exit(why, _) => self.unseat(job.pid, job.tag, place, *why),
             What::Start(_) if !self.arriving.is_empty() && self.waits_for_link(job.pid) => {}
             what => self.handle(job.pid, place, what),
         }
@@ -376,19 +425,13 @@ impl Worker {
             What::Start(Some(origin)) if !self.begin_child(pid, origin.supervisor, tag & !CHILD) => return None,
             _ => {}
         }
-        let is_seat = |seat: &Option<Seat>| seat.as_ref().is_some_and(|seat| seat.pid == pid);
-        let last = self.by_slot.get(pid.slot as usize).copied();
-        last.filter(|&place| self.seats.get(place).is_some_and(is_seat)).or_else(|| self.seat_of(pid))
-    }
-
-    /// The seat of a process of this desk.
-    pub(super) fn seat_of(&self, pid: Pid) -> Option<usize> {
-        self.seats.iter().position(|seat| seat.as_ref().is_some_and(|seat| seat.pid == pid))
+        self.seat_of(pid)
     }
 
     /// Runs the handler of a process.
-    pub(super) fn handle(&mut self, pid: Pid, place: usize, what: What) {
-        self.work(pid, place, |record| record.begin(&what), |actor, worker| actor.told(worker, what));
+    #[inline]
+    pub(super) fn handle(&mut self, pid: Pid, place: usize, what: &What) {
+        self.work(pid, place, |record| record.begin(what), |actor, worker| actor.told(worker, what));
     }
 
     /// Has a process work: it runs its handler, which may panic.
@@ -398,16 +441,14 @@ impl Worker {
         pid: Pid,
         place: usize,
         begin: impl FnOnce(&mut Record) -> Option<Instant>,
-        works: impl FnOnce(&mut dyn Actor, &mut Worker) -> Next,
+        works: impl FnOnce(&mut dyn Actor, &mut Worker) -> Option<Next>,
     ) {
         let mut actor = self.seats[place].as_mut().and_then(|seat| seat.actor.take()).expect("a process of this desk");
         self.runs(Some(pid));
         let begun = begin(&mut self.record);
         match catch_unwind(AssertUnwindSafe(|| works(&mut *actor, self))) {
-            Ok(next) => {
-                self.timed |= matches!(next, Next::WaitUntil(..));
-                self.crew.note_answer(pid, next);
-            }
+            Ok(None) => self.crew.note_wait(pid),
+            Ok(Some(next)) => self.note_next(pid, next),
             Err(what) => self.panicked(pid, place, what),
         }
         self.runs(None);
@@ -415,6 +456,13 @@ impl Worker {
         if let Some(seat) = &mut self.seats[place] {
             seat.actor = Some(actor);
         }
+    }
+
+    /// Notes what a process does next.
+    #[inline(never)]
+    fn note_next(&mut self, pid: Pid, next: Next) {
+        self.timed |= matches!(next, Next::WaitUntil(..));
+        self.crew.note_answer(pid, next);
     }
 
     /// The handler of a process has panicked with this value.
@@ -434,11 +482,10 @@ impl Worker {
     }
 
     /// A process has exited: all that it had goes.
-    fn unseat(&mut self, Job { pid, tag, .. }: Job, place: usize, why: Reason) {
-        let Seat { parent, crashed, actor, .. } = self.seats[place].take().expect("a process of this desk");
+    fn unseat(&mut self, pid: Pid, tag: u64, place: usize, why: Reason) {
+        let Seat { parent, crashed, actor, .. } = self.vacate(place).expect("a process of this desk");
         let actor = actor.expect("a process whose handler does not run");
         let why = if crashed { PANIC } else { why };
-        self.free.push(place);
         if actor.supervises() {
             self.front_left(pid);
         }
@@ -451,19 +498,6 @@ impl Worker {
         if let Parent::Elsewhere { supervisor, place } = parent {
             self.left_elsewhere(supervisor, place, pid, why);
         }
-    }
-
-    /// The supervisor of a process on another desk has exited: it is told by the run when to exit, as the others are.
-    pub(super) fn lose_parent(&mut self, pid: Pid) {
-        if let Some(seat) = self.seat_of(pid).and_then(|place| self.seats[place].as_mut()) {
-            seat.parent = Parent::Outside;
-            self.retell();
-        }
-    }
-
-    /// Whether this is a process of the desk whose exit was not told.
-    pub(super) fn is_seated(&self, pid: Pid) -> bool {
-        self.seats.iter().flatten().any(|seat| seat.pid == pid)
     }
 
     #[inline(always)]
@@ -501,8 +535,8 @@ impl Worker {
 
     /// More messages wait for a process than may: it crashes, unless it has exited.
     pub(crate) fn overflow(&mut self, pid: Pid) {
-        let is_seat = |seat: &Option<Seat>| seat.as_ref().is_some_and(|seat| seat.pid == pid && !seat.crashed);
-        let Some(place) = self.seats.iter().position(is_seat) else { return };
+        let has_crashed = |&place: &usize| self.seats[place].as_ref().is_some_and(|seat| seat.crashed);
+        let Some(place) = self.seat_of(pid).filter(|place| !has_crashed(place)) else { return };
         if self.desk().alive(pid) && self.crash(pid, place, "more messages wait than may".into()).is_err() {
             // (without memory the run halts, and it crashes as the run goes on)
             if let Some(seat) = &mut self.seats[place] {
@@ -550,6 +584,7 @@ impl Worker {
     }
 
     /// Sends a message in the name of a process of this desk. It returns `false` if the desk refuses that.
+    #[inline]
     pub(crate) fn say(&mut self, from: Pid, to: Pid, kind: u32, num: i64) -> bool {
         let sent = self.desk().send(from, to, Body { kind, num, who: None });
         self.noted(sent).is_ok()
@@ -575,6 +610,7 @@ impl Worker {
     }
 
     /// The answer of a call of the desk, of which it is noted if there was no memory or no stamp: then the run halts.
+    #[inline]
     pub(crate) fn noted<T>(&mut self, answer: Result<T, Fault>) -> Result<T, Fault> {
         if let Err(fault @ (Fault::Memory | Fault::Worn)) = answer {
             self.fault = Some(fault);
@@ -604,14 +640,6 @@ impl Worker {
         self.noted(spawned)
     }
 
-    /// Whether no slot is free for one more process. (one that has exited has none, also if its exit was not told)
-    pub(super) fn is_full(&self) -> bool {
-        let taken = || self.seats.iter().flatten();
-        let alive = |seat: &&Seat| self.desk.as_ref().is_some_and(|desk| desk.alive(seat.pid));
-        // (the porter has one)
-        self.seats.len() - self.free.len() + 1 >= self.slots && taken().filter(alive).count() + 1 >= self.slots
-    }
-
     /// Gives a process that was spawned its behaviour.
     pub(crate) fn admit<B: Behaviour>(
         &mut self,
@@ -630,29 +658,26 @@ impl Worker {
             let _ = self.noted(set);
         }
         let process = Process::new(behaviour, address.clone(), parent.pid());
-        let place = self.seat(Seat { pid, parent, told: GO_ON, crashed: false, actor: Some(Box::new(process)) });
-        if let Parent::Supervisor(_) = parent {
-            let slot = pid.slot as usize;
-            self.by_slot.resize(self.by_slot.len().max(slot + 1), usize::MAX);
-            self.by_slot[slot] = place;
-        }
+        self.seat(Seat { pid, parent, told: GO_ON, crashed: false, actor: Some(Box::new(process)) });
         address
     }
 
-    fn seat(&mut self, seat: Seat) -> usize {
-        // (so it is told the order, too)
-        self.retell();
-        let place = self.free.pop().unwrap_or(self.seats.len());
-        match self.seats.get_mut(place) {
-            Some(free) => *free = Some(seat),
-            None => self.seats.push(Some(seat)),
+    /// Looks for what is seldom there: what was lost, and whether the crew had no memory or no stamp for a process. It returns
+    /// whether the journal is full.
+    #[inline(never)]
+    fn look_over(&mut self) -> bool {
+        self.rounds = 0;
+        self.take_losses();
+        if self.crew.was_refused() && self.fault.is_none() {
+            self.fault = Some(Fault::Memory);
         }
-        place
+        self.desk().events_now() > self.hub.every
     }
 
     /// Whether all threads are to meet, of which this one tells the others if it wants to.
-    fn has_to_meet(&mut self) -> bool {
-        let full = self.desk().events_now() > self.hub.every;
+    fn has_to_meet(&mut self, was_idle: bool) -> bool {
+        self.rounds += 1;
+        let full = (was_idle || self.rounds >= self.most_rounds) && self.look_over();
         if full || self.fault.is_some() || self.hub.is_over() {
             self.hub.meet();
         }
@@ -664,8 +689,11 @@ impl Worker {
     fn meet(&mut self) -> bool {
         // (a crew goes on over another journal once it has told all exits that it knows of)
         if !self.whole {
-            self.step(self.crew.len() + 1, Some(self.hub.now()));
+            let now = self.read_clock();
+            self.step(self.crew.len() + 1, Some(now));
         }
+        // (the others may be long in coming)
+        self.serves = 0;
         let desk = self.desk.take().expect("a desk, outside of a meeting");
         let fault = self.fault.take();
         let hub = self.hub.clone();
@@ -693,7 +721,8 @@ impl Worker {
         // faster has put it since
         let epoch = self.hub.epochs();
         for slot in self.place().slots() {
-            let waiting: Vec<News> = desk.waiting(slot.pid()).into_iter().flatten().filter_map(news_of).collect();
+            let waiting: Vec<News> =
+                desk.waiting(slot.pid()).into_iter().flatten().filter_map(|item| news_of(&item)).collect();
             slot.keep_panics(epoch, &|news| waiting.contains(news));
         }
         self.desk = Some(desk);
@@ -714,6 +743,7 @@ impl Worker {
         let seats = || self.seats.iter().flatten().filter_map(|seat| seat.actor.as_ref());
         let owed = if self.place().drains() { seats().map(|actor| actor.owed()).sum() } else { 0 };
         self.place().rest(until.map(|at| self.hub.until(at)), owed);
+        self.serves = 0;
         self.place().has_room();
     }
 }
@@ -725,8 +755,8 @@ pub(crate) fn text_of(what: &(dyn Any + Send)) -> &str {
 }
 
 /// The news that an item is.
-pub(crate) fn news_of(item: Item) -> Option<News> {
-    match item {
+pub(crate) fn news_of(item: &Item) -> Option<News> {
+    match *item {
         Item::Down(monitor, ..) => Some(News::Down(monitor)),
         Item::Exit(pid, _) => Some(News::Exit(pid)),
         Item::User(..) | Item::Alive(..) => None,

@@ -301,9 +301,9 @@ impl World {
     }
 
     /// The time of the next timer, after now.
-    fn next_time(&self) -> Option<u64> {
+    fn next_time(&mut self) -> Option<u64> {
         let now = self.hub.of().now();
-        self.desks.iter().filter_map(Paces::next_time).filter(|&at| at > now).min()
+        self.desks.iter_mut().filter_map(Paces::next_time).filter(|&at| at > now).min()
     }
 
     /// Lets time go on until the next timer is due. It returns `false` if there is none.

@@ -10,7 +10,7 @@ use Rattle.pt_events.specs.Journal.{content, in_lane}
 use Rattle.pt_laws.specs.Laws.{LanesFly}
 use Rattle.pt_laws.specs.Load.{IsQuiet}
 use Rattle.pt_signal.proofs.Same.{same_pid_is, same_pid_refl}
-use Rattle.pt_signal.proofs.Firsts.{first_wider}
+use Rattle.pt_laws.proofs.Firsts.{first_wider}
 
 -- no lane has a letter in flight
 pub empty_is_quiet : (start : Start) (past : Past) → LanesFly start past (λ d e. []) → IsQuiet start past

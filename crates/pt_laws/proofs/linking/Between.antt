@@ -18,7 +18,7 @@ use Rattle.pt_signal.specs.Process.{ProcessState, fresh, Verdict, verdict, obey,
 use Rattle.pt_events.specs.History.{Past, Phase, unborn, living, ended, life, change, touches, newborn, linked, while_living, gets, leaves, live_or_end, is_between, got_sends, left_sends, end_sends}
 use Rattle.pt_events.specs.Counting.{one_if, count}
 use Rattle.pt_signal.proofs.Same.{same_pid_refl}
-use Rattle.pt_signal.proofs.Handling.{living_answer, handle_answer}
+use Rattle.pt_events.proofs.Handling.{living_answer, handle_answer}
 use Rattle.pt_events.proofs.Phases.{each_branch}
 use Rattle.pt_laws.proofs.linking.Entries.{Keyed, held-enter, held-enter-other, held-cut, held-cut-other, Keyed-enter, Keyed-cut, Keyed-removed}
 use Rattle.pt_laws.proofs.linking.Holding.{obey_links, down_links, exit_holds}

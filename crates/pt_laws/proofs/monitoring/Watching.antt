@@ -13,7 +13,7 @@ use Rattle.pt_events.specs.History.{Phase, unborn, living, ended, gets, live_or_
 use Rattle.pt_events.specs.Counting.{one_if, count}
 use Rattle.pt_laws.specs.Watch.{is_monitor, is_demonitor, is_open, keeps, opens_to, open_in, kept_in}
 use Rattle.pt_signal.proofs.Same.{same_pid_is, same_pid_refl}
-use Rattle.pt_signal.proofs.Handling.{living_answer, handle_answer}
+use Rattle.pt_events.proofs.Handling.{living_answer, handle_answer}
 use Rattle.pt_laws.proofs.monitoring.Counts.{carries, is_down, count-append, count-map, count-none, count_agree}
 use Rattle.pt_laws.proofs.monitoring.Downs.{opens}
 use Rattle.pt_laws.proofs.monitoring.Keeping.{kept_step, open_step}

@@ -19,7 +19,7 @@ use Rattle.pt_laws.specs.Load.{IsQuiet}
 use Rattle.pt_laws.specs.Watch.{said_to}
 use Rattle.pt_laws.specs.Asking.{is_question, is_answer}
 use Rattle.pt_signal.proofs.Same.{same_pid_is}
-use Rattle.pt_signal.proofs.Handling.{living_answer, handle_answer}
+use Rattle.pt_events.proofs.Handling.{living_answer, handle_answer}
 use Rattle.pt_events.proofs.Phases.{was_unborn, was_not_ended}
 use Rattle.pt_laws.proofs.monitoring.Counts.{carries, count-append, count-landed}
 use Rattle.pt_laws.proofs.monitoring.Watching.{map_none, estate_parts, got_living, and_comm}

@@ -17,7 +17,7 @@ use Rattle.pt_signal.specs.Values.{same_pid, same_ref}
 use Rattle.pt_signal.specs.Process.{ProcessState, verdict, obey, holds_any, held, link_exit, down, handle, Sent, sent, estate, bounce}
 use Rattle.pt_events.specs.History.{Past, Start, Phase, unborn, living, ended, is_living, life, alive, state, is_between, landed, flying, sent_by, got_sends, left_sends, end_sends, items_of, arrives, arrived_since, emitted, came, MaySay, May, IsLegal}
 use Rattle.pt_signal.proofs.Same.{same_pid_is}
-use Rattle.pt_signal.proofs.Handling.{living_answer, handle_answer}
+use Rattle.pt_events.proofs.Handling.{living_answer, handle_answer}
 use Rattle.pt_laws.specs.Asking.{IsAnswer}
 use Rattle.pt_laws.proofs.order.Flight.{between, between-append, landed_same, came_or_flies}
 use Rattle.pt_laws.proofs.order.Each.{Each, each-append, each-without, each-found, each-at, each-contains, each-map, each-weaker}

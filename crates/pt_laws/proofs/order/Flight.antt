@@ -11,7 +11,7 @@ use Rattle.pt_signal.specs.Values.{same_pid}
 use Rattle.pt_signal.specs.Process.{Sent, sent}
 use Rattle.pt_events.specs.History.{Past, Start, IsLegal, is_between, flying, all_sent, landed, sent_by, emitted, flight, came}
 use Rattle.pt_signal.proofs.Same.{same_pid_is}
-use Rattle.pt_signal.proofs.Firsts.{filter_first, filter_other}
+use Rattle.pt_laws.proofs.Firsts.{filter_first, filter_other}
 
 -- the signals from a to b among letters
 abbrev pub between : Pid → Pid → List Sent → List Signal

@@ -21,7 +21,7 @@ use Rattle.pt_events.specs.History.{Past, Start, Phase, unborn, living, ended, l
 use Rattle.pt_events.specs.Journal.{Journals, LanesAgree, Agrees, content, letter, events, letters, got, gots}
 use Rattle.pt_laws.specs.Sender.{body_of, message_of, messages, said_by, said_messages, user_of, users, came_by_when, came_when, IsSenderFront}
 use Rattle.pt_signal.proofs.Same.{same_pid_is}
-use Rattle.pt_signal.proofs.Handling.{living_answer, handle_answer}
+use Rattle.pt_events.proofs.Handling.{living_answer, handle_answer}
 use Rattle.pt_events.proofs.Phases.{was_unborn, was_not_ended}
 
 module _ (a p : Pid) where

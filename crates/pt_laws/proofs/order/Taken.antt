@@ -15,7 +15,7 @@ use Rattle.pt_events.specs.History.{Past, Start, Phase, unborn, living, ended, l
 use Rattle.pt_laws.specs.Acts.{ActsMayCome}
 use Rattle.pt_signal.proofs.Same.{same_pid_is}
 use Rattle.pt_events.proofs.Phases.{each_branch}
-use Rattle.pt_signal.proofs.Handling.{handle_queues}
+use Rattle.pt_events.proofs.Handling.{handle_queues}
 use Rattle.pt_events.proofs.Fields.{end_keeps, while_keeps, leaves_keeps, born_keeps, say_keeps}
 
 -- an arrival, and whether it was taken

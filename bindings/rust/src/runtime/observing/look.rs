@@ -12,6 +12,7 @@ use super::view::{DeskView, First, Look, Place, ProcessView, SilentDesk, Supervi
 use crate::crew::Next;
 use crate::{Desk, Pick, Pid, Reason};
 use std::collections::{HashMap, HashSet};
+use std::sync::Arc;
 use std::sync::atomic::Ordering::SeqCst;
 use std::sync::mpsc::{Receiver, RecvTimeoutError, sync_channel};
 use std::time::{Duration, Instant};
@@ -141,7 +142,7 @@ impl Handle {
 
 /// Asks all desks.
 fn ask(hub: &Hub, look: &Look) -> Vec<Receiver<Answer>> {
-    let asks = |place: &super::super::inbox::Place| {
+    let asks = |place: &Arc<super::super::inbox::Place>| {
         let ((give, get), look) = (sync_channel(1), *look);
         let work = move |worker: &mut Worker| _ = give.send(worker.look(&look));
         place.post(Task::Ask(Box::new(work)), Origin::Run);
@@ -195,6 +196,7 @@ impl Worker {
     /// What the desk is now.
     fn look(&mut self, look: &Look) -> Answer {
         self.record.times = true;
+        self.take_losses();
         let (processes, has_more) = self.page(look);
         let supervisors = self.tree(look.processes);
         Answer { desk: self.counts(), processes, has_more, supervisors }

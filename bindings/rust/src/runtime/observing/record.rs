@@ -29,14 +29,26 @@ impl Record {
     /// A process is told something. It returns when, if that is asked.
     #[inline]
     pub(crate) fn begin(&mut self, what: &What) -> Option<Instant> {
-        self.messages += u64::from(matches!(what, What::Item(item) if is_message(item)));
-        self.times.then(Instant::now)
+        if let What::Item(item) = what { self.begin_item(item) } else { self.begin_other() }
     }
 
     /// The same of a letter.
     #[inline]
     pub(crate) fn begin_letter(&mut self) -> Option<Instant> {
         self.messages += 1;
+        self.begin_other()
+    }
+
+    /// The same of an item.
+    #[inline]
+    pub(crate) fn begin_item(&mut self, item: &Item) -> Option<Instant> {
+        self.took(item);
+        self.begin_other()
+    }
+
+    /// The same of something that is no item.
+    #[inline]
+    pub(crate) fn begin_other(&mut self) -> Option<Instant> {
         self.times.then(Instant::now)
     }
 

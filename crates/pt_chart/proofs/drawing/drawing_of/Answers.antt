@@ -6,7 +6,7 @@ use Rattle.pt_chart.proofs.Writing.{text_as}
 use Rattle.pt_chart.proofs.drawing.drawing_of.Goals as goal
 
 pub returns : goal.returns
-returns c =
+returns g c =
     let events = c.args.events.now in
     let layout = c.args.layout.now in
     let called = map called_given c.args.called.now in

@@ -4,5 +4,5 @@ use Rattle.pt_chart.specs.Drawing.{drawing_text}
 use Rattle.pt_chart.proofs.drawing.text_of.Goals as goal
 
 pub returns-in-Ok : goal.returns-in-Ok
-returns-in-Ok c =
+returns-in-Ok g c =
     c.in-Ok.ensures ∙ ap (λ z. z ++ drawing_text c.args.page.now (map (λ n. n.now) c.args.names.now) c.args.parts.now) c.new-text.ensures.bytes

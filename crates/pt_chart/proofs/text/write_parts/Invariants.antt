@@ -6,4 +6,4 @@ use Rattle.pt_chart.specs.Text.{part_text}
 use Rattle.pt_chart.proofs.text.write_parts.Given as goal
 
 abbrev pub invariant-loop-part : goal.invariant-loop-part
-invariant-loop-part l = string_bytes l.text ≡ string_bytes l.fn.text ++ flat_map (part_text l.page (map (λ n. n.now) l.names)) (take l.part-index l.parts)
+invariant-loop-part g l = string_bytes l.text ≡ string_bytes l.fn.text ++ flat_map (part_text l.page (map (λ n. n.now) l.names)) (take l.part-index l.parts)

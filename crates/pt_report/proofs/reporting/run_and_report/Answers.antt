@@ -42,8 +42,8 @@ returns-in-Json-clause-text g c =
 pub returns-in-Chart-clause-text : goal.returns-in-Chart-clause-text
 returns-in-Chart-clause-text g c =
     let node = c.in_ok-gathered.ensures.node in
-    let run : IsRun (c.args.options.now.epochs - 1) c.args.options.now c.in_ok-read.read node.0 c.in_ok-gathered.gathered c.as_slice-in-Chart.result.now = (node.1.0, node.1.1 ∙ sym c.as_slice-in-Chart.ensures.value) in
-    chart_reported g.W.Write.contents c.print_chart.result c.args.script.now c.args.options.now c.in_ok-read.read node.0 c.in_ok-gathered.gathered c.as_slice-in-Chart.result.now c.args.out.now c.run_script.new.out c.print_chart.new.out c.run_script.new.kept.items c.in_ok-read.ensures run node.2 c.in-Chart.is c.print_chart.ensures.text c.in_ok-gathered.behind node.3
+    let run : IsRun (c.args.options.now.epochs - 1) c.args.options.now c.in_ok-read.read node.0 c.in_ok-gathered.gathered c.as_slice-staff.result.now = (node.1.0, node.1.1 ∙ sym c.as_slice-staff.ensures.value) in
+    chart_reported g.W.Write.contents c.print_chart.result c.args.script.now c.args.options.now c.in_ok-read.read node.0 c.in_ok-gathered.gathered c.as_slice-staff.result.now c.args.out.now c.run_script.new.out c.print_chart.new.out c.run_script.new.kept.items c.in_ok-read.ensures run node.2 c.in-Chart.is c.print_chart.ensures.text c.in_ok-gathered.behind node.3
 
 pub returns-in-Steps-clause-untouched : goal.returns-in-Steps-clause-untouched
 returns-in-Steps-clause-untouched g c =
@@ -57,5 +57,5 @@ returns-in-Steps-clause-text g c =
 pub returns-clause-text : goal.returns-clause-text
 returns-clause-text g c =
     let node = c.in_ok-gathered.ensures.node in
-    let run : IsRun (c.args.options.now.epochs - 1) c.args.options.now c.in_ok-read.read node.0 c.in_ok-gathered.gathered c.as_slice-in-Page.result.now = (node.1.0, node.1.1 ∙ sym c.as_slice-in-Page.ensures.value) in
-    page_reported g.W.Write.contents c.print_page.result c.args.script.now c.args.options.now c.in_ok-read.read node.0 c.in_ok-gathered.gathered c.as_slice-in-Page.result.now c.args.out.now c.run_script.new.out c.print_page.new.out c.run_script.new.kept.items c.in_ok-read.ensures run node.2 c.in-Page.is c.print_page.ensures.text c.in_ok-gathered.behind node.3
+    let run : IsRun (c.args.options.now.epochs - 1) c.args.options.now c.in_ok-read.read node.0 c.in_ok-gathered.gathered c.as_slice-staff.result.now = (node.1.0, node.1.1 ∙ sym c.as_slice-staff.ensures.value) in
+    page_reported g.W.Write.contents c.print_page.result c.args.script.now c.args.options.now c.in_ok-read.read node.0 c.in_ok-gathered.gathered c.as_slice-staff.result.now c.args.out.now c.run_script.new.out c.print_page.new.out c.run_script.new.kept.items c.in_ok-read.ensures run node.2 c.in-Page.is c.print_page.ensures.text c.in_ok-gathered.behind node.3
