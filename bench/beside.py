@@ -34,6 +34,8 @@ PAIRS = 64
 SHAPES = {"own": "in pairs of one desk", "all": "between one desk and the next"}
 DESKS = (1, 2, 4)
 MESSAGES = 1_000_000
+# How many items wait for a process that calls, and how often it calls then: about as long each time.
+WAITING = {0: 400_000, 1_000: 200_000, 10_000: 20_000, 100_000: 2_000}
 # After how many events the node goes on: the runtime's own number, and a small one.
 EVERY = (100_000, 10_000)
 
@@ -44,6 +46,10 @@ class Workload(NamedTuple):
     word: str
     times: int
     many: int = 1
+
+# What a process does behind items that wait.
+CALLER = {"a call": Workload("called", 1), "a spawn and its DOWN": Workload("down", 1)}
+ERLANG_CALLER = {"a call": Workload("call", 1), "a spawn and its DOWN": Workload("spawn", 1)}
 
 
 class Program(NamedTuple):
@@ -161,6 +167,22 @@ def desks_table(runtime: list[str], rounds: int) -> str:
     return text
 
 
+def waiting_table(programs: list[Program], rounds: int) -> str:
+    """What a call and a DOWN take behind items that wait."""
+    asked = [(it, row, items) for it in programs for row in it.workloads for items in WAITING]
+    commands = [[*it.words, it.workloads[row].word, str(fold * WAITING[items] * it.workloads[row].many), str(items)]
+                for fold in (1, 2) for it, row, items in asked]
+    costs = least(commands, rounds)
+    once, twice = costs[:len(asked)], costs[len(asked):]
+    micros = {(it.name, row, items): (more.processor - few.processor) / WAITING[items] / it.workloads[row].many * 1e6
+              for (it, row, items), few, more in zip(asked, once, twice)}
+    text = f"| Items that wait | {' | '.join(f'{it:,}' for it in WAITING)} |\n|---|{'---|' * len(WAITING)}\n"
+    for it in programs:
+        for row in it.workloads:
+            text += f"| {it.name}: {row} | {' | '.join(f'{micros[it.name, row, items]:.2f}' for items in WAITING)} |\n"
+    return text
+
+
 def section(library: Path, rounds: int) -> str:
     """The section of RESULTS.md, from its heading on."""
     os.environ.update(PUNDEWO_SO=str(library / "lib" / "libpundewo.so"), PYTHONPATH=str(ROOT / "bindings" / "python"),
@@ -173,11 +195,17 @@ def section(library: Path, rounds: int) -> str:
         programs = [*cargo, c(library, room), *python(), *erlang(room)]
         first, before = table(programs, rounds), os.getloadavg()[0]
         second = desks_table(cargo[0].words, rounds) if cargo else ""
+        third = waiting_table([Program("A desk", [str(room / "calls")], CALLER),
+                               *(it._replace(workloads=ERLANG_CALLER) for it in programs if it.name == "Erlang")], rounds)
     return (f"{HEADING}\n{date.today():%-d %B %Y}, beside other work (load {before:.0f} on {os.cpu_count()} processors), over "
             f"a library {proved}. `bench/beside.py` wrote this section: microseconds of a processor for one of each, the least "
             f"of {rounds} rounds in which the programs took turns. A call is one with its answer, a spawn one with the exit "
             "and the `DOWN`, and a restart that of a supervisor's child. Only Pundewo's have a journal.\n\n"
-            f"{first}\nRust's runtime on several desks, with 64 processes on each, in the same way:\n\n{second}\n")
+            f"{first}\nRust's runtime on several desks, with 64 processes on each, in the same way:\n\n{second}\n"
+            "A process that calls another one, or that spawns and monitors one and waits for its `DOWN`, while so many items wait "
+            "for it, in microseconds. On a desk a call is `monitor`, two messages, `receive` by the sender, and `demonitor`; "
+            "in Erlang it is `gen_server:call`. A crew, and the runtimes above it, take each item in turn and walk nothing.\n\n"
+            f"{third}\n")
 
 
 def write(written: str) -> None:

@@ -1,12 +1,18 @@
-%% erl -noshell -s beside main WORKLOAD TIMES: does a workload so many times between Erlang's processes, and prints nothing.
+%% erl -noshell -s beside main WORKLOAD TIMES [WAITING]: does a workload so many times between Erlang's processes, and prints
+%% nothing. So many messages wait for the process that calls or spawns.
 %% `bench/beside.py` measures it.
 -module(beside).
 -behaviour(gen_server).
 -export([main/1, init/1, handle_call/3, handle_cast/2]).
 
 main([Workload, Times]) ->
-    do(Workload, list_to_integer(atom_to_list(Times))),
-    halt(0).
+    do(Workload, number(Times)),
+    halt(0);
+main([Workload, Times, Waiting]) ->
+    [self() ! {waits, It} || It <- lists:seq(1, number(Waiting))],
+    main([Workload, Times]).
+
+number(Word) -> list_to_integer(atom_to_list(Word)).
 
 do(message, Times) ->
     Me = self(),
