@@ -75,9 +75,11 @@ def build(place: Path, name: str) -> None:
         raise Fault(f"no program '{name}' in crates.txt or bench/rattle/crates")
     tools: Path = check.kit()
     objects, to = place / f"{name}.o", ROOM / "bin" / name
-    words: list[str] = check.command(listed, name, ["--build"])
-    at = words.index("--statements")
-    run([*words[:at], "-o", str(objects), "--toolchain", f"{tools}/toolchain"], place / "crates" / name)
+    words: list[str] = check.compiler_words(listed, name)
+    run(
+        [f"{tools}/bin/rattle", "build", *words, "-o", str(objects), "--toolchain", f"{tools}/toolchain"],
+        place / "crates" / name,
+    )
     to.parent.mkdir(exist_ok=True)
     run(
         [

@@ -2,7 +2,8 @@
 """Checks crates over libraries that were proved before, and keeps what it proved for the next time.
 
     tools/check.py CRATE [--only FUNCTION].. [FLAG..]   checks the crate, or these functions (pt_desk::desk::Desk::link)
-    tools/check.py CRATE --build                        proves the crate and makes its library for the crates above it
+    tools/check.py CRATE --build                        proves the crate and makes its library for the crates above it: in half a
+                                                        minute behind a check, of which it keeps what was proved
     tools/check.py --all [--jobs N] [CRATE..]           proves what is not proved yet as it is now: of all crates, or of these
                                                         and of those below them, N side by side
 
@@ -111,12 +112,11 @@ def compiler_words(listed: dict[str, list[str]], crate: str, other: Path = OTHER
 def command(listed: dict[str, list[str]], crate: str, flags: list[str]) -> list[str]:
     """The compiler's command for a check, or for making the library."""
     folder = OWN / crate / "out" / "check"
+    (folder / "kept").mkdir(parents=True, exist_ok=True)
+    kept = ["--incremental", str(folder / "kept")]
+    how = "check"
     if "--build" in flags:
-        kept = ["--statements", "-o", str(folder / f"{crate}.rlib")]
-    else:
-        (folder / "kept").mkdir(parents=True, exist_ok=True)
-        kept = ["--incremental", str(folder / "kept")]
-    how = "build" if "--build" in flags else "check"
+        how, kept = "build", [*kept, "-o", str(folder / f"{crate}.rlib")]
     rest = [it for it in flags if it != "--build"]
     return [f"{kit()}/bin/rattle", how, *compiler_words(listed, crate), *kept, *rest]
 
