@@ -349,6 +349,11 @@ static void put_metrics(world *w, FILE *to) {
     for (int k = 0; k < FACTS; k++)
         fprintf(to, "# HELP %s %s\n# TYPE %s %s\n%s{desk=\"0\"} %" PRIu64 "\n", facts[k].name, facts[k].about, facts[k].name,
             facts[k].type, facts[k].name, facts[k].value);
+    fprintf(to,
+        "# HELP pundewo_longest_handler_seconds The longest run of a handler.\n# TYPE pundewo_longest_handler_seconds gauge\n"
+        "pundewo_longest_handler_seconds{desk=\"0\"} %.6f\n"
+        "# HELP pundewo_desk_up Whether the desk answered in time.\n# TYPE pundewo_desk_up gauge\npundewo_desk_up{desk=\"0\"} 1\n",
+        w->longest_time);
 }
 
 /* What a clerk or a runner says of itself. */
