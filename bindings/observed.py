@@ -2,6 +2,7 @@
 """Looks at the page of a run while a program runs under load, as those do who watch it, and as bad clients do.
 
     bindings/observed.py COMMAND..
+    bindings/observed.py --unsupervised COMMAND..     the run has no supervisor
 
 COMMAND prints the address of the page first, on either output, and its status is 0 if it has lost nothing. Meanwhile its state
 and counts are asked for, and slow and bad clients take connections. What is counted may only grow. If chromium is on the
@@ -197,7 +198,12 @@ class Browser:
         self.asked: set[str] = set()
         targets = self.ask("Target.getTargets")["targetInfos"]
         page = next(it["targetId"] for it in targets if it["type"] == "page")
-        self.tab: Optional[str] = self.ask("Target.attachToTarget", targetId=page, flatten=True)["sessionId"]
+        self.tab: Optional[str] = None
+        self.enter(page)
+
+    def enter(self, page: str) -> None:
+        """A session with this page."""
+        self.tab = self.ask("Target.attachToTarget", targetId=page, flatten=True)["sessionId"]
         for domain in ("Page", "Runtime", "Network"):
             self.tell(f"{domain}.enable")
 
@@ -252,7 +258,7 @@ class Browser:
         path.write_bytes(base64.b64decode(self.tell("Page.captureScreenshot", format="png")["data"]))
 
 
-def see(program: Program, browser: Browser) -> str:
+def see(program: Program, browser: Browser, supervisors: bool) -> str:
     """Looks at what the page shows, which the browser has opened."""
     try:
         browser.until("document.readyState === 'complete'")
@@ -263,7 +269,8 @@ def see(program: Program, browser: Browser) -> str:
             browser.until("document.readyState === 'complete'")
         browser.until("!!window.seen && window.seen() !== null")
         browser.until("document.querySelectorAll('#processes tbody tr').length > 0 && window.seen().desks.length > 0")
-        browser.until("document.querySelectorAll('#supervisors tbody tr').length > 1")
+        if supervisors:
+            browser.until("document.querySelectorAll('#supervisors tbody tr').length > 1")
         browser.run("document.querySelector('#processes tbody button').click()")
         browser.until("!document.getElementById('one').hidden && document.querySelectorAll('#one dt').length >= 1")
         browser.run("document.getElementById('find').value = 'no such name'; document.getElementById('find').oninput()")
@@ -288,10 +295,10 @@ def see(program: Program, browser: Browser) -> str:
 
 
 def main() -> int:
-    chromium, fault = shutil.which("chromium"), ""
+    chromium, fault, supervisors = shutil.which("chromium"), "", sys.argv[1] != "--unsupervised"
     # (before the program, which may be over soon)
     browser = Browser(chromium) if chromium else None
-    program = Program(sys.argv[1:])
+    program = Program(sys.argv[1 if supervisors else 2 :])
     found = ""
     try:
         if browser:
@@ -306,7 +313,7 @@ def main() -> int:
     for thread in threads:
         thread.start()
     try:
-        seen = see(program, browser) if browser else "no chromium: the page was not opened (apt-get install chromium)"
+        seen = see(program, browser, supervisors) if browser else "no chromium: the page was not opened (apt-get install chromium)"
     except Fault as what:
         seen, fault = "", fault or str(what)
     # (so all are there for a while)

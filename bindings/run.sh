@@ -276,9 +276,12 @@ done
 [ -e "$work/exchange.000001.000002" ] || { echo "rust: the history has one file"; exit 1; }
 echo "rust: the telephone exchange passed"
 
-# The same while its page is looked at, by slow and bad clients, too, and in a browser if there is one: nothing is lost
+# The exchange and the chat while their pages are looked at, by slow and bad clients, too, and in a browser if there is one:
+# nothing is lost
 timeout 300 "$here/observed.py" "$chat/exchange" "$work/observed.history" 8000
 "$here/../bin/pt_audit" "$work/observed.history"
+timeout 300 "$here/observed.py" --unsupervised "$chat/chat_load" "$chat/chat" "$work/observed_chat.history" 40 10 20 10 watched
+"$here/../bin/pt_audit" "$work/observed_chat.history"
 timeout 300 "$here/observed.py" "$chat/many" "$work/many.history" 20000 "$watched"
 "$here/../bin/pt_audit" "$work/many.history"
 "$here/../.ci/bounded" 120 "$chat/pages" "$work/pages.history" 20000 2
@@ -320,6 +323,8 @@ echo "python: tests passed"
 (cd "$here/python" && PYTHONPATH=. timeout 300 "$here/bad_clients.py" python3 examples/chat.py)
 echo "python: the chat server passed"
 (cd "$here/python" && PYTHONPATH=. timeout 300 "$here/observed.py" python3 -u examples/watched.py 20)
+(cd "$here/python" && PYTHONPATH=. timeout 300 "$here/observed.py" --unsupervised python3 -u examples/chat_load.py --watched \
+    --connections 40 --crashing 10 --rate 10 --seconds 20)
 (cd "$here/python" && PYTHONPATH=. timeout 300 "$here/observed.py" python3 -u examples/many.py 20000 "$watched")
 echo "python: the runs that are watched passed"
 python3 -m venv "$work/venv"

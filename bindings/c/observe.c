@@ -18,7 +18,7 @@
 #include "pundewo.h"
 #include "pundewo_text.h"
 
-enum { CLERKS = 4, RUNNER = CLERKS, SUPERVISOR, BALL = 1, BALLS = 64, FIRST = 8, PAGE = 1000, JOBS = 256, EPOCH = 200000 };
+enum { CLERKS = 4, RUNNER = CLERKS, SUPERVISOR, OWNER, BALL = 1, BALLS = 64, FIRST = 8, PAGE = 1000, JOBS = 256, EPOCH = 200000 };
 
 typedef struct world {
     pt_desk desk;
@@ -211,13 +211,21 @@ static void put_next(world *w, FILE *to, pt_pid p) {
     else fputs("\",\"time_left\":null,", to);
 }
 
+/* The process that spawned it: the owner the supervisor, and that one its clerks. */
+static void put_parent(world *w, FILE *to, uint64_t tag) {
+    fputs(",\"parent\":", to);
+    if (tag <= SUPERVISOR && tag != RUNNER) put_pid(to, tag == SUPERVISOR ? w->owner : w->supervisor);
+    else fputs("null", to);
+}
+
 static void put_process(world *w, FILE *to, pt_pid p) {
-    uint64_t tag;
+    uint64_t tag = OWNER;
     bool traps = false, is_owner = pt_crew_tag(&w->crew, p, &tag) != PT_OK;
     assert(pt_traps(&w->desk, p, &traps) == PT_OK);
     fputs("{\"pid\":", to);
     put_pid(to, p);
-    fprintf(to, ",\"behaviour\":\"%s\",\"parent\":null,\"names\":[],", is_owner ? "owner" : behaviour(tag));
+    put_parent(w, to, tag);
+    fprintf(to, ",\"behaviour\":\"%s\",\"names\":[],", is_owner ? "owner" : behaviour(tag));
     put_next(w, to, p);
     put_mailbox(w, to, p);
     for (int kind = 0; kind < 3; kind++) put_peers(w, to, kind, p);
@@ -341,6 +349,11 @@ static void put_metrics(world *w, FILE *to) {
     for (int k = 0; k < FACTS; k++)
         fprintf(to, "# HELP %s %s\n# TYPE %s %s\n%s{desk=\"0\"} %" PRIu64 "\n", facts[k].name, facts[k].about, facts[k].name,
             facts[k].type, facts[k].name, facts[k].value);
+    fprintf(to,
+        "# HELP pundewo_longest_handler_seconds The longest run of a handler.\n# TYPE pundewo_longest_handler_seconds gauge\n"
+        "pundewo_longest_handler_seconds{desk=\"0\"} %.6f\n"
+        "# HELP pundewo_desk_up Whether the desk answered in time.\n# TYPE pundewo_desk_up gauge\npundewo_desk_up{desk=\"0\"} 1\n",
+        w->longest_time);
 }
 
 /* What a clerk or a runner says of itself. */

@@ -5,9 +5,9 @@
 
 It makes the histories with bin/pt_run and the pages with `--print page` of bin/pt_audit and bin/pt_run.
 Compared are the text of each event, what each process is at many events (`pt_audit --print summary` of the history up to
-there), and all that the processes hold at the end (`pt_audit --save`). Keys, clicks, filters, names, the address and both
-themes are tried, and a page of a history at fault. A page may ask for nothing but itself. Of ten thousand events it measures
-the loading, and each frame of a scroll and of many steps.
+there), and all that the processes hold at the end (`pt_audit --save`). Keys, clicks, drags, filters, names, the address and
+both themes are tried, and a page of a history at fault. A page may ask for nothing but itself, and its policy refuses more.
+Of ten thousand events it measures the loading, and each frame of a scroll and of many steps.
 
 Without Chromium it compares the page's source alone, and says so. The last line is 'N passed, M failed'. --shots keeps
 pictures.
@@ -119,6 +119,14 @@ class Page(Browser):
         self.tell("Emulation.setDeviceMetricsOverride", width=1400, height=900, deviceScaleFactor=1, mobile=False)
         self.tell("Performance.enable", timeDomain="threadTicks")
 
+    def begin_anew(self) -> None:
+        """A new session, in which the processor's time counts from 0. A page that is opened may get a process of its own, in
+        which it begins at 0 too: so what is counted in a new session is that of the page alone."""
+        target = next(it["targetId"] for it in self.ask("Target.getTargets")["targetInfos"] if it["type"] == "page")
+        self.ask("Target.detachFromTarget", sessionId=self.tab)
+        self.enter(target)
+        self.tell("Performance.enable", timeDomain="threadTicks")
+
     def open(self, text: str, place: str = "") -> None:
         path = self.work / "page.html"
         path.write_text(text)
@@ -142,6 +150,10 @@ class Page(Browser):
     def click(self, x: float, y: float) -> None:
         for kind in ("mousePressed", "mouseReleased"):
             self.tell("Input.dispatchMouseEvent", type=kind, x=x, y=y, button="left", buttons=1, clickCount=1)
+
+    def drag(self, begin: tuple[int, int], end: tuple[int, int]) -> None:
+        for kind, (x, y), buttons in (("mousePressed", begin, 1), ("mouseMoved", end, 1), ("mouseReleased", end, 0)):
+            self.tell("Input.dispatchMouseEvent", type=kind, x=x, y=y, button="left", buttons=buttons, clickCount=1)
 
     def fill(self, field: str, value: str) -> None:
         self.run(f"document.getElementById('{field}').value = {json.dumps(value)};"
@@ -179,6 +191,19 @@ class Page(Browser):
 HELD = """(at => [...page.stateAt(at)].filter(([pid, it]) => it.alive).map(([pid, it]) => [`lives ${pid} traps ${it.traps ? 'yes' : 'no'}`,
   ...it.box.map(item => 'waits ' + page.itemText(item)), ...[...it.links].map(([peer, ids]) => `linked ${peer} ${ids.join('+')}`),
   ...[...it.watches].map(([ref, peer]) => `watches ${ref} ${peer}`), ...[...it.watched].map(([ref, peer]) => `watched ${ref} ${peer}`)]))"""
+
+
+SCROLL = "document.getElementById('scroll')"
+# It asks for a file, a picture, a script and a style, and returns which rules of the policy refused that.
+ASKS = """new Promise(done => {
+  const refused = new Set();
+  document.addEventListener('securitypolicyviolation', event => refused.add(event.violatedDirective));
+  fetch('http://127.0.0.1:9/').catch(() => {});
+  new Image().src = 'http://127.0.0.1:9/picture.png';
+  document.body.appendChild(document.createElement('script')).textContent = 'window.evil = 1';
+  document.body.appendChild(document.createElement('p')).setAttribute('style', 'color: red');
+  setTimeout(() => done([...refused].sort()), 200);
+})"""
 
 
 class Tests:
@@ -273,6 +298,34 @@ class Tests:
         page.still()
         return "as they should be"
 
+    def moves(self) -> str:
+        """Buttons and keys make the rows larger and smaller, a drag moves them, and the heads stay."""
+        page, sizes = self.page, []
+        for press in ("larger", "smaller"):
+            sizes.append(page.run(f"{SCROLL}.scrollHeight"))
+            page.run(f"document.getElementById('{press}').click()")
+        sizes.append(page.run(f"{SCROLL}.scrollHeight"))
+        for key in ("-", "+"):
+            page.key(key)
+            sizes.append(page.run(f"{SCROLL}.scrollHeight"))
+        same("what is larger", [sizes[1] > sizes[0], sizes[2] == sizes[0], sizes[3] < sizes[0], sizes[4] == sizes[0]], [True] * 4)
+        heads = page.run("document.getElementById('heads').getBoundingClientRect().top")
+        before = page.run(f"[{SCROLL}.scrollTop, {SCROLL}.scrollLeft]")
+        page.drag((800, 600), (600, 420))
+        after = page.run(f"[{SCROLL}.scrollTop, {SCROLL}.scrollLeft]")
+        same("how far a drag moves it", [after[0] - before[0], after[1] - before[1]], [180, 200])
+        same("where the heads are", page.run("document.getElementById('heads').getBoundingClientRect().top"), heads)
+        page.run(f"{SCROLL}.scrollTo(0, 0)")
+        page.still()
+        return "the rows are larger and smaller, and are dragged below the heads"
+
+    def policy(self) -> str:
+        """What a script of the page asks for is refused by the page's own policy."""
+        refused = self.page.run(ASKS)
+        same("what is refused", refused, ["connect-src", "img-src", "script-src-elem", "style-src-attr"])
+        self.page.asked.clear()
+        return f"refuses {len(refused)} kinds of what a script asks for"
+
     def filters(self, history: Path, count: int) -> str:
         """What the filters leave, against what the auditor prints."""
         page, pid = self.page, self.page.run("page.events[0].pid")
@@ -354,10 +407,9 @@ class Tests:
         while runs < LEAST_RUNS or (runs < MOST_RUNS and (load > MOST_LOAD * slower or max(frames) > MOST_FRAME * slower)):
             self.page.open("<!doctype html><body><script>window.page = 1</script>")
             pace = min(pace, *(self.page.pace() for _ in range(5)))
-            before = self.page.processor()
+            self.page.begin_anew()
             self.page.open(text)
-            after = self.page.processor()
-            load = min(load, after - before if after > before else after)
+            load = min(load, self.page.processor())
             self.page.run(f"Array.from({{ length: {20_000 * runs} }}, (_, k) => ({{ k }})).length")
             run = self.page.frames(MOVES)
             same("the frames of a run", len(run), FRAMES)
@@ -443,7 +495,9 @@ def run_all(tests: Tests) -> None:
     tests.page.open(text)
     tests.try_out("a history", lambda: tests.compare(small, 40))
     tests.try_out("keys", lambda: tests.keys(count))
+    tests.try_out("zoom and drag", tests.moves)
     tests.try_out("filters", lambda: tests.filters(small, count))
+    tests.try_out("the policy", tests.policy)
     tests.try_out("themes", tests.themes)
     tests.try_out("the address", lambda: tests.address(text))
     tests.try_out("a fault", lambda: tests.fault(small))

@@ -279,7 +279,7 @@ async def main() -> None:
 
         for name in (signal.SIGTERM, signal.SIGINT):
             loop.add_signal_handler(name, stop)
-        print(f"{host}:{port}", flush=True)
+        print(f"{host}:{port}\n{runtime.observe()}", flush=True)
         summary = await runtime.ended()
         server.close()
     await counting

@@ -2,10 +2,12 @@
 a second and come again, and looks that nothing is lost and nothing comes out of order.
 
     python3 examples/chat_load.py [--connections 200] [--crashing 20] [--rate 20] [--seconds 20] [--rooms 20]
-        [--archive HISTORY]
+        [--archive HISTORY] [--watched]
 
 All who stay hear each line of their room, each speaker's in order, and each crash once. The program is told of each crash
-once. The server rests while nobody talks, and its memory stays. What it takes is printed while it works.
+once. The server rests while nobody talks, and its memory stays. What it takes is printed while it works. With --watched others
+look at the server's page meanwhile: its address is printed first, and the server's time is not judged, since the looks take some
+of it.
 """
 
 from __future__ import annotations
@@ -41,6 +43,8 @@ class Server:
         self.lines = self.process.stdout
         self.host, port = self.lines.readline().strip().split(":")
         self.port = int(port)
+        # (the address of its page)
+        print(self.lines.readline().strip(), flush=True)
 
     def taken(self) -> float:
         """The seconds of processor time that it took."""
@@ -216,6 +220,7 @@ async def main() -> None:
     words.add_argument("--seconds", type=float, default=20.0)
     words.add_argument("--rooms", type=int, default=20)
     words.add_argument("--archive")
+    words.add_argument("--watched", action="store_true")
     given = words.parse_args()
     server = Server(given.rooms, given.archive)
     try:
@@ -229,7 +234,7 @@ async def main() -> None:
     told = f"told of {crashes} crashes of {crashes} processes, 0 messages waited, "
     if not said.startswith(told) or f" crashes={crashes}," not in said:
         raise AssertionError(f"the server was not {told}")
-    if idle > IDLE_SHARE:
+    if idle > IDLE_SHARE and not given.watched:
         raise AssertionError("the server does not rest")
     if given.seconds >= LONG and memory[-1] > memory[len(memory) // 4] * GROWTH:
         raise AssertionError("the memory of the server grows")

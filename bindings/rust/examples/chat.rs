@@ -261,6 +261,8 @@ fn main() -> Result<(), Box<dyn std::error::Error>> {
     let rooms = Arc::new((0..20).map(room).collect::<Result<Vec<_>, _>>()?);
     let listener = TcpListener::bind(("127.0.0.1", port.parse()?))?;
     println!("{}", listener.local_addr()?);
+    let observer = runtime.observe(0)?;
+    println!("{observer}");
     let (handle, open) = (runtime.handle(), Arc::default());
     std::thread::spawn(move || {
         for stream in listener.incoming() {
