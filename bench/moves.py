@@ -42,17 +42,29 @@ def script(many: int, messages: int, ring: bool) -> dict[str, object]:
 
 
 def explored(program: str, file: Path, jobs: int) -> tuple[str, float, float, int]:
-    """What the program prints, the seconds of the clock and of the processors, and the most kilobytes of any run so far."""
-    before, begun = resource.getrusage(resource.RUSAGE_CHILDREN), time.monotonic()
-    ran = subprocess.run([program, "--order", "table", "--jobs", str(jobs), str(file)], stdout=subprocess.PIPE, text=True, check=True)
-    took, after = time.monotonic() - begun, resource.getrusage(resource.RUSAGE_CHILDREN)
-    return ran.stdout, took, after.ru_utime + after.ru_stime - before.ru_utime - before.ru_stime, after.ru_maxrss
+    """What the program prints, the processor's seconds of all threads and of its first one, and the most kilobytes that it had."""
+    first, most, before = 0.0, 0, resource.getrusage(resource.RUSAGE_CHILDREN)
+    words = [program, "--order", "table", "--jobs", str(jobs), str(file)]
+    with tempfile.TemporaryFile("w+") as told, subprocess.Popen(words, stdout=told) as ran:
+        while ran.poll() is None:
+            try:
+                first = int(Path(f"/proc/{ran.pid}/task/{ran.pid}/schedstat").read_text().split()[0]) / 1e9
+                peak = re.search(r"VmHWM:\s+(\d+)", Path(f"/proc/{ran.pid}/status").read_text())
+                most = int(peak[1]) if peak else most
+            except (OSError, IndexError):
+                pass
+            time.sleep(0.005)
+        told.seek(0)
+        text = told.read()
+    if ran.returncode != 0:
+        raise SystemExit(f"{file}: status {ran.returncode}")
+    after = resource.getrusage(resource.RUSAGE_CHILDREN)
+    return text, after.ru_utime + after.ru_stime - before.ru_utime - before.ru_stime, first, most
 
 
 def rows(program: str, jobs: int, most: int, folder: Path) -> list[str]:
     """The table."""
-    lines = [f"| Script | States | Schedules | Seconds of 1 | its processor's | Seconds of {jobs} | their processors' | Kilobytes |",
-             "|---" * 8 + "|"]
+    lines = [f"| Script | States | Schedules | 1 thread | {jobs} threads | Of the first of them | Kilobytes |", "|---" * 7 + "|"]
     for many, messages, ring, states in SCRIPTS:
         if states > most:
             continue
@@ -65,7 +77,7 @@ def rows(program: str, jobs: int, most: int, folder: Path) -> list[str]:
         count = int(head[1])
         told = f"{count:,}" if count < 10**14 else f"{count / 10 ** (len(head[1]) - 1):.1f} * 10^{len(head[1]) - 1}"
         name = f"a ring of {many}, one message each" if ring else f"{many} processes, {messages} messages each"
-        lines.append(f"| {name} | {int(head[2]):,} | {told} | {one[1]:.2f} | {one[2]:.2f} | {several[1]:.2f} | {several[2]:.2f} "
+        lines.append(f"| {name} | {int(head[2]):,} | {told} | {one[1]:.2f} | {several[1]:.2f} | {several[2]:.2f} "
                      f"| {max(one[3], several[3]):,} |")
     return lines
 
@@ -79,8 +91,9 @@ def section(program: str, jobs: int, most: int) -> str:
     return "\n".join([
         HEADING, f"{today}, beside other work (load {before:.0f} before and {os.getloadavg()[0]:.0f} after it), with "
         f"{len(os.sched_getaffinity(0))} processors: `pt_explore --order table --jobs N`, built without proofs, one run each. "
-        "`bench/moves.py` wrote this section. It has the seconds of the clock, and beside them those of the processors. The last "
-        "column has the most memory of any run so far.", "", *table, "", "",
+        "`bench/moves.py` wrote this section, in seconds of the processor. The first thread asks for its share and joins what all found, so "
+        "its seconds are what the clock shows where as many processors are free. The last column has the most memory of the two runs.",
+        "", *table, "", "",
     ])
 
 

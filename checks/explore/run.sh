@@ -51,11 +51,11 @@ for name in mended_first race race_all race_budget race_chart race_either race_f
     done
 done
 
-# So it is where they share the states that as many moves lead to. In wide.json three processes send each other three messages,
-# and up to some hundred states are reached by as many moves. In wide_full.json a spawn finds its desk full, in many states.
+# So it is where they share the states that as many moves lead to. In wide.json three processes send each other messages, and
+# hundreds of states are reached by as many moves.
 for name in erlang_causal erlang_limit erlang_reduced erlang_wide moves_chart moves_cross moves_history moves_limit moves_limit_exact \
     moves_one moves_race moves_reduced moves_reduced_limit moves_shared moves_turns moves_waiting moves_wide moves_wide_cut \
-    moves_wide_full moves_wide_limit moves_wide_reduced; do
+    moves_wide_limit moves_wide_reduced; do
     mapfile -t words <"$here/$name.args"
     for jobs in 2 4; do
         run pt_explore "$name-$jobs" /dev/null "${words[@]}" --jobs "$jobs"
