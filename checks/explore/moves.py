@@ -1,7 +1,7 @@
 #!/usr/bin/env python3
 """Runs pt_explore over random scripts, and compares what it counts with the model of model.py.
 
-    checks/explore/moves.py PROGRAM [--seed S] [--scripts N] [--reduced N] [--erlang N]
+    checks/explore/moves.py PROGRAM [--seed S] [--scripts N] [--reduced N] [--erlang N] [--threads N]
 
 Each script has two to four processes on one to three desks, with spawns, links, monitors, asks and exit signals. The number of
 states, the number of schedules, and how many schedules end in which way have to be the same. Scripts of more than 30,000 states
@@ -12,6 +12,9 @@ at most. In most of these each process has a desk, and in most it neither links 
 
 With `--order erlang` the model goes by Erlang's rules, and has no desks. So many more scripts, without spawns, are compared with it.
 Each outcome of `--order table` has to be one of these, and with `--reduced` they have to be the same.
+
+On two and on four threads the same has to be printed, byte for byte. That is tried with so many more scripts, in both orders, with and
+without `--reduced`. Scripts of fewer than 300 states, and those of more than 3,000, are passed over.
 """
 from __future__ import annotations
 
@@ -32,6 +35,7 @@ from model import Ended, Erlang, Model, Process, Script, explored  # noqa: E402
 
 MOST_STATES = 30_000
 MOST_WHOLE = 3_000
+LEAST_SHARED = 300
 OPS = "send send send receive receive check link unlink monitor demonitor trap exit signal spawn pass alive".split()
 PLAIN = "send send send send receive receive receive check check monitor demonitor trap pass exit".split()
 APART = [op for op in OPS if op != "spawn"]
@@ -200,6 +204,22 @@ def erlang(program: str, seed: int, file: Path) -> bool | None:
     return False
 
 
+def shared(program: str, seed: int, file: Path) -> bool | None:
+    """Whether several threads print what one prints; None if the script has too few states, or too many."""
+    file.write_text(json.dumps(Writer(seed, ops=OPS if seed % 2 else APART).script()))
+    whole = printed(program, file, "table", "--limit", str(MOST_WHOLE))
+    if isinstance(whole, str) or whole[0][1] < LEAST_SHARED:
+        return None
+    for words in (["table"], ["table", "--reduced"], ["erlang"], ["table", "--limit", str(LEAST_SHARED)]):
+        asked = [program, str(file), "--order", *words, "--jobs"]
+        ran = [subprocess.run([*asked, jobs], capture_output=True, text=True, check=False) for jobs in ("1", "2", "4")]
+        told = [(it.returncode, it.stdout, it.stderr) for it in ran]
+        if told[1:] != told[:1] * 2:
+            print(f"script {seed}, {words}: on one thread {told[0]}\n  on several {told[1:]}\n  {file.read_text()}")
+            return False
+    return True
+
+
 def main() -> int:
     """Compares so many scripts."""
     words = argparse.ArgumentParser(description="Compares pt_explore with a model, over random scripts.")
@@ -208,15 +228,18 @@ def main() -> int:
     words.add_argument("--scripts", type=int, default=50)
     words.add_argument("--reduced", type=int, default=100)
     words.add_argument("--erlang", type=int, default=40)
+    words.add_argument("--threads", type=int, default=40)
     asked = words.parse_args()
     with tempfile.TemporaryDirectory() as folder:
         file = Path(folder) / "script.json"
         verdicts = [compared(asked.program, seed, file) for seed in range(asked.seed, asked.seed + asked.scripts)]
         fewer = [reduced(asked.program, seed, file) for seed in range(asked.seed, asked.seed + asked.reduced)]
         apart = [erlang(asked.program, seed, file) for seed in range(asked.seed, asked.seed + asked.erlang)]
-    for name, them in (("moves", verdicts), ("reduced", fewer), ("erlang", apart)):
+        threads = [shared(asked.program, seed, file) for seed in range(asked.seed, asked.seed + asked.threads)]
+    tried = (("moves", verdicts), ("reduced", fewer), ("erlang", apart), ("threads", threads))
+    for name, them in tried:
         print(f"{name}: {them.count(True)} passed, {them.count(False)} failed, {them.count(None)} passed over")
-    return 0 if all((not them or True in them) and False not in them for them in (verdicts, fewer, apart)) else 1
+    return 0 if all((not them or True in them) and False not in them for _, them in tried) else 1
 
 
 if __name__ == "__main__":

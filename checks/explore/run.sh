@@ -51,6 +51,26 @@ for name in mended_first race race_all race_budget race_chart race_either race_f
     done
 done
 
+# So it is where they share the states that as many moves lead to. In wide.json three processes send each other messages, and
+# hundreds of states are reached by as many moves.
+for name in erlang_causal erlang_limit erlang_reduced erlang_wide moves_chart moves_cross moves_history moves_limit moves_limit_exact \
+    moves_one moves_race moves_reduced moves_reduced_limit moves_shared moves_turns moves_waiting moves_wide moves_wide_cut \
+    moves_wide_limit moves_wide_reduced; do
+    mapfile -t words <"$here/$name.args"
+    for jobs in 2 4; do
+        run pt_explore "$name-$jobs" /dev/null "${words[@]}" --jobs "$jobs"
+        wanted=$here/$name.stdout
+        [ -f "$wanted" ] || wanted=/dev/null
+        is_same "$wanted" "$work/out/$name-$jobs" "$name-$jobs" "what it prints on $jobs threads"
+        said=$here/$name.stderr
+        [ -f "$said" ] || said=/dev/null
+        is_same "$said" "$work/err/$name-$jobs" "$name-$jobs" "standard error"
+        status=0
+        [ ! -f "$here/$name.status" ] || status=$(cat "$here/$name.status")
+        has_status "$name-$jobs" "$status"
+    done
+done
+
 # The schedule that is told can be run again: the same history, byte for byte.
 is_same "$work/out/race_history" "$work/out/race_again" race_again "the history of the schedule"
 is_same "$work/out/moves_history" "$work/out/moves_again" moves_again "the history of the schedule of moves"
