@@ -112,6 +112,10 @@ cmp "$work/said" "$work/terminal" || wrong no_file "it says something else"
 ran[moves]=1
 python3 "$here/moves.py" "$root/bin/pt_explore" || wrong moves "the model counts otherwise"
 
+# The first state that meets a condition is that of the model.
+ran[never]=1
+python3 "$here/never.py" "$root/bin/pt_explore" || wrong never "the model stops at another state"
+
 # Schedules by priorities are those that orders of the desks give, and the page has the numbers of what they find.
 ran[by_chance]=1
 python3 "$here/by_chance.py" "$root/bin/pt_explore" || wrong by_chance "another schedule, or other numbers on the page"
