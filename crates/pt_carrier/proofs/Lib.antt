@@ -7,3 +7,4 @@ pub mod Meeting
 pub mod Rooms
 pub mod Taking
 pub mod Posting
+mod Halves

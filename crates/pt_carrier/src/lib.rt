@@ -66,6 +66,7 @@
 //! `IsNode` of the places of all desks. `proofs/Places.antt` reads it at one desk.
 #![tactic(auto)]
 
+mod bypass;
 mod ends;
 mod lane;
 mod opening;
