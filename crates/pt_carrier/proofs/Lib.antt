@@ -8,3 +8,4 @@ pub mod Rooms
 pub mod Taking
 pub mod Posting
 mod Halves
+mod Through
