@@ -26,9 +26,9 @@ gone_by from to log count ring last letters new_log new_count names is_log is_co
     ∙ ap shown (ap (λ z. all ++ z) (drop_of_length-le last within) ∙ append-nil all)
     ∙ map-append (on_lane from to) (through log count ring) letters ∙ ap (λ z. shown (through log count ring) ++ z) (all_shown from to letters names)
 
--- two ends that show the same, by one log, had as much through the ring
+-- two ends that show as many, by one log, had as many through the ring
 pub as_long : (f g : Letter → Letter) (log log' : List Letter) (count count' : ℕ) (ring last : List Letter)
-    → map f (through log count ring) ≡ map g (through log' count' last) → log' ≡ log → count' ≡ count → count ≤ length ring → count' ≤ length last → length last ≤ length ring
+    → length (map f (through log count ring)) ≡ length (map g (through log' count' last)) → log' ≡ log → count' ≡ count → count ≤ length ring → count' ≤ length last → length last ≡ length ring
 as_long f g log log' count count' ring last e is_log is_count h h' =
-    omega (arith, ap length e, length-map (through log count ring) f, length-map (through log' count' last) g, length-append log (drop count ring), length-append log' (drop count' last),
+    omega (arith, e, length-map (through log count ring) f, length-map (through log' count' last) g, length-append log (drop count ring), length-append log' (drop count' last),
     length-drop count ring, length-drop count' last, ap length is_log, is_count, h, h')

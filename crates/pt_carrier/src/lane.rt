@@ -118,6 +118,14 @@ impl OutLane {
         count
     }
 
+    /// Whether so many places are known to be free.
+    #[inline(always)]
+    pub(crate) fn has_places(&self, count: usize) -> bool
+        ensures { result ≡ true → length self.now.posted + count ≤ self.now.capacity + self.now.seen }
+    {
+        count <= self.ring.cached_slots()
+    }
+
     /// The number of letters posted.
     pub(crate) fn posted(&self) -> u64
         ensures { result ≡ min (length self.now.posted) (2 ^ 64 - 1) }
@@ -163,9 +171,29 @@ impl InLane {
         self.ring.slots_beside(&mut other.ring);
     }
 
-    /// Whether nothing is in the lane, for a caller that has both of its ends: all that was posted was collected.
+    /// Counts letters as posted and as collected that go by the lane. Nothing is in it, since as many were collected as
+    /// posted.
     #[inline(always)]
-    pub(crate) fn is_drained(&mut self, other: &mut OutLane) -> bool
+    pub(crate) fn go_by(&mut self, other: &mut OutLane, letters: &[Letter])
+        requires lane { (other.old.ring ≡ self.old.ring) × (other.old.from ≡ self.old.from)
+            × (other.old.to ≡ self.old.to) }
+        requires names { AllGo self.old.from self.old.to letters.now }
+        requires even { length other.old.posted ≡ length self.old.collected }
+        ensures same { (self.new.ring ≡ self.old.ring) × (self.new.from ≡ self.old.from) × (self.new.to ≡ self.old.to) }
+        ensures none { (self.old.known ≡ []) × (self.new.known ≡ []) }
+        ensures other { (other.new.ring ≡ other.old.ring) × (other.new.from ≡ other.old.from)
+            × (other.new.to ≡ other.old.to) × (other.new.capacity ≡ other.old.capacity) }
+        ensures posted { other.new.posted ≡ other.old.posted ++ letters.now }
+        ensures collected { self.new.collected ≡ self.old.collected ++ letters.now }
+        ensures seen { other.old.seen + length letters.now ≤ other.new.seen }
+    {
+        let _drained = self.is_drained(other);
+        self.note_by(other, letters);
+    }
+
+    /// Whether nothing is in the lane, after a look at it from both of its ends.
+    #[inline(always)]
+    fn is_drained(&mut self, other: &mut OutLane) -> bool
         requires { (other.old.ring ≡ self.old.ring) × (other.old.from ≡ self.old.from) × (other.old.to ≡ self.old.to) }
         ensures same { (self.new.ring ≡ self.old.ring) × (self.new.from ≡ self.old.from) × (self.new.to ≡ self.old.to)
             × (self.new.collected ≡ self.old.collected) }
@@ -174,14 +202,15 @@ impl InLane {
             × (other.new.to ≡ other.old.to) × (other.new.posted ≡ other.old.posted)
             × (other.new.capacity ≡ other.old.capacity) × (other.old.seen ≤ other.new.seen) }
         ensures drained { result ≡ true → (self.new.known ≡ []) × (other.new.posted ≡ self.new.collected) }
+        ensures even { length other.old.posted ≡ length self.old.collected → result ≡ true }
     {
         agree(&mut other.bypass, &mut self.bypass);
         self.ring.slots_beside(&mut other.ring) == 0
     }
 
-    /// Counts letters as posted and as collected that went by the lane, in which nothing is.
+    /// Counts letters as posted and as collected that go by the lane, in which nothing is.
     #[inline(always)]
-    pub(crate) fn go_by(&mut self, other: &mut OutLane, letters: &[Letter])
+    fn note_by(&mut self, other: &mut OutLane, letters: &[Letter])
         requires lane { (other.old.ring ≡ self.old.ring) × (other.old.from ≡ self.old.from)
             × (other.old.to ≡ self.old.to) }
         requires names { AllGo self.old.from self.old.to letters.now }
