@@ -30,5 +30,17 @@ gone_by from to log count ring last letters new_log new_count names is_log is_co
 pub as_long : (f g : Letter → Letter) (log log' : List Letter) (count count' : ℕ) (ring last : List Letter)
     → length (map f (through log count ring)) ≡ length (map g (through log' count' last)) → log' ≡ log → count' ≡ count → count ≤ length ring → count' ≤ length last → length last ≡ length ring
 as_long f g log log' count count' ring last e is_log is_count h h' =
-    omega (arith, e, length-map (through log count ring) f, length-map (through log' count' last) g, length-append log (drop count ring), length-append log' (drop count' last),
-    length-drop count ring, length-drop count' last, ap length is_log, is_count, h, h')
+    omega (
+      arith,
+      e,
+      length-map (through log count ring) f,
+      length-map (through log' count' last) g,
+      length-append log (drop count ring),
+      length-append log' (drop count' last),
+      length-drop count ring,
+      length-drop count' last,
+      ap length is_log,
+      is_count,
+      h,
+      h',
+    )

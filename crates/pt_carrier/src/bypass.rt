@@ -60,8 +60,7 @@ pub(crate) fn agree(out: &mut OutBypass, into: &mut InBypass)
     requires { into.old.name ≡ out.old.name }
     ensures { (into.old.log ≡ out.old.log) × (into.old.count ≡ out.old.count) × (out.new ≡ out.old)
         × (into.new ≡ into.old) }
-{
-}
+{}
 
 /// Notes that the letters went by the ring, into which so much was sent before.
 pub(crate) fn go_by(

@@ -8,6 +8,7 @@ pub mod Ending
 pub mod Deaths
 pub mod Before
 pub mod Seating
+mod Own
 mod Looking
 mod Telling
 mod Forgetful

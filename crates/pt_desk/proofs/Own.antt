@@ -1,0 +1,184 @@
+-- The letters of a desk to itself go by their lane: each is posted before any of them is handled.
+use Rattle.std.proofs.Common.{◌≡◌, ◌≢◌, ℕ, suc, ◌+◌, ◌-◌, ◌^◌, ◌<◌, ◌≤◌, ◌==◌, ◌⊎◌, inl, inr, Bool, true, false, List, [], ◌∷◌, ◌++◌, length, filter, map, max, min, take, drop, get_or, set, Option, Some, None, Result, Ok, Err, refl, sym, ap, ◌∙◌, subst, arith, append_assoc, append-nil, length-append, length-set, take_all, take-suc, drop-cons, drop-drop, set-set, length-drop}
+use Rattle.std.proofs.lemmas.Bool.{eqb-true, eq-eqb, both_ways}
+use Rattle.std.proofs.lemmas.List.{get_or-set_same, get_or-set_other, ext_get_or, drop-append-le, drop_all, set-get_or, length_push}
+use Rattle.pt_signal.specs.declared.letter.Letter.{Letter}
+use Rattle.pt_carrier.specs.Ends.{OutEnds, InEnds, HasPlaces, ShowNone, more_of}
+use Rattle.pt_carrier.specs.Bypass.{GoesBy}
+use Rattle.pt_shard.specs.Boxes.{put_out}
+use Rattle.pt_shard.specs.ShardState.{ShardState, handled, came_event, sends}
+use Rattle.pt_shard.specs.Outbox.{sent_on_some, holding}
+use Rattle.pt_shard.specs.declared.stop.Stop.{Stop}
+use Rattle.pt_shard.specs.declared.stop.Stop.TheVariants.{Memory, Worn}
+use Rattle.pt_shard.proofs.Boxes.{put_count, put_at}
+use Rattle.pt_desk.specs.DeskState.{DeskState, posted_to, waits_for}
+use Rattle.pt_desk.specs.Posting.{total, Posts}
+use Rattle.pt_desk.specs.Turns.{Fetches, HandlesNext, HandlesAll, Stays, FindsNone, handled_held}
+use Rattle.pt_desk.specs.Own.{IsAlone, IsClear, MayGoBy, HandlesOwn, PostsLeft, posting, waits_here}
+
+-- what is taken from the front of a list and what is put out do not touch each other
+module _ (boxes : List (List Letter)) (ls : List Letter) (e r : ℕ) (e_in : e < length boxes) (within : r ≤ length (get_or boxes e [])) where
+  abbrev front : List Letter
+  front = drop r (get_or boxes e [])
+
+  abbrev before : List (List Letter)
+  before = put_out (set boxes e front) ls
+
+  abbrev after : List (List Letter)
+  after = set (put_out boxes ls) e (drop r (get_or (put_out boxes ls) e []))
+
+  count_before : length before ≡ length boxes
+  count_before = put_count (set boxes e front) ls ∙ length-set boxes e front
+
+  as_many : length before ≡ length after
+  as_many = count_before ∙ sym (length-set (put_out boxes ls) e (drop r (get_or (put_out boxes ls) e [])) ∙ put_count boxes ls)
+
+  here : get_or before e [] ≡ get_or after e []
+  here =
+      put_at (set boxes e front) ls e (omega (arith, e_in, length-set boxes e front))
+      ∙ ap (λ z. z ++ filter (λ l. l.to.shard == e) ls) (get_or-set_same boxes e front [] e_in)
+      ∙ sym (get_or-set_same (put_out boxes ls) e (drop r (get_or (put_out boxes ls) e [])) [] (omega (arith, e_in, put_count boxes ls))
+      ∙ ap (drop r) (put_at boxes ls e e_in) ∙ drop-append-le r (get_or boxes e []) (filter (λ l. l.to.shard == e) ls) within)
+
+  at : (k : ℕ) → k < length before → (b : Bool) → (k == e) ≡ b → get_or before k [] ≡ get_or after k []
+  at k h true q = subst (λ k. get_or before k [] ≡ get_or after k []) (sym (eqb-true k e q)) here
+  at k h false q =
+      let ne : k ≢ e = λ r. both_ways (k == e) q (eq-eqb k e r) in
+      put_at (set boxes e front) ls k (omega (arith, h, count_before, length-set boxes e front))
+      ∙ ap (λ z. z ++ filter (λ l. l.to.shard == k) ls) (get_or-set_other boxes e k front [] ne)
+      ∙ sym (get_or-set_other (put_out boxes ls) e k (drop r (get_or (put_out boxes ls) e [])) [] ne ∙ put_at boxes ls k (omega (arith, h, count_before)))
+
+  drop_put : before ≡ after
+  drop_put = ext_get_or [] before after as_many (λ k h. at k h (k == e) refl)
+
+-- a letter is handled, and others are posted: in whichever order
+handled_sent : (l : Letter) (e r : ℕ) (s : ShardState) → e < length s.outbox → r ≤ length (get_or s.outbox e []) → sent_on_some e r (handled l s) ≡ handled l (sent_on_some e r s)
+handled_sent l e r s e_in within =
+    ap (λ (b : List (List Letter)). record (handled l s) { outbox = b }) (sym (drop_put s.outbox (sends (max s.clock l.stamp + 1) (came_event l) s) e r e_in within))
+
+posting_handled : (l : Letter) (r : ℕ) (o : OutEnds) (f : DeskState) → f.shard.number < length f.shard.outbox → r ≤ length (waits_here f) → posting r o (handled_held l f) ≡ handled_held l (posting r o f)
+posting_handled l r o f n_in within =
+    ap (λ (s : ShardState). record f { shard = s; outs = o }) (handled_sent l f.shard.number r (holding None f.shard) n_in within)
+
+posting_twice : (r : ℕ) (o o1 : OutEnds) (d : DeskState) → d.shard.number < length d.shard.outbox → posting r o (posting 1 o1 d) ≡ posting (1 + r) o d
+posting_twice r o o1 d n_in =
+    let b = d.shard.outbox in
+    let n = d.shard.number in
+    let rest = drop 1 (get_or b n []) in
+    ap (λ (z : List (List Letter)). record d { shard = record d.shard { outbox = z }; outs = o })
+    (ap (λ z. set (set b n rest) n (drop r z)) (get_or-set_same b n rest [] n_in) ∙ set-set b n rest (drop r rest) ∙ ap (set b n) (drop-drop r 1 (get_or b n [])))
+
+pub posting_none : (d : DeskState) → posting 0 d.outs d ≡ d
+posting_none d = ap (λ (z : List (List Letter)). record d { shard = record d.shard { outbox = z } }) (set-get_or d.shard.outbox d.shard.number [])
+
+fetched_boxes : (l : Letter) (a f : DeskState) → Fetches l a f → (f.shard.number ≡ a.shard.number) × (f.shard.outbox ≡ a.shard.outbox)
+fetched_boxes l a f h = elim h [
+  | inl same ↦ (ap (λ (d : DeskState). d.shard.number) same.1, ap (λ (d : DeskState). d.shard.outbox) same.1)
+  | inr takes ↦ (ap (λ (s : ShardState). s.number) takes.shard, ap (λ (s : ShardState). s.outbox) takes.shard)
+]
+
+fetches_posting : (l : Letter) (r : ℕ) (o : OutEnds) (a f : DeskState) → Fetches l a f → Fetches l (posting r o a) (posting r o f)
+fetches_posting l r o a f h = elim h [
+  | inl same ↦ inl (same.0, ap (posting r o) same.1)
+  | inr takes ↦ inr (record {
+    free = takes.free;
+    shard = ap (λ (s : ShardState). sent_on_some s.number r s) takes.shard;
+    outs = refl;
+    sight = takes.sight;
+    place = takes.place;
+    collects = takes.collects;
+    first = takes.first;
+  })
+]
+
+-- so what is done with a letter is done with it where others were posted before, too
+module _ (l : Letter) (r : ℕ) (o : OutEnds) (a b : DeskState) (n_in : a.shard.number < length a.shard.outbox) (within : r ≤ length (waits_here a)) where
+  next_posting : HandlesNext l a b → HandlesNext l (posting r o a) (posting r o b)
+  next_posting h =
+      let f = h.fetched in
+      let boxes = fetched_boxes l a f h.fetches in
+      let all : waits_here f ≡ waits_here a = λ i. get_or (boxes.1 i) (boxes.0 i) [] in
+      record {
+        fetched = posting r o f;
+        fetches = fetches_posting l r o a f h.fetches;
+        within = h.within;
+        after = ap (posting r o) h.after ∙ posting_handled l r o f (omega (arith, n_in, boxes.0, ap length boxes.1)) (omega (arith, within, ap length all));
+      }
+
+stays_posting : (stop : Stop) (r : ℕ) (o : OutEnds) (a b : DeskState) → Stays stop a b → Stays stop (posting r o a) (posting r o b)
+stays_posting Worn r o a b h = (h.0, fetches_posting h.0 r o a b h.1, h.2)
+stays_posting Memory r o a b h = (h.0, fetches_posting h.0 r o a b h.1, h.2)
+
+-- so many letters went by, and the rest is to be posted
+pub record GoneBy (k : ℕ) (old new : DeskState) : Type 0 where
+  pub clear : IsClear new
+  pub place : new.outs.place ≡ old.outs.place
+  pub capacity : new.outs.capacity ≡ old.outs.capacity
+  pub posted : posted_to new 0 ≡ posted_to old 0 ++ take k (waits_for old 0)
+  pub seen : get_or old.outs.seen 0 0 ≤ get_or new.outs.seen 0 0
+  pub more : List Letter
+  pub waits : waits_for new 0 ≡ drop k (waits_for old 0) ++ more
+  pub known : (k ≡ 0) ⊎ (get_or new.ins.known 0 [] ≡ [])
+
+-- the letter in front, and those behind it
+head_or : Letter → List Letter → Letter
+head_or l [] = l
+head_or l (x ∷ xs) = x
+
+module _ (ls more rest : List Letter) (k : ℕ) (x : Letter) (within : k < length ls) (is : drop k ls ++ more ≡ x ∷ rest) where
+  parts : get_or ls k x ∷ (drop (suc k) ls ++ more) ≡ x ∷ rest
+  parts = ap (λ z. z ++ more) (sym (drop-cons ls k x within)) ∙ is
+
+  taken : take (suc k) ls ≡ take k ls ++ x ∷ []
+  taken = take-suc ls k x within ∙ ap (λ (z : Letter). take k ls ++ z ∷ []) (ap (head_or x) parts)
+
+  left : rest ≡ drop (suc k) ls ++ more
+  left = sym (ap (drop 1) parts)
+
+-- one more goes by
+module _ (old mid new : DeskState) (k : ℕ) (alone : IsAlone old) (gone : GoneBy k old mid) (within : k < length (waits_for old 0)) where
+  mid_here : mid.shard.number ≡ 0
+  mid_here = gone.clear.alone.number
+
+  module _ (own : HandlesOwn mid (Ok tt) new) where
+    first_is : drop k (waits_for old 0) ++ gone.more ≡ own.letter ∷ own.rest
+    first_is = sym gone.waits ∙ ap (waits_for mid) (sym mid_here) ∙ own.first
+
+    pub gone_next : GoneBy (suc k) old new
+    gone_next =
+        let into = gone.clear.alone.into in
+        let by = own.by in
+        let o = mid.outs.posted in
+        let is_posted : posted_to new 0 ≡ posted_to mid 0 ++ own.letter ∷ [] =
+        ap (λ z. get_or z 0 []) (by.posted ∙ ap (λ n. more_of o n (own.letter ∷ [])) into)
+        ∙ get_or-set_same o 0 (get_or o 0 [] ++ own.letter ∷ []) [] (omega (arith, gone.clear.alone.posted)) in
+        let none : get_or mid.ins.known 0 [] ≡ [] = ap (λ n. get_or mid.ins.known n []) (sym into) ∙ by.none in
+        let ins_known : new.ins.known ≡ mid.ins.known = ap (λ (i : InEnds). i.known) own.ins ∙ ap (λ (i : InEnds). i.known) by.into in
+        let new_here : new.shard.number ≡ 0 = own.clear.alone.number in
+        let seen_at : get_or mid.outs.seen 0 0 + 1 ≤ get_or new.outs.seen 0 0 = subst (λ n. get_or mid.outs.seen n 0 + 1 ≤ get_or new.outs.seen n 0) into by.seen in
+        record {
+          clear = own.clear;
+          place = by.place ∙ gone.place;
+          capacity = by.capacity ∙ gone.capacity;
+          posted = is_posted ∙ ap (λ z. z ++ own.letter ∷ []) gone.posted ∙ append_assoc (posted_to old 0) (take k (waits_for old 0)) (own.letter ∷ [])
+              ∙ ap (λ z. posted_to old 0 ++ z) (sym (taken (waits_for old 0) gone.more own.rest k own.letter within first_is));
+          seen = omega (arith, gone.seen, seen_at);
+          more = gone.more ++ own.more;
+          waits = ap (waits_for new) (sym new_here) ∙ own.waits ∙ ap (λ z. z ++ own.more) (left (waits_for old 0) gone.more own.rest k own.letter within first_is)
+              ∙ append_assoc (drop (suc k) (waits_for old 0)) gone.more own.more;
+          known = inr (ap (λ z. get_or z 0 []) ins_known ∙ none);
+        }
+
+    -- what was done, where `rest` letters more are posted
+    pub next_gone : (r : ℕ) (o : OutEnds) → k + 1 + r ≤ length (waits_for old 0) → HandlesNext own.letter (posting (1 + r) o mid) (posting r o new)
+    next_gone r o fits =
+        let n_in : mid.shard.number < length mid.shard.outbox = omega (arith, mid_here, gone.clear.alone.boxes) in
+        let a = posting 1 new.outs mid in
+        let waits_a : waits_here a ≡ drop 1 (waits_here mid) = get_or-set_same mid.shard.outbox mid.shard.number (drop 1 (waits_here mid)) [] n_in in
+        let long : length (waits_here a) ≡ length own.rest = ap length waits_a ∙ ap (λ z. length (drop 1 z)) own.first in
+        let more_long : length own.rest ≡ length (drop (suc k) (waits_for old 0)) + length gone.more =
+        ap length (left (waits_for old 0) gone.more own.rest k own.letter within first_is) ∙ length-append (drop (suc k) (waits_for old 0)) gone.more in
+        subst (λ d. HandlesNext own.letter d (posting r o new)) (posting_twice r o new.outs mid n_in)
+        (next_posting own.letter r o a new
+        (omega (arith, mid_here, length-set mid.shard.outbox mid.shard.number (drop 1 (waits_here mid)), gone.clear.alone.boxes))
+        (omega (arith, fits, long, more_long, length-drop (suc k) (waits_for old 0))) own.does)
