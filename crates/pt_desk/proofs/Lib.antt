@@ -9,6 +9,7 @@ pub mod Deaths
 pub mod Before
 pub mod Seating
 mod Own
+mod Owning
 mod Looking
 mod Telling
 mod Forgetful

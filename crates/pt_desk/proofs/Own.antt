@@ -1,7 +1,9 @@
 -- The letters of a desk to itself go by their lane: each is posted before any of them is handled.
-use Rattle.std.proofs.Common.{◌≡◌, ◌≢◌, ℕ, suc, ◌+◌, ◌-◌, ◌^◌, ◌<◌, ◌≤◌, ◌==◌, ◌⊎◌, inl, inr, Bool, true, false, List, [], ◌∷◌, ◌++◌, length, filter, map, max, min, take, drop, get_or, set, Option, Some, None, Result, Ok, Err, refl, sym, ap, ◌∙◌, subst, arith, append_assoc, append-nil, length-append, length-set, take_all, take-suc, drop-cons, drop-drop, set-set, length-drop}
+use Rattle.std.proofs.Common.{◌≡◌, ◌≢◌, ℕ, suc, ◌+◌, ◌-◌, ◌^◌, ◌<◌, ◌≤◌, ◌==◌, ◌⊎◌, inl, inr, Bool, true, false, List, [], ◌∷◌, ◌++◌, length, filter, map, max, min, take, drop, get_or, set, Option, Some, None, Result, Ok, Err, refl, sym, ap, ◌∙◌, subst, arith, append_assoc, append-nil, length-append, length-set, take_all, take-suc, drop-cons, drop-drop, set-set, length-drop, take-append-drop}
 use Rattle.std.proofs.lemmas.Bool.{eqb-true, eq-eqb, both_ways}
 use Rattle.std.proofs.lemmas.List.{get_or-set_same, get_or-set_other, ext_get_or, drop-append-le, drop_all, set-get_or, length_push}
+use Rattle.std.proofs.lemmas.Bool.{cases_lt}
+use Rattle.std.proofs.Math.Seq.{take-append_seam}
 use Rattle.pt_signal.specs.declared.letter.Letter.{Letter}
 use Rattle.pt_carrier.specs.Ends.{OutEnds, InEnds, HasPlaces, ShowNone, more_of}
 use Rattle.pt_carrier.specs.Bypass.{GoesBy}
@@ -11,10 +13,12 @@ use Rattle.pt_shard.specs.Outbox.{sent_on_some, holding}
 use Rattle.pt_shard.specs.declared.stop.Stop.{Stop}
 use Rattle.pt_shard.specs.declared.stop.Stop.TheVariants.{Memory, Worn}
 use Rattle.pt_shard.proofs.Boxes.{put_count, put_at}
-use Rattle.pt_desk.specs.DeskState.{DeskState, posted_to, waits_for}
-use Rattle.pt_desk.specs.Posting.{total, Posts}
-use Rattle.pt_desk.specs.Turns.{Fetches, HandlesNext, HandlesAll, Stays, FindsNone, handled_held}
-use Rattle.pt_desk.specs.Own.{IsAlone, IsClear, MayGoBy, HandlesOwn, PostsLeft, posting, waits_here}
+use Rattle.pt_desk.specs.declared.turned.Turned.{Turned}
+use Rattle.pt_desk.specs.DeskState.{DeskState, GoesOn, posted_to, waits_for}
+use Rattle.pt_desk.specs.Posting.{total, Posts, PostsTo}
+use Rattle.pt_desk.specs.Turns.{Fetches, HandlesNext, HandlesAll, Stays, FindsNone, Turns, handled_held}
+use Rattle.pt_desk.proofs.Turning.{turn_goes_on}
+use Rattle.pt_desk.specs.Own.{IsAlone, IsClear, IsClearUnless, MayGoBy, HandlesOwn, PostsLeft, posting, waits_here}
 
 -- what is taken from the front of a list and what is put out do not touch each other
 module _ (boxes : List (List Letter)) (ls : List Letter) (e r : ℕ) (e_in : e < length boxes) (within : r ≤ length (get_or boxes e [])) where
@@ -111,7 +115,7 @@ stays_posting Memory r o a b h = (h.0, fetches_posting h.0 r o a b h.1, h.2)
 
 -- so many letters went by, and the rest is to be posted
 pub record GoneBy (k : ℕ) (old new : DeskState) : Type 0 where
-  pub clear : IsClear new
+  pub alone : IsAlone new
   pub place : new.outs.place ≡ old.outs.place
   pub capacity : new.outs.capacity ≡ old.outs.capacity
   pub posted : posted_to new 0 ≡ posted_to old 0 ++ take k (waits_for old 0)
@@ -130,34 +134,42 @@ module _ (ls more rest : List Letter) (k : ℕ) (x : Letter) (within : k < lengt
   parts = ap (λ z. z ++ more) (sym (drop-cons ls k x within)) ∙ is
 
   taken : take (suc k) ls ≡ take k ls ++ x ∷ []
+  unfolding head_or
   taken = take-suc ls k x within ∙ ap (λ (z : Letter). take k ls ++ z ∷ []) (ap (head_or x) parts)
 
   left : rest ≡ drop (suc k) ls ++ more
   left = sym (ap (drop 1) parts)
 
--- one more goes by
-module _ (old mid new : DeskState) (k : ℕ) (alone : IsAlone old) (gone : GoneBy k old mid) (within : k < length (waits_for old 0)) where
-  mid_here : mid.shard.number ≡ 0
-  mid_here = gone.clear.alone.number
+alone_now : (result : Result (Unit {0}) Stop) (d : DeskState) → IsClearUnless result d → IsAlone d
+alone_now (Ok _) d h = h.alone
+alone_now (Err stop) d h = h
 
-  module _ (own : HandlesOwn mid (Ok tt) new) where
+-- one more goes by
+module _ (old mid new : DeskState) (k : ℕ) (gone : GoneBy k old mid) (within : k < length (waits_for old 0)) where
+  mid_here : mid.shard.number ≡ 0
+  mid_here = gone.alone.number
+
+  module _ (result : Result (Unit {0}) Stop) (own : HandlesOwn mid result new) where
+    new_alone : IsAlone new
+    new_alone = alone_now result new own.clear
+
     first_is : drop k (waits_for old 0) ++ gone.more ≡ own.letter ∷ own.rest
     first_is = sym gone.waits ∙ ap (waits_for mid) (sym mid_here) ∙ own.first
 
     pub gone_next : GoneBy (suc k) old new
     gone_next =
-        let into = gone.clear.alone.into in
+        let into = gone.alone.into in
         let by = own.by in
         let o = mid.outs.posted in
         let is_posted : posted_to new 0 ≡ posted_to mid 0 ++ own.letter ∷ [] =
         ap (λ z. get_or z 0 []) (by.posted ∙ ap (λ n. more_of o n (own.letter ∷ [])) into)
-        ∙ get_or-set_same o 0 (get_or o 0 [] ++ own.letter ∷ []) [] (omega (arith, gone.clear.alone.posted)) in
+        ∙ get_or-set_same o 0 (get_or o 0 [] ++ own.letter ∷ []) [] (omega (arith, gone.alone.posted)) in
         let none : get_or mid.ins.known 0 [] ≡ [] = ap (λ n. get_or mid.ins.known n []) (sym into) ∙ by.none in
         let ins_known : new.ins.known ≡ mid.ins.known = ap (λ (i : InEnds). i.known) own.ins ∙ ap (λ (i : InEnds). i.known) by.into in
-        let new_here : new.shard.number ≡ 0 = own.clear.alone.number in
+        let new_here : new.shard.number ≡ 0 = new_alone.number in
         let seen_at : get_or mid.outs.seen 0 0 + 1 ≤ get_or new.outs.seen 0 0 = subst (λ n. get_or mid.outs.seen n 0 + 1 ≤ get_or new.outs.seen n 0) into by.seen in
         record {
-          clear = own.clear;
+          alone = new_alone;
           place = by.place ∙ gone.place;
           capacity = by.capacity ∙ gone.capacity;
           posted = is_posted ∙ ap (λ z. z ++ own.letter ∷ []) gone.posted ∙ append_assoc (posted_to old 0) (take k (waits_for old 0)) (own.letter ∷ [])
@@ -169,16 +181,165 @@ module _ (old mid new : DeskState) (k : ℕ) (alone : IsAlone old) (gone : GoneB
           known = inr (ap (λ z. get_or z 0 []) ins_known ∙ none);
         }
 
-    -- what was done, where `rest` letters more are posted
-    pub next_gone : (r : ℕ) (o : OutEnds) → k + 1 + r ≤ length (waits_for old 0) → HandlesNext own.letter (posting (1 + r) o mid) (posting r o new)
-    next_gone r o fits =
-        let n_in : mid.shard.number < length mid.shard.outbox = omega (arith, mid_here, gone.clear.alone.boxes) in
-        let a = posting 1 new.outs mid in
-        let waits_a : waits_here a ≡ drop 1 (waits_here mid) = get_or-set_same mid.shard.outbox mid.shard.number (drop 1 (waits_here mid)) [] n_in in
-        let long : length (waits_here a) ≡ length own.rest = ap length waits_a ∙ ap (λ z. length (drop 1 z)) own.first in
-        let more_long : length own.rest ≡ length (drop (suc k) (waits_for old 0)) + length gone.more =
-        ap length (left (waits_for old 0) gone.more own.rest k own.letter within first_is) ∙ length-append (drop (suc k) (waits_for old 0)) gone.more in
-        subst (λ d. HandlesNext own.letter d (posting r o new)) (posting_twice r o new.outs mid n_in)
-        (next_posting own.letter r o a new
-        (omega (arith, mid_here, length-set mid.shard.outbox mid.shard.number (drop 1 (waits_here mid)), gone.clear.alone.boxes))
-        (omega (arith, fits, long, more_long, length-drop (suc k) (waits_for old 0))) own.does)
+    -- the letter before it is done with, where so many more are posted
+    abbrev one_posted : DeskState
+    one_posted = posting 1 new.outs mid
+
+    n_in : mid.shard.number < length mid.shard.outbox
+    n_in = omega (arith, mid_here, gone.alone.boxes)
+
+    one_in : one_posted.shard.number < length one_posted.shard.outbox
+    one_in = omega (arith, mid_here, length-set mid.shard.outbox mid.shard.number (drop 1 (waits_here mid)), gone.alone.boxes)
+
+    pub rest_long : length own.rest ≡ (length (waits_for old 0) - suc k) + length gone.more
+    rest_long =
+        omega (arith, ap length (left (waits_for old 0) gone.more own.rest k own.letter within first_is), length-append (drop (suc k) (waits_for old 0)) gone.more, length-drop (suc k) (waits_for old 0))
+
+    one_waits : length (waits_here one_posted) ≡ length own.rest
+    one_waits = ap length (get_or-set_same mid.shard.outbox mid.shard.number (drop 1 (waits_here mid)) [] n_in) ∙ ap (λ z. length (drop 1 z)) own.first
+
+    pub twice : (r : ℕ) (o : OutEnds) → posting r o one_posted ≡ posting (1 + r) o mid
+    twice r o = posting_twice r o new.outs mid n_in
+
+  pub next_gone : (own : HandlesOwn mid (Ok tt) new) (r : ℕ) (o : OutEnds) → k + 1 + r ≤ length (waits_for old 0) → HandlesNext own.letter (posting (1 + r) o mid) (posting r o new)
+  next_gone own r o fits =
+      subst (λ d. HandlesNext own.letter d (posting r o new)) (twice (Ok tt) own r o)
+      (next_posting own.letter r o (one_posted (Ok tt) own) new (one_in (Ok tt) own) (omega (arith, fits, rest_long (Ok tt) own, one_waits (Ok tt) own)) own.does)
+
+  pub stays_gone : (stop : Stop) (own : HandlesOwn mid (Err stop) new) (r : ℕ) (o : OutEnds) → Stays stop (posting (1 + r) o mid) (posting r o new)
+  stays_gone stop own r o =
+      subst (λ d. Stays stop d (posting r o new)) (twice (Err stop) own r o) (stays_posting stop r o (one_posted (Err stop) own) new own.does)
+
+pub left_none : (d : DeskState) → PostsLeft 0 d d
+left_none d = record { kept = sym (posting_none d); place = refl; capacity = refl; lanes = refl; posted = sym (append-nil (posted_to d d.shard.number)); seen = omega arith }
+
+one_total : (lists : List (List Letter)) → length lists ≡ 1 → total lists ≡ length (get_or lists 0 [])
+one_total [] h = absurd (omega (arith, h))
+one_total (x ∷ []) h = omega arith
+one_total (x ∷ y ∷ xs) h = absurd (omega (arith, h))
+
+-- the whole turn
+module _ (n budget : ℕ) (old : DeskState) (may : MayGoBy n old) (fits : n < 2 ^ 64) where
+  abbrev waiting : List Letter
+  waiting = waits_for old 0
+
+  old_here : old.shard.number ≡ 0
+  old_here = may.clear.alone.number
+
+  pub all_long : n ≡ length waiting
+  all_long = may.all ∙ ap (λ k. length (waits_for old k)) old_here
+
+  pub gone_none : GoneBy 0 old old
+  gone_none = record {
+    alone = may.clear.alone;
+    place = refl;
+    capacity = refl;
+    posted = sym (append-nil (posted_to old 0));
+    seen = omega arith;
+    more = [];
+    waits = sym (append-nil waiting);
+    known = inl refl;
+  }
+
+  -- so many went by, and the rest was posted
+  module _ (k r : ℕ) (mid new : DeskState) (gone : GoneBy k old mid) (sum : k + r ≡ n) (posted : PostsLeft r mid new) where
+    abbrev after_posts : DeskState
+    after_posts = posting n new.outs old
+
+    posted_all : posted_to new 0 ≡ posted_to old 0 ++ waiting
+    posted_all =
+        let long : r ≡ length (drop k waiting) = omega (arith, sum, all_long, length-drop k waiting) in
+        subst (λ m. posted_to new m ≡ posted_to mid m ++ take r (waits_for mid m)) gone.alone.number posted.posted
+        ∙ ap (λ z. posted_to mid 0 ++ take r z) gone.waits ∙ ap (λ m. posted_to mid 0 ++ take m (drop k waiting ++ gone.more)) long
+        ∙ ap (λ z. posted_to mid 0 ++ z) (take-append_seam (drop k waiting) gone.more) ∙ ap (λ z. z ++ drop k waiting) gone.posted
+        ∙ append_assoc (posted_to old 0) (take k waiting) (drop k waiting) ∙ ap (λ z. posted_to old 0 ++ z) (take-append-drop k waiting)
+
+    seen_at : get_or mid.outs.seen 0 0 ≤ get_or new.outs.seen 0 0
+    seen_at = subst (λ m. get_or mid.outs.seen m 0 ≤ get_or new.outs.seen m 0) gone.alone.number posted.seen
+
+    waits_after : waits_for after_posts 0 ≡ drop n waiting
+    waits_after =
+        (λ j. get_or (set old.shard.outbox (old_here j) (drop n (get_or old.shard.outbox (old_here j) []))) 0 [])
+        ∙ get_or-set_same old.shard.outbox 0 (drop n waiting) [] (omega (arith, may.clear.alone.boxes))
+
+    pub posts_by : Posts old after_posts
+    posts_by = record {
+      each = λ e h.
+          let none : e ≡ 0 = omega (arith, h, may.clear.alone.desks) in
+          subst (λ e. PostsTo e old after_posts) (sym none) (record {
+            count = n;
+            posted = posted_all ∙ ap (λ z. posted_to old 0 ++ z) (sym (take_all n waiting (omega (arith, all_long))));
+            left = waits_after;
+            full = inl (waits_after ∙ drop_all n waiting (omega (arith, all_long)));
+            seen = omega (arith, gone.seen, seen_at);
+          });
+      only = record { shard = refl; place = posted.place ∙ gone.place; capacity = posted.capacity ∙ gone.capacity; ins = refl; sight = refl };
+    }
+
+    counted : n ≡ min (total new.outs.posted - total old.outs.posted) (2 ^ 64 - 1)
+    counted =
+        omega (
+          arith,
+          fits,
+          one_total new.outs.posted (posted.lanes ∙ gone.alone.posted),
+          one_total old.outs.posted may.clear.alone.posted,
+          ap length posted_all,
+          length-append (posted_to old 0) waiting,
+          all_long,
+        )
+
+    -- the turn ends as the budget is used up, or all were handled
+    module _ (letters : List Letter) (long : length letters ≡ k) where
+      pub turned : k ≡ min n budget → IsClear mid → HandlesAll letters after_posts new → Turns budget old (record { posted = n; handled = k; stopped = None }) new
+      turned least clear all = record {
+        posted_desk = after_posts;
+        posts = posts_by;
+        posted = counted;
+        letters = letters;
+        last = new;
+        handles = all;
+        handled = sym long;
+        within = omega (arith, least);
+        ends = elim (cases_lt k budget) [ inl short ↦ inr (short, finds_none short) | inr used ↦ inl (omega (arith, used, least), refl) ];
+      }
+        where
+          known_now : k < budget → get_or new.ins.known 0 [] ≡ []
+          known_now short = ap (λ (d : DeskState). get_or d.ins.known 0 []) posted.kept ∙ elim gone.known [ inl none ↦ absurd (omega (arith, none, least, may.some, short)) | inr none ↦ none ]
+
+          finds_none : k < budget → FindsNone new new
+          finds_none short = record {
+            free = ap (λ (d : DeskState). d.shard.hold) posted.kept ∙ clear.free;
+            shard = refl;
+            outs = refl;
+            sight = refl;
+            place = refl;
+            cursor = refl;
+            collected = refl;
+            none = λ j low high.
+                let zero_th : j ≡ 0 = omega (arith, high, ap (λ (d : DeskState). length d.ins.place.rings) posted.kept, clear.alone.rings) in
+                subst (λ j. (get_or new.ins.known j [] ≡ []) × (get_or new.ins.known j [] ≡ [])) (sym zero_th) (known_now short, known_now short);
+          }
+
+  -- the turn ends at a letter that was refused
+  module _ (k r : ℕ) (mid held new : DeskState) (stop : Stop) (gone : GoneBy k old mid) (within : k < n) (own : HandlesOwn mid (Err stop) held) (sum : suc k + r ≡ n) (posted : PostsLeft r held new) where
+    short : k < length waiting
+    short = omega (arith, within, all_long)
+
+    pub turned_stop : (letters : List Letter) → length letters ≡ k → k < budget → HandlesAll letters (posting n new.outs old) (posting (1 + r) new.outs mid)
+        → Turns budget old (record { posted = n; handled = k; stopped = Some stop }) new
+    turned_stop letters long below all =
+        let gone_on = gone_next old mid held k gone short (Err stop) own in
+        record {
+          posted_desk = posting n new.outs old;
+          posts = posts_by (suc k) r held new gone_on sum posted;
+          posted = counted (suc k) r held new gone_on sum posted;
+          letters = letters;
+          last = posting (1 + r) new.outs mid;
+          handles = all;
+          handled = sym long;
+          within = omega (arith, below);
+          ends = (below, subst (Stays stop (posting (1 + r) new.outs mid)) (sym posted.kept) (stays_gone old mid held k gone short stop own r new.outs));
+        }
+
+pub turns_go_on : (budget : ℕ) (old : DeskState) (turn : Turned) (new : DeskState) → Turns budget old turn new → GoesOn old new
+turns_go_on budget old turn new t = turn_goes_on old t.posted_desk t.last new t.letters turn.stopped turn.handled budget t.posts t.handles t.ends

@@ -7,7 +7,7 @@ ghost use Rattle.pt_signal.specs.declared.signal.Signal.{Signal};
 ghost use Rattle.pt_events.specs.declared.event.Event.{Event};
 ghost use Rattle.pt_events.specs.Journal.{IsLocal, Agrees, posts, gots, clock};
 ghost use Rattle.pt_carrier.specs.Meeting.{Meets};
-ghost use Rattle.pt_shard.specs.ShardState.{lives, state_in};
+ghost use Rattle.pt_shard.specs.ShardState.{lives, state_in, box};
 ghost use Rattle.pt_shard.specs.Known.{knows};
 ghost use Rattle.pt_shard.specs.Living.{living_count, living_in, living_pids};
 ghost use Rattle.pt_signal.specs.declared.pid.Pid.{Pid};
@@ -37,7 +37,7 @@ use pt_directory::{Directory, Seat};
 use pt_events::Journal;
 use pt_process::Process;
 use pt_shard::{Config, Fault, Loss, Shard, Stop};
-use pt_signal::{Body, Ids, Item, Pick, Pid, Reason, Ref};
+use pt_signal::{Body, Ids, Item, Letter, Pick, Pid, Reason, Ref};
 use std::alloc::{AllocError, Global};
 use std::marker::Model;
 use std::sync::Arc;
@@ -671,7 +671,7 @@ impl Desk {
         ensures { HandlesOwn self.old result self.new }
     {
         let own = self.shard.number();
-        let letter = self.shard.letters_for(own)[0];
+        let letter = oldest(&self.shard, own);
         self.shard.pass_out(own, 1);
         self.ins.go_by(&mut self.outs, &[letter]);
         self.ins.look_from(0);
@@ -823,6 +823,16 @@ impl Desk {
         tell_ended(&self.shard, &self.directory, &mut self.seat, ended);
         Ok(true)
     }
+}
+
+/// The oldest letter that waits to be posted to desk `to`.
+#[inline(always)]
+fn oldest(shard: &Shard, to: u8) -> Letter
+    requires desk { to < shard.now.config.desks }
+    requires waits { 0 < length (box shard.now to) }
+    ensures { slice_get (box shard.now to) 0 ≡ Some result }
+{
+    shard.letters_for(to)[0]
 }
 
 /// Handles the oldest letter that is known to wait in the lane from desk `from`, and leaves it there. To move it out
