@@ -1,5 +1,5 @@
 -- The letters of a desk to itself go by their lane: each is posted before any of them is handled.
-use Rattle.std.proofs.Common.{◌≡◌, ◌≢◌, ℕ, suc, ◌+◌, ◌-◌, ◌^◌, ◌<◌, ◌≤◌, ◌==◌, ◌⊎◌, inl, inr, Bool, true, false, List, [], ◌∷◌, ◌++◌, length, filter, map, max, min, take, drop, get_or, set, Option, Some, None, Result, Ok, Err, refl, sym, ap, ◌∙◌, subst, arith, append_assoc, append-nil, length-append, length-set, take_all, take-suc, drop-cons, drop-drop, set-set, length-drop, take-append-drop}
+use Rattle.std.proofs.Common.{◌≡◌, ◌≢◌, ℕ, suc, ◌+◌, ◌-◌, ◌^◌, ◌<◌, ◌≤◌, ◌==◌, ◌⊎◌, inl, inr, Bool, true, false, List, [], ◌∷◌, ◌++◌, length, filter, map, max, min, take, drop, get_or, set, Option, Some, None, Result, Ok, Err, refl, sym, ap, ◌∙◌, subst, arith, append_assoc, append-nil, length-append, length-set, take_all, length-take-le, take-suc, drop-cons, drop-drop, set-set, length-drop, take-append-drop}
 use Rattle.std.proofs.lemmas.Bool.{eqb-true, eq-eqb, both_ways}
 use Rattle.std.proofs.lemmas.List.{get_or-set_same, get_or-set_other, ext_get_or, drop-append-le, drop_all, set-get_or, length_push}
 use Rattle.std.proofs.lemmas.Bool.{cases_lt}
@@ -320,6 +320,26 @@ module _ (n budget : ℕ) (old : DeskState) (may : MayGoBy n old) (fits : n < 2 
                 subst (λ j. (get_or new.ins.known j [] ≡ []) × (get_or new.ins.known j [] ≡ [])) (sym zero_th) (known_now short, known_now short);
           }
 
+  -- what is left waits, and the lane has places for it
+  pub waits_left : (k r : ℕ) (mid : DeskState) → GoneBy k old mid → k + r ≡ n → r ≤ length (waits_here mid)
+  waits_left k r mid gone sum =
+      omega (arith, sum, all_long, ap (λ m. length (waits_for mid m)) gone.alone.number, ap length gone.waits, length-append (drop k waiting) gone.more, length-drop k waiting)
+
+  pub places_left : (k r : ℕ) (mid : DeskState) → GoneBy k old mid → k + r ≡ n → HasPlaces mid.outs mid.shard.number r
+  places_left k r mid gone sum =
+      let places : HasPlaces old.outs 0 n = subst (λ m. HasPlaces old.outs m n) old_here may.places in
+      subst (λ m. HasPlaces mid.outs m r) (sym gone.alone.number)
+      (omega (arith, sum, all_long, places, gone.seen, ap length gone.posted, length-append (posted_to old 0) (take k waiting), length-take-le k waiting (omega (arith, sum, all_long)), ap (λ c. get_or c 0 0) gone.capacity))
+
+  -- so ends the turn of a loop in which each was handled
+  pub turned_all : (k r : ℕ) (mid new : DeskState) (letters : List Letter) → length letters ≡ k → IsClear mid → GoneBy k old mid
+      → ((r : ℕ) (o : OutEnds) → k + r ≡ length waiting → HandlesAll letters (posting (k + r) o old) (posting r o mid))
+      → k + r ≡ n → k ≡ min n budget → PostsLeft r mid new → Turns budget old (record { posted = n; handled = k; stopped = None }) new
+  turned_all k r mid new letters long clear gone chain sum least posted =
+      turned k r mid new gone sum posted letters long least clear
+      (subst (HandlesAll letters (posting n new.outs old)) (sym posted.kept)
+      (subst (λ m. HandlesAll letters (posting m new.outs old) (posting r new.outs mid)) sum (chain r new.outs (sum ∙ all_long))))
+
   -- the turn ends at a letter that was refused
   module _ (k r : ℕ) (mid held new : DeskState) (stop : Stop) (gone : GoneBy k old mid) (within : k < n) (own : HandlesOwn mid (Err stop) held) (sum : suc k + r ≡ n) (posted : PostsLeft r held new) where
     short : k < length waiting
@@ -341,5 +361,5 @@ module _ (n budget : ℕ) (old : DeskState) (may : MayGoBy n old) (fits : n < 2 
           ends = (below, subst (Stays stop (posting (1 + r) new.outs mid)) (sym posted.kept) (stays_gone old mid held k gone short stop own r new.outs));
         }
 
-pub turns_go_on : (budget : ℕ) (old : DeskState) (turn : Turned) (new : DeskState) → Turns budget old turn new → GoesOn old new
-turns_go_on budget old turn new t = turn_goes_on old t.posted_desk t.last new t.letters turn.stopped turn.handled budget t.posts t.handles t.ends
+pub turns_go_on : (budget : ℕ) (old : DeskState) {turn : Turned} (new : DeskState) → Turns budget old turn new → GoesOn old new
+turns_go_on budget old {turn} new t = turn_goes_on old t.posted_desk t.last new t.letters turn.stopped turn.handled budget t.posts t.handles t.ends
