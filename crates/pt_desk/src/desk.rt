@@ -627,12 +627,14 @@ impl Desk {
         }
         let own = self.shard.number();
         let waiting = self.shard.letters_for(own).len();
-        let posted = self.outs.posted(own);
-        let is_empty = posted == self.ins.collected(own) && posted < u64::MAX;
-        if is_empty && self.outs.has_places(own, waiting) {
-            return waiting;
+        if waiting == 0 || !self.outs.has_places(own, waiting) {
+            return 0;
         }
-        0
+        let posted = self.outs.posted(own);
+        if posted == u64::MAX || posted != self.ins.collected(own) {
+            return 0;
+        }
+        waiting
     }
 
     /// A turn in which so many letters go by the lane of the desk to itself: all that wait for it.
@@ -704,7 +706,7 @@ impl Desk {
     }
 
     /// A turn in which every letter goes over its lane.
-    #[inline(never)]
+    #[inline(always)]
     fn turn_over(&mut self, budget: u32) -> Turned
         ensures turns { Turns budget self.old result self.new }
         ensures goes_on { GoesOn self.old self.new }
