@@ -11,21 +11,14 @@ use Rattle.pt_events.specs.declared.event.Event.{Event}
 use Rattle.pt_events.specs.History.{sent_by}
 use Rattle.pt_events.specs.Journal.{letter, letters, posts, gots, Agrees}
 use Rattle.pt_carrier.specs.Ends.{Place, OutEnds, InEnds, more_of, Collects, looking_from}
-use Rattle.pt_carrier.specs.Meeting.{Meets, out_kept, in_kept}
+use Rattle.pt_carrier.specs.Meeting.{out_kept, in_kept}
+use Rattle.pt_carrier.proofs.Meeting.{meets_still}
 use Rattle.pt_shard.specs.ShardState.{ShardState, box, past, written, handled, came_event}
 use Rattle.pt_shard.specs.Outbox.{sent_on_some, holding, held_from}
 use Rattle.pt_shard.specs.Fit.{IsFit}
 use Rattle.pt_desk.specs.DeskState.{IsAccounted}
 use Rattle.pt_events.proofs.Agreeing.{Agrees-got, Agrees-posted}
-use Rattle.pt_desk.proofs.Letters.{put_at}
-
--- the two ends of a lane, where their places stay
-meets_still : (o o' : OutEnds) (i i' : InEnds) → o'.place ≡ o.place → i'.place ≡ i.place → Meets o i → Meets o' i'
-meets_still o o' i i' p q m = record {
-  has_out = omega (arith, ap (λ (x : Place). x.number) q, ap (λ (x : Place). length x.rings) p, m.has_out);
-  has_into = omega (arith, ap (λ (x : Place). x.number) p, ap (λ (x : Place). length x.rings) q, m.has_into);
-  ring = λ r. (λ j. get_or (p j).rings (q j).number r) ∙ m.ring r ∙ sym (λ j. get_or (q j).rings (p j).number r);
-}
+use Rattle.pt_shard.proofs.Boxes.{put_at}
 
 -- the accounts of a desk with the same ends, of which the number and the settings stay
 pub accounted_by : (s s' : ShardState) (o : OutEnds) (i : InEnds) → IsAccounted s o i → s'.number ≡ s.number → s'.config ≡ s.config → ((e : ℕ) → e < s.config.desks → posts s'.start s'.journal e ≡ get_or o.posted e [] ++ box s' e)

@@ -100,7 +100,7 @@ impl Desk {
     ///
     /// These are required:
     ///
-    /// - The ends are those of the shard's number.
+    /// - The ends are those of the shard's number, and two of them are the two ends of the desk's lane to itself.
     /// - The letters that the shard's journal sent to each desk are those posted there, followed by those waiting in
     ///   its outbox.
     /// - The letters collected from each desk are those that its journal received from there, followed by the letter in
