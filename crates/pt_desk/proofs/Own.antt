@@ -72,7 +72,7 @@ posting_twice r o o1 d n_in =
     ap (λ (z : List (List Letter)). record d { shard = record d.shard { outbox = z }; outs = o })
     (ap (λ z. set (set b n rest) n (drop r z)) (get_or-set_same b n rest [] n_in) ∙ set-set b n rest (drop r rest) ∙ ap (set b n) (drop-drop r 1 (get_or b n [])))
 
-pub posting_none : (d : DeskState) → posting 0 d.outs d ≡ d
+posting_none : (d : DeskState) → posting 0 d.outs d ≡ d
 posting_none d = ap (λ (z : List (List Letter)). record d { shard = record d.shard { outbox = z } }) (set-get_or d.shard.outbox d.shard.number [])
 
 fetched_boxes : (l : Letter) (a f : DeskState) → Fetches l a f → (f.shard.number ≡ a.shard.number) × (f.shard.outbox ≡ a.shard.outbox)
@@ -114,7 +114,7 @@ stays_posting Worn r o a b h = (h.0, fetches_posting h.0 r o a b h.1, h.2)
 stays_posting Memory r o a b h = (h.0, fetches_posting h.0 r o a b h.1, h.2)
 
 -- so many letters went by, and the rest is to be posted
-pub record GoneBy (k : ℕ) (old new : DeskState) : Type 0 where
+record GoneBy (k : ℕ) (old new : DeskState) : Type 0 where
   pub alone : IsAlone new
   pub place : new.outs.place ≡ old.outs.place
   pub capacity : new.outs.capacity ≡ old.outs.capacity
@@ -123,6 +123,14 @@ pub record GoneBy (k : ℕ) (old new : DeskState) : Type 0 where
   pub more : List Letter
   pub waits : waits_for new 0 ≡ drop k (waits_for old 0) ++ more
   pub known : (k ≡ 0) ⊎ (get_or new.ins.known 0 [] ≡ [])
+
+-- and these letters were handled, whatever was posted behind them
+pub record HaveGone (k : ℕ) (old new : DeskState) : Type 0 where
+  pub letters : List Letter
+  pub long : length letters ≡ k
+  pub clear : IsClear new
+  pub gone : GoneBy k old new
+  pub chain : (r : ℕ) (o : OutEnds) → k + r ≡ length (waits_for old 0) → HandlesAll letters (posting (k + r) o old) (posting r o new)
 
 -- the letter in front, and those behind it
 head_or : Letter → List Letter → Letter
@@ -156,7 +164,7 @@ module _ (old mid new : DeskState) (k : ℕ) (gone : GoneBy k old mid) (within :
     first_is : drop k (waits_for old 0) ++ gone.more ≡ own.letter ∷ own.rest
     first_is = sym gone.waits ∙ ap (waits_for mid) (sym mid_here) ∙ own.first
 
-    pub gone_next : GoneBy (suc k) old new
+    gone_next : GoneBy (suc k) old new
     gone_next =
         let into = gone.alone.into in
         let by = own.by in
@@ -191,22 +199,22 @@ module _ (old mid new : DeskState) (k : ℕ) (gone : GoneBy k old mid) (within :
     one_in : one_posted.shard.number < length one_posted.shard.outbox
     one_in = omega (arith, mid_here, length-set mid.shard.outbox mid.shard.number (drop 1 (waits_here mid)), gone.alone.boxes)
 
-    pub rest_long : length own.rest ≡ (length (waits_for old 0) - suc k) + length gone.more
+    rest_long : length own.rest ≡ (length (waits_for old 0) - suc k) + length gone.more
     rest_long =
         omega (arith, ap length (left (waits_for old 0) gone.more own.rest k own.letter within first_is), length-append (drop (suc k) (waits_for old 0)) gone.more, length-drop (suc k) (waits_for old 0))
 
     one_waits : length (waits_here one_posted) ≡ length own.rest
     one_waits = ap length (get_or-set_same mid.shard.outbox mid.shard.number (drop 1 (waits_here mid)) [] n_in) ∙ ap (λ z. length (drop 1 z)) own.first
 
-    pub twice : (r : ℕ) (o : OutEnds) → posting r o one_posted ≡ posting (1 + r) o mid
+    twice : (r : ℕ) (o : OutEnds) → posting r o one_posted ≡ posting (1 + r) o mid
     twice r o = posting_twice r o new.outs mid n_in
 
-  pub next_gone : (own : HandlesOwn mid (Ok tt) new) (r : ℕ) (o : OutEnds) → k + 1 + r ≤ length (waits_for old 0) → HandlesNext own.letter (posting (1 + r) o mid) (posting r o new)
+  next_gone : (own : HandlesOwn mid (Ok tt) new) (r : ℕ) (o : OutEnds) → k + 1 + r ≤ length (waits_for old 0) → HandlesNext own.letter (posting (1 + r) o mid) (posting r o new)
   next_gone own r o fits =
       subst (λ d. HandlesNext own.letter d (posting r o new)) (twice (Ok tt) own r o)
       (next_posting own.letter r o (one_posted (Ok tt) own) new (one_in (Ok tt) own) (omega (arith, fits, rest_long (Ok tt) own, one_waits (Ok tt) own)) own.does)
 
-  pub stays_gone : (stop : Stop) (own : HandlesOwn mid (Err stop) new) (r : ℕ) (o : OutEnds) → Stays stop (posting (1 + r) o mid) (posting r o new)
+  stays_gone : (stop : Stop) (own : HandlesOwn mid (Err stop) new) (r : ℕ) (o : OutEnds) → Stays stop (posting (1 + r) o mid) (posting r o new)
   stays_gone stop own r o =
       subst (λ d. Stays stop d (posting r o new)) (twice (Err stop) own r o) (stays_posting stop r o (one_posted (Err stop) own) new own.does)
 
@@ -226,10 +234,10 @@ module _ (n budget : ℕ) (old : DeskState) (may : MayGoBy n old) (fits : n < 2 
   old_here : old.shard.number ≡ 0
   old_here = may.clear.alone.number
 
-  pub all_long : n ≡ length waiting
+  all_long : n ≡ length waiting
   all_long = may.all ∙ ap (λ k. length (waits_for old k)) old_here
 
-  pub gone_none : GoneBy 0 old old
+  gone_none : GoneBy 0 old old
   gone_none = record {
     alone = may.clear.alone;
     place = refl;
@@ -262,7 +270,7 @@ module _ (n budget : ℕ) (old : DeskState) (may : MayGoBy n old) (fits : n < 2 
         (λ j. get_or (set old.shard.outbox (old_here j) (drop n (get_or old.shard.outbox (old_here j) []))) 0 [])
         ∙ get_or-set_same old.shard.outbox 0 (drop n waiting) [] (omega (arith, may.clear.alone.boxes))
 
-    pub posts_by : Posts old after_posts
+    posts_by : Posts old after_posts
     posts_by = record {
       each = λ e h.
           let none : e ≡ 0 = omega (arith, h, may.clear.alone.desks) in
@@ -290,7 +298,7 @@ module _ (n budget : ℕ) (old : DeskState) (may : MayGoBy n old) (fits : n < 2 
 
     -- the turn ends as the budget is used up, or all were handled
     module _ (letters : List Letter) (long : length letters ≡ k) where
-      pub turned : k ≡ min n budget → IsClear mid → HandlesAll letters after_posts new → Turns budget old (record { posted = n; handled = k; stopped = None }) new
+      turned : k ≡ min n budget → IsClear mid → HandlesAll letters after_posts new → Turns budget old (record { posted = n; handled = k; stopped = None }) new
       turned least clear all = record {
         posted_desk = after_posts;
         posts = posts_by;
@@ -321,31 +329,37 @@ module _ (n budget : ℕ) (old : DeskState) (may : MayGoBy n old) (fits : n < 2 
           }
 
   -- what is left waits, and the lane has places for it
-  pub waits_left : (k r : ℕ) (mid : DeskState) → GoneBy k old mid → k + r ≡ n → r ≤ length (waits_here mid)
+  waits_left : (k r : ℕ) (mid : DeskState) → GoneBy k old mid → k + r ≡ n → r ≤ length (waits_here mid)
   waits_left k r mid gone sum =
       omega (arith, sum, all_long, ap (λ m. length (waits_for mid m)) gone.alone.number, ap length gone.waits, length-append (drop k waiting) gone.more, length-drop k waiting)
 
-  pub places_left : (k r : ℕ) (mid : DeskState) → GoneBy k old mid → k + r ≡ n → HasPlaces mid.outs mid.shard.number r
+  places_left : (k r : ℕ) (mid : DeskState) → GoneBy k old mid → k + r ≡ n → HasPlaces mid.outs mid.shard.number r
   places_left k r mid gone sum =
       let places : HasPlaces old.outs 0 n = subst (λ m. HasPlaces old.outs m n) old_here may.places in
       subst (λ m. HasPlaces mid.outs m r) (sym gone.alone.number)
       (omega (arith, sum, all_long, places, gone.seen, ap length gone.posted, length-append (posted_to old 0) (take k waiting), length-take-le k waiting (omega (arith, sum, all_long)), ap (λ c. get_or c 0 0) gone.capacity))
 
+  pub left_behind : (k : ℕ) (mid held : DeskState) (stop : Stop) → GoneBy k old mid → k < n → HandlesOwn mid (Err stop) held
+      → (n - k - 1 ≤ length (waits_here held)) × HasPlaces held.outs held.shard.number (n - k - 1)
+  left_behind k mid held stop gone within own =
+      let gone_on = gone_next old mid held k gone (omega (arith, within, all_long)) (Err stop) own in
+      let sum : suc k + (n - k - 1) ≡ n = omega (arith, within) in
+      (waits_left (suc k) (n - k - 1) held gone_on sum, places_left (suc k) (n - k - 1) held gone_on sum)
+
   -- so ends the turn of a loop in which each was handled
-  pub turned_all : (k r : ℕ) (mid new : DeskState) (letters : List Letter) → length letters ≡ k → IsClear mid → GoneBy k old mid
-      → ((r : ℕ) (o : OutEnds) → k + r ≡ length waiting → HandlesAll letters (posting (k + r) o old) (posting r o mid))
-      → k + r ≡ n → k ≡ min n budget → PostsLeft r mid new → Turns budget old (record { posted = n; handled = k; stopped = None }) new
-  turned_all k r mid new letters long clear gone chain sum least posted =
-      turned k r mid new gone sum posted letters long least clear
-      (subst (HandlesAll letters (posting n new.outs old)) (sym posted.kept)
-      (subst (λ m. HandlesAll letters (posting m new.outs old) (posting r new.outs mid)) sum (chain r new.outs (sum ∙ all_long))))
+  pub turned_all : (j k r : ℕ) (mid new : DeskState) → HaveGone j old mid → j ≡ k → k + r ≡ n → k ≡ min n budget → PostsLeft r mid new → Turns budget old (record { posted = n; handled = k; stopped = None }) new
+  turned_all j k r mid new before at_end sum least posted =
+      let have = subst (λ m. HaveGone m old mid) at_end before in
+      turned k r mid new have.gone sum posted have.letters have.long least have.clear
+      (subst (HandlesAll have.letters (posting n new.outs old)) (sym posted.kept)
+      (subst (λ m. HandlesAll have.letters (posting m new.outs old) (posting r new.outs mid)) sum (have.chain r new.outs (sum ∙ all_long))))
 
   -- the turn ends at a letter that was refused
   module _ (k r : ℕ) (mid held new : DeskState) (stop : Stop) (gone : GoneBy k old mid) (within : k < n) (own : HandlesOwn mid (Err stop) held) (sum : suc k + r ≡ n) (posted : PostsLeft r held new) where
     short : k < length waiting
     short = omega (arith, within, all_long)
 
-    pub turned_stop : (letters : List Letter) → length letters ≡ k → k < budget → HandlesAll letters (posting n new.outs old) (posting (1 + r) new.outs mid)
+    turned_stop : (letters : List Letter) → length letters ≡ k → k < budget → HandlesAll letters (posting n new.outs old) (posting (1 + r) new.outs mid)
         → Turns budget old (record { posted = n; handled = k; stopped = Some stop }) new
     turned_stop letters long below all =
         let gone_on = gone_next old mid held k gone short (Err stop) own in
@@ -360,6 +374,42 @@ module _ (n budget : ℕ) (old : DeskState) (may : MayGoBy n old) (fits : n < 2 
           within = omega (arith, below);
           ends = (below, subst (Stays stop (posting (1 + r) new.outs mid)) (sym posted.kept) (stays_gone old mid held k gone short stop own r new.outs));
         }
+
+  pub stopped_at : (k : ℕ) (mid held new : DeskState) (stop : Stop) → HaveGone k old mid → k < min n budget → HandlesOwn mid (Err stop) held → PostsLeft (n - k - 1) held new
+      → Turns budget old (record { posted = n; handled = k; stopped = Some stop }) new
+  stopped_at k mid held new stop have within own posted =
+      let r = n - k - 1 in
+      let short : k < n = omega (arith, within) in
+      let below : k < budget = omega (arith, within) in
+      let sum : k + (1 + r) ≡ n = omega (arith, short) in
+      turned_stop k r mid held new stop have.gone short own (omega (arith, short)) posted have.letters have.long below
+      (subst (λ m. HandlesAll have.letters (posting m new.outs old) (posting (1 + r) new.outs mid)) sum (have.chain (1 + r) new.outs (sum ∙ all_long)))
+
+  pub have_none : HaveGone 0 old old
+  have_none = record {
+    letters = [];
+    long = refl;
+    clear = may.clear;
+    gone = gone_none;
+    chain = λ r o h. let same : r ≡ 0 + r = omega arith in ap (λ k. posting k o old) same;
+  }
+
+  pub have_next : (k : ℕ) (mid new : DeskState) → HaveGone k old mid → k < n → HandlesOwn mid (Ok tt) new → HaveGone (k + 1) old new
+  have_next k mid new have short own =
+      let next : suc k ≡ k + 1 = omega arith in
+      let within : k < length waiting = omega (arith, short, all_long) in
+      record {
+        letters = own.letter ∷ have.letters;
+        long = omega (arith, have.long);
+        clear = own.clear;
+        gone = subst (λ m. GoneBy m old new) next (gone_next old mid new k have.gone within (Ok tt) own);
+        chain = λ r o h.
+            let sum : k + (1 + r) ≡ k + 1 + r = omega arith in (
+              posting (1 + r) o mid,
+              subst (λ m. HandlesAll have.letters (posting m o old) (posting (1 + r) o mid)) sum (have.chain (1 + r) o (sum ∙ h)),
+              next_gone old mid new k have.gone within own r o (omega (arith, h)),
+            );
+      }
 
 pub turns_go_on : (budget : ℕ) (old : DeskState) {turn : Turned} (new : DeskState) → Turns budget old turn new → GoesOn old new
 turns_go_on budget old {turn} new t = turn_goes_on old t.posted_desk t.last new t.letters turn.stopped turn.handled budget t.posts t.handles t.ends

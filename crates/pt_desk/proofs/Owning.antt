@@ -1,5 +1,6 @@
 -- The oldest letter of a desk to itself goes by, and is handled or stays in the hold.
 use Rattle.std.proofs.Common.{◌≡◌, ℕ, ◌+◌, ◌%◌, ◌<◌, ◌≤◌, ◌==◌, List, [], ◌∷◌, ◌++◌, length, filter, map, max, take, drop, get_or, slice_get, Option, Some, None, Result, Ok, Err, refl, sym, ap, ◌∙◌, subst, arith, append-nil, length-append}
+use Rattle.std.specs.Prelude.{IfSome}
 use Rattle.std.proofs.lemmas.List.{get_or-set_same}
 use mathlib.Core.List.{IsPrefix}
 use Rattle.pt_signal.specs.declared.config.Config.{Config}
@@ -76,14 +77,19 @@ module _ (s : ShardState) (o : OutEnds) (i : InEnds) (directory : DirectoryState
   more : o'.posted ≡ more_of o.posted n (take 1 waiting)
   more = by.posted ∙ ap (λ k. more_of o.posted k (l ∷ [])) into ∙ ap (more_of o.posted n) (sym (ap (take 1) front))
 
-  pub to_here : l.to.shard ≡ t.number
+  to_here : l.to.shard ≡ t.number
   to_here = goes.1 ∙ n_is ∙ sym (ap (λ (z : ShardState). z.number) t_is)
 
   accounts_t : IsAccounted t o' i
   accounts_t = accounted_posted s t o o' i n 1 n_in whole.0.fit whole.0.accounts t_is more by.place
 
-  pub whole_t : IsWhole t o' i v seat
+  whole_t : IsWhole t o' i v seat
   whole_t = posted_whole s t o o' i v seat n 1 t_is t_fit accounts_t whole
+
+  -- who ended may be told of
+  pub own_tells : (who : Option Pid) (s1 : ShardState) → Handles l t (Ok who) s1 → IfSome who (CanTell directory seat s1.clock)
+  own_tells who s1 does =
+      may_tell_ended t o' i directory seat before whole_t l to_here s1.clock (let now = ap (λ (z : ShardState). z.clock) does.1 in omega (arith, now)) who does.2
 
   place_is : i'.place ≡ i.place
   place_is = ap (λ (z : InEnds). z.place) ins ∙ ap (λ (z : InEnds). z.place) by.into
@@ -133,7 +139,7 @@ module _ (s : ShardState) (o : OutEnds) (i : InEnds) (directory : DirectoryState
       subst (λ k. length (get_or o'.posted k []) ≡ length (get_or i'.collected k [])) (sym number) (omega (arith, one, other, same))
 
   module _ (who : Option Pid) (s1 : ShardState) (does : Handles l t (Ok who) s1) (s1_fit : IsFit s1) (seat' : SeatState) (seat_is : seat' ≡ seat_told who s1.clock seat) where
-    pub own_whole : IsWhole s1 o' i' (sight_of directory seat' before) seat'
+    own_whole : IsWhole s1 o' i' (sight_of directory seat' before) seat'
     own_whole =
         handled_whole t o' i directory seat before whole_t l s1 o' i' who seat' (same_journal _ _ _ refl refl refl refl does.1) does.2
         (seat_is ∙ ap (λ m. seat_told who m seat) (ap (λ (z : ShardState). z.clock) does.1)) s1_fit
@@ -142,7 +148,7 @@ module _ (s : ShardState) (o : OutEnds) (i : InEnds) (directory : DirectoryState
     same_config : s1.config ≡ s.config
     same_config = ap (λ (z : ShardState). z.config) does.1 ∙ ap (λ (z : ShardState). z.config) t_is
 
-    pub own_handled : HandlesOwn (of_parts s o i v) (Ok tt) (of_parts s1 o' i' (sight_of directory seat' before))
+    own_handled : HandlesOwn (of_parts s o i v) (Ok tt) (of_parts s1 o' i' (sight_of directory seat' before))
     own_handled =
         let sends_now = sends (max t.clock l.stamp + 1) (came_event l) t in
         let number : s1.number ≡ n = ap (λ (z : ShardState). z.number) does.1 ∙ ap (λ (z : ShardState). z.number) t_is ∙ sym n_is in
@@ -166,16 +172,20 @@ module _ (s : ShardState) (o : OutEnds) (i : InEnds) (directory : DirectoryState
           };
         }
 
+    -- the letter was handled
+    pub own_done : IsWhole s1 o' i' (sight_of directory seat' before) seat' × HandlesOwn (of_parts s o i v) (Ok tt) (of_parts s1 o' i' (sight_of directory seat' before))
+    own_done = (own_whole, own_handled)
+
   module _ (stop : Stop) (s1 s2 : ShardState) (does : Handles l t (Err stop) s1) (held : s2 ≡ holding (Some l) s1) (s2_fit : IsFit s2) where
     s2_is : s2 ≡ holding (Some l) t
     s2_is = held ∙ ap (holding (Some l)) (refused l t s1 stop does)
 
-    pub own_kept : IsWhole s2 o' i' v seat
+    own_kept : IsWhole s2 o' i' v seat
     own_kept =
         same_whole t s2 o' o' i i' v seat (same_journal _ _ _ refl refl refl refl s2_is) s2_fit
         (refused_accounted t o' i i' v n l t_free takes place_is s1 s2 stop accounts_t does held) whole_t
 
-    pub own_refused : HandlesOwn (of_parts s o i v) (Err stop) (of_parts s2 o' i' v)
+    own_refused : HandlesOwn (of_parts s o i v) (Err stop) (of_parts s2 o' i' v)
     own_refused =
         let number : s2.number ≡ n = ap (λ (z : ShardState). z.number) s2_is ∙ ap (λ (z : ShardState). z.number) t_is ∙ sym n_is in
         let config : s2.config ≡ s.config = ap (λ (z : ShardState). z.config) s2_is ∙ ap (λ (z : ShardState). z.config) t_is in
@@ -191,3 +201,7 @@ module _ (s : ShardState) (o : OutEnds) (i : InEnds) (directory : DirectoryState
           waits = (λ j. get_or (ap (λ (z : ShardState). z.outbox) s2_is j) (number j) []) ∙ rest_is ∙ sym (append-nil (drop 1 waiting));
           clear = is_alone (of_parts s2 o' i' v) own_kept.0 (ap (λ (z : Config). z.desks) config ∙ clear.alone.desks);
         }
+
+    -- the letter is in the hold
+    pub own_held : IsWhole s2 o' i' v seat × HandlesOwn (of_parts s o i v) (Err stop) (of_parts s2 o' i' v)
+    own_held = (own_kept, own_refused)
