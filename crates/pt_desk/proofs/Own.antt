@@ -1,12 +1,11 @@
 -- The letters of a desk to itself go by their lane: each is posted before any of them is handled.
-use Rattle.std.proofs.Common.{◌≡◌, ◌≢◌, ℕ, suc, ◌+◌, ◌-◌, ◌^◌, ◌<◌, ◌≤◌, ◌==◌, ◌⊎◌, inl, inr, Bool, true, false, List, [], ◌∷◌, ◌++◌, length, filter, map, max, min, take, drop, get_or, set, Option, Some, None, Result, Ok, Err, refl, sym, ap, ◌∙◌, subst, arith, append_assoc, append-nil, length-append, length-set, take_all, length-take-le, take-suc, drop-cons, drop-drop, set-set, length-drop, take-append-drop}
+use Rattle.std.proofs.Common.{◌≡◌, ◌≢◌, ℕ, suc, ◌+◌, ◌-◌, ◌^◌, ◌<◌, ◌≤◌, ◌==◌, ◌⊎◌, inl, inr, Bool, true, false, List, [], ◌∷◌, ◌++◌, length, filter, max, min, take, drop, get_or, set, Some, None, Result, Ok, Err, refl, sym, ap, ◌∙◌, subst, arith, append_assoc, append-nil, length-append, length-set, take_all, length-take-le, take-suc, drop-cons, drop-drop, set-set, length-drop, take-append-drop}
 use Rattle.std.proofs.lemmas.Bool.{eqb-true, eq-eqb, both_ways}
-use Rattle.std.proofs.lemmas.List.{get_or-set_same, get_or-set_other, ext_get_or, drop-append-le, drop_all, set-get_or, length_push}
+use Rattle.std.proofs.lemmas.List.{get_or-set_same, get_or-set_other, ext_get_or, drop-append-le, drop_all, set-get_or}
 use Rattle.std.proofs.lemmas.Bool.{cases_lt}
 use Rattle.std.proofs.Math.Seq.{take-append_seam}
 use Rattle.pt_signal.specs.declared.letter.Letter.{Letter}
-use Rattle.pt_carrier.specs.Ends.{OutEnds, InEnds, HasPlaces, ShowNone, more_of}
-use Rattle.pt_carrier.specs.Bypass.{GoesBy}
+use Rattle.pt_carrier.specs.Ends.{OutEnds, InEnds, HasPlaces, more_of}
 use Rattle.pt_shard.specs.Boxes.{put_out}
 use Rattle.pt_shard.specs.ShardState.{ShardState, handled, came_event, sends}
 use Rattle.pt_shard.specs.Outbox.{sent_on_some, holding}
@@ -114,7 +113,7 @@ stays_posting Worn r o a b h = (h.0, fetches_posting h.0 r o a b h.1, h.2)
 stays_posting Memory r o a b h = (h.0, fetches_posting h.0 r o a b h.1, h.2)
 
 -- so many letters went by, and the rest is to be posted
-record GoneBy (k : ℕ) (old new : DeskState) : Type 0 where
+pub record GoneBy (k : ℕ) (old new : DeskState) : Type 0 where
   pub alone : IsAlone new
   pub place : new.outs.place ≡ old.outs.place
   pub capacity : new.outs.capacity ≡ old.outs.capacity

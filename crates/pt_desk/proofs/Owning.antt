@@ -1,5 +1,5 @@
 -- The oldest letter of a desk to itself goes by, and is handled or stays in the hold.
-use Rattle.std.proofs.Common.{◌≡◌, ℕ, ◌+◌, ◌%◌, ◌<◌, ◌≤◌, ◌==◌, List, [], ◌∷◌, ◌++◌, length, filter, map, max, take, drop, get_or, slice_get, Option, Some, None, Result, Ok, Err, refl, sym, ap, ◌∙◌, subst, arith, append-nil, length-append}
+use Rattle.std.proofs.Common.{◌≡◌, ℕ, ◌+◌, ◌%◌, ◌<◌, ◌==◌, List, [], ◌∷◌, ◌++◌, length, filter, max, take, drop, get_or, slice_get, Option, Some, None, Ok, Err, refl, sym, ap, ◌∙◌, subst, arith, append-nil, length-append}
 use Rattle.std.specs.Prelude.{IfSome}
 use Rattle.std.proofs.lemmas.List.{get_or-set_same}
 use mathlib.Core.List.{IsPrefix}
@@ -11,7 +11,7 @@ use Rattle.pt_directory.specs.Seats.{DirectoryState, SeatState}
 use Rattle.pt_carrier.specs.Ends.{Place, OutEnds, InEnds, Collects, IsFirstFromCursor, more_of, looking_from}
 use Rattle.pt_carrier.specs.Bypass.{IsEven, GoesBy}
 use Rattle.pt_shard.specs.Fit.{IsFit, AreBetween}
-use Rattle.pt_shard.specs.ShardState.{ShardState, Handles, handled, came_event, sends}
+use Rattle.pt_shard.specs.ShardState.{ShardState, Handles, came_event, sends}
 use Rattle.pt_shard.specs.Outbox.{sent_on_some, holding}
 use Rattle.pt_shard.specs.declared.stop.Stop.{Stop}
 use Rattle.pt_shard.proofs.Boxes.{put_at}
@@ -19,7 +19,7 @@ use Rattle.pt_desk.specs.DeskState.{DeskState, IsDesk, IsAccounted}
 use Rattle.pt_desk.specs.InPlace.{CanTell, seat_told}
 use Rattle.pt_desk.specs.Sight.{Sight}
 use Rattle.pt_desk.specs.Turns.{HandlesNext, Stays}
-use Rattle.pt_desk.specs.Own.{IsAlone, IsClear, HandlesOwn, posting, waits_here}
+use Rattle.pt_desk.specs.Own.{IsAlone, IsClear, HandlesOwn, posting}
 use Rattle.pt_desk.proofs.Accounts.{accounted_posted}
 use Rattle.pt_desk.proofs.Posted.{of_parts}
 use Rattle.pt_desk.proofs.Seating.{IsWhole, sight_of, posted_whole, same_journal, same_whole}

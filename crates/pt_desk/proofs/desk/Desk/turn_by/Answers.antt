@@ -1,5 +1,5 @@
 -- `Desk::turn_by`: its clauses, its loop over `k`, and what its calls ask.
-use Rattle.std.proofs.Common.{◌≡◌, arith}
+use Rattle.std.proofs.Common.{arith}
 use Rattle.pt_desk.proofs.Own.{have_none, have_next, left_behind, left_none, turned_all, stopped_at, turns_go_on}
 use Rattle.pt_desk.proofs.desk.Desk.turn_by.Goals as goal
 
