@@ -7,3 +7,5 @@ pub mod Meeting
 pub mod Rooms
 pub mod Taking
 pub mod Posting
+mod Halves
+mod Through

@@ -10,7 +10,7 @@ use Rattle.pt_carrier.specs.Opening.{AreLanes}
 use Rattle.pt_carrier.proofs.Lists.{each_push}
 
 abbrev no_ring : Ring
-no_ring = record { words = null_ptr; slots = null_ptr; names = (0, (0, 0)) }
+no_ring = record { words = null_ptr; slots = null_ptr; names = (0, (0, 0)); bypass = 0 }
 
 abbrev no_sending : Sending
 no_sending = new_sending no_ring 0 0 0

@@ -112,3 +112,11 @@ WholeAt-kept old new d e i j met apart whole =
     ap (λ m. entry m i j) (kept_posted new old met.kept)
     ∙ whole
     ∙ sym (λ t. entry (kept_collected new old met.kept t) j i ++ met.others j i apart t)
+
+-- the two ends of a lane, where their places stay
+pub meets_still : (o o' : OutEnds) (i i' : InEnds) → o'.place ≡ o.place → i'.place ≡ i.place → Meets o i → Meets o' i'
+meets_still o o' i i' p q m = record {
+  has_out = omega (arith, ap (λ (x : Place). x.number) q, ap (λ (x : Place). length x.rings) p, m.has_out);
+  has_into = omega (arith, ap (λ (x : Place). x.number) p, ap (λ (x : Place). length x.rings) q, m.has_into);
+  ring = λ r. (λ j. get_or (p j).rings (q j).number r) ∙ m.ring r ∙ sym (λ j. get_or (q j).rings (p j).number r);
+}

@@ -6,11 +6,12 @@ use Rattle.pt_signal.specs.declared.letter.Letter.{Letter}
 use Rattle.rtrb.specs.declared.producer.Producer.{Producer}
 use Rattle.rtrb.specs.declared.consumer.Consumer.{Consumer}
 
--- which ring a lane is: its memory and its names, the same at both ends
+-- which ring a lane is: its memory, its names and the name of what went by it, the same at both ends
 pub record Ring : Type 0 where
   pub words : Ptr
   pub slots : Ptr
   pub names : ℕ × (ℕ × ℕ)
+  pub bypass : ℕ
 
 -- the end that sends: the lane's ring and desks, all letters posted so far with the oldest first,
 -- the lane's capacity, and how many of those letters this end knows to be collected
@@ -32,11 +33,11 @@ pub record Receiving : Type 0 where
   pub known : List Letter
 
 module _ {T A P : Type 0} where
-  abbrev pub sending_ring : Producer T A P → Ring
-  sending_ring p = record { words = p.end.words; slots = p.end.slots; names = p.end.names }
+  abbrev pub sending_ring : ℕ → Producer T A P → Ring
+  sending_ring γ p = record { words = p.end.words; slots = p.end.slots; names = p.end.names; bypass = γ }
 
-  abbrev pub receiving_ring : Consumer T A P → Ring
-  receiving_ring c = record { words = c.end.words; slots = c.end.slots; names = c.end.names }
+  abbrev pub receiving_ring : ℕ → Consumer T A P → Ring
+  receiving_ring γ c = record { words = c.end.words; slots = c.end.slots; names = c.end.names; bypass = γ }
 
 -- the letter, with the numbers of the two desks of its lane
 abbrev pub on_lane : ℕ → ℕ → Letter → Letter

@@ -4,3 +4,4 @@ pub mod Node
 pub mod Opening
 pub mod Meeting
 pub mod Reunion
+pub mod Bypass

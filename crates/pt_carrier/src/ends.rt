@@ -1,7 +1,7 @@
 //! The ends of one desk.
 
 ghost use Rattle.std.specs.Prelude.{◌≡◌, ◌≢◌, ℕ, ◌⊎◌, ◌+◌, ◌*◌, ◌-◌, ◌%◌, ◌^◌, ◌<◌, ◌≤◌, min, length, [], IsOk, OnOk};
-ghost use Rattle.std.specs.Prelude.{IfErr, IfSome, IfNone, false, slice_index_or, take};
+ghost use Rattle.std.specs.Prelude.{IfErr, IfSome, IfNone, true, false, slice_index_or, take};
 ghost use Rattle.std.specs.Bool.{OnTrue, OnFalse};
 ghost use Rattle.pt_signal.specs.declared.letter.Letter.{Letter};
 ghost use Rattle.pt_signal.specs.declared.config.TheConstants.{MAX_DESKS};
@@ -12,6 +12,7 @@ ghost use Rattle.pt_carrier.specs.Ends.{IsFirstFromCursor, IsFront, looking_from
 ghost use Rattle.pt_carrier.specs.Lanes.{AllGo};
 ghost use Rattle.pt_carrier.specs.Node.{lists};
 ghost use Rattle.pt_carrier.specs.Meeting.{HaveMet, Meets};
+ghost use Rattle.pt_carrier.specs.Bypass.{IsEven, GoesBy};
 ghost use Rattle.pt_carrier.specs.Reunion.{VectorHasRoom, room_at};
 
 use crate::lane::{InLane, OutLane};
@@ -171,6 +172,16 @@ impl Outs {
         ensures looks { LooksAt self.old self.new to }
     {
         self.lanes[usize::from(to)].post_run(letters)
+    }
+
+    /// Whether so many places of the lane to desk `to` are known to be free. It looks at nothing: if it returns `false`,
+    /// there may still be as many.
+    #[inline(always)]
+    pub fn has_places(&self, to: u8, count: usize) -> bool
+        requires { to < length self.now.place.rings }
+        ensures { result ≡ true → HasPlaces self.now to count }
+    {
+        self.lanes[usize::from(to)].has_places(count)
     }
 
     /// The number of letters posted to desk `to`, staying at `u64::MAX` once it is reached.
@@ -353,6 +364,22 @@ impl Ins {
         let from = usize::from(outs.number);
         let to = usize::from(self.number);
         self.lanes[from].meet(&mut outs.lanes[to]);
+    }
+
+    /// Counts letters of this desk to itself as posted and as collected, without moving them into the lane and out.
+    ///
+    /// Nothing is in that lane, since as many letters were collected from it as were posted. So they come after all of
+    /// these, in their order. The cursor stays. It is for a caller that has both ends and has handled the letters.
+    #[inline(always)]
+    pub fn go_by(&mut self, outs: &mut Outs, letters: &[Letter])
+        requires same { outs.old.place.number ≡ self.old.place.number }
+        requires meets { Meets outs.old self.old }
+        requires names { AllGo self.old.place.number self.old.place.number letters.now }
+        requires even { IsEven outs.old self.old }
+        ensures { GoesBy letters.now outs.old self.old outs.new self.new }
+    {
+        let own = usize::from(self.number);
+        self.lanes[own].go_by(&mut outs.lanes[own], letters);
     }
 
     /// The number of letters from that desk that are known to wait.

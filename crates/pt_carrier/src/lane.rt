@@ -1,7 +1,7 @@
 //! One lane: a ring with a sending end and a receiving end.
 
 ghost use Rattle.std.specs.Prelude.{◌≡◌, ◌↔◌, ◌+◌, ◌-◌, ◌^◌, ◌<◌, ◌≤◌, min, vec_len, length, map, [], ◌∷◌, ◌++◌, take};
-ghost use Rattle.std.specs.Prelude.{IsTrue, IfOk, IfSome, false};
+ghost use Rattle.std.specs.Prelude.{IsTrue, IfOk, IfSome, true, false};
 ghost use Rattle.std.specs.Bool.{OnTrue, OnFalse};
 ghost use mathlib.Core.List.{IsPrefix};
 ghost use Rattle.std.specs.Vec.{vec_capacity};
@@ -9,7 +9,9 @@ ghost use Rattle.rtrb.specs.Ring.{sent, known_free, producer_capacity, received,
 ghost use Rattle.pt_signal.specs.declared.letter.Letter.{Letter};
 ghost use Rattle.pt_carrier.specs.Lanes.{Sending, Receiving, sending_ring, receiving_ring, on_lane, new_sending};
 ghost use Rattle.pt_carrier.specs.Lanes.{new_receiving, AllGo};
+ghost use Rattle.pt_carrier.specs.Bypass.{through};
 
+use crate::bypass::{InBypass, OutBypass, agree, go_by, halves};
 use pt_signal::Letter;
 use rtrb::{Consumer, Producer, RingBuffer};
 use std::alloc::{AllocError, Global};
@@ -22,22 +24,25 @@ pub(crate) struct OutLane {
     from: u8,
     to: u8,
     count: u64,
+    bypass: OutBypass,
 }
 
 impl Model for OutLane {
     ghost Value = { Sending };
 
     ghost view = { λ a. record {
-      ring = sending_ring a.ring;
+      ring = sending_ring a.bypass.name a.ring;
       from = a.from;
       to = a.to;
-      posted = map (on_lane a.from a.to) (sent a.ring);
+      posted = map (on_lane a.from a.to) (through a.bypass.log a.bypass.count (sent a.ring));
       capacity = producer_capacity a.ring;
-      seen = (length (sent a.ring) + known_free a.ring) - producer_capacity a.ring;
+      seen = (length (through a.bypass.log a.bypass.count (sent a.ring)) + known_free a.ring)
+          - producer_capacity a.ring;
     } };
 
-    ghost invariant = { λ a. (a.count ≡ min (length (sent a.ring)) (2 ^ 64 - 1))
-        × (producer_capacity a.ring ≤ length (sent a.ring) + known_free a.ring) × (0 < producer_capacity a.ring) };
+    ghost invariant = { λ a. (a.count ≡ min (length (through a.bypass.log a.bypass.count (sent a.ring))) (2 ^ 64 - 1))
+        × (producer_capacity a.ring ≤ length (through a.bypass.log a.bypass.count (sent a.ring)) + known_free a.ring)
+        × (0 < producer_capacity a.ring) × (a.bypass.count ≤ length (sent a.ring)) };
 }
 
 /// The receiving end.
@@ -47,20 +52,23 @@ pub(crate) struct InLane {
     from: u8,
     to: u8,
     count: u64,
+    bypass: InBypass,
 }
 
 impl Model for InLane {
     ghost Value = { Receiving };
 
     ghost view = { λ a. record {
-      ring = receiving_ring a.ring;
+      ring = receiving_ring a.bypass.name a.ring;
       from = a.from;
       to = a.to;
-      collected = map (on_lane a.from a.to) (received a.ring);
+      collected = map (on_lane a.from a.to) (through a.bypass.log a.bypass.count (received a.ring));
       known = map (on_lane a.from a.to) (known_items a.ring);
     } };
 
-    ghost invariant = { λ a. a.count ≡ min (length (received a.ring)) (2 ^ 64 - 1) };
+    ghost invariant = { λ a.
+        (a.count ≡ min (length (through a.bypass.log a.bypass.count (received a.ring))) (2 ^ 64 - 1))
+        × (a.bypass.count ≤ length (received a.ring)) };
 }
 
 impl OutLane {
@@ -110,6 +118,14 @@ impl OutLane {
         count
     }
 
+    /// Whether so many places are known to be free.
+    #[inline(always)]
+    pub(crate) fn has_places(&self, count: usize) -> bool
+        ensures { result ≡ true → length self.now.posted + count ≤ self.now.capacity + self.now.seen }
+    {
+        count <= self.ring.cached_slots()
+    }
+
     /// The number of letters posted.
     pub(crate) fn posted(&self) -> u64
         ensures { result ≡ min (length self.now.posted) (2 ^ 64 - 1) }
@@ -150,8 +166,67 @@ impl InLane {
         ensures seen { length self.new.collected ≤ other.new.seen }
         ensures places { 0 < other.new.capacity }
     {
+        agree(&mut other.bypass, &mut self.bypass);
         other.ring.slots_beside(&mut self.ring);
         self.ring.slots_beside(&mut other.ring);
+    }
+
+    /// Counts letters as posted and as collected that go by the lane. Nothing is in it, since as many were collected as
+    /// posted.
+    #[inline(always)]
+    pub(crate) fn go_by(&mut self, other: &mut OutLane, letters: &[Letter])
+        requires lane { (other.old.ring ≡ self.old.ring) × (other.old.from ≡ self.old.from)
+            × (other.old.to ≡ self.old.to) }
+        requires names { AllGo self.old.from self.old.to letters.now }
+        requires even { length other.old.posted ≡ length self.old.collected }
+        ensures same { (self.new.ring ≡ self.old.ring) × (self.new.from ≡ self.old.from) × (self.new.to ≡ self.old.to) }
+        ensures none { (self.old.known ≡ []) × (self.new.known ≡ []) }
+        ensures other { (other.new.ring ≡ other.old.ring) × (other.new.from ≡ other.old.from)
+            × (other.new.to ≡ other.old.to) × (other.new.capacity ≡ other.old.capacity) }
+        ensures posted { other.new.posted ≡ other.old.posted ++ letters.now }
+        ensures collected { self.new.collected ≡ self.old.collected ++ letters.now }
+        ensures seen { other.old.seen + length letters.now ≤ other.new.seen }
+    {
+        let _drained = self.is_drained(other);
+        self.note_by(other, letters);
+    }
+
+    /// Whether nothing is in the lane, after a look at it from both of its ends.
+    #[inline(always)]
+    fn is_drained(&mut self, other: &mut OutLane) -> bool
+        requires { (other.old.ring ≡ self.old.ring) × (other.old.from ≡ self.old.from) × (other.old.to ≡ self.old.to) }
+        ensures same { (self.new.ring ≡ self.old.ring) × (self.new.from ≡ self.old.from) × (self.new.to ≡ self.old.to)
+            × (self.new.collected ≡ self.old.collected) }
+        ensures looked { IsPrefix self.old.known self.new.known }
+        ensures other { (other.new.ring ≡ other.old.ring) × (other.new.from ≡ other.old.from)
+            × (other.new.to ≡ other.old.to) × (other.new.posted ≡ other.old.posted)
+            × (other.new.capacity ≡ other.old.capacity) × (other.old.seen ≤ other.new.seen) }
+        ensures drained { result ≡ true → (self.new.known ≡ []) × (other.new.posted ≡ self.new.collected) }
+        ensures even { length other.old.posted ≡ length self.old.collected → result ≡ true }
+    {
+        agree(&mut other.bypass, &mut self.bypass);
+        self.ring.slots_beside(&mut other.ring) == 0
+    }
+
+    /// Counts letters as posted and as collected that go by the lane, in which nothing is.
+    #[inline(always)]
+    fn note_by(&mut self, other: &mut OutLane, letters: &[Letter])
+        requires lane { (other.old.ring ≡ self.old.ring) × (other.old.from ≡ self.old.from)
+            × (other.old.to ≡ self.old.to) }
+        requires names { AllGo self.old.from self.old.to letters.now }
+        requires drained { (self.old.known ≡ []) × (other.old.posted ≡ self.old.collected) }
+        ensures same { (self.new.ring ≡ self.old.ring) × (self.new.from ≡ self.old.from) × (self.new.to ≡ self.old.to)
+            × (self.new.known ≡ self.old.known) }
+        ensures other { (other.new.ring ≡ other.old.ring) × (other.new.from ≡ other.old.from)
+            × (other.new.to ≡ other.old.to) × (other.new.capacity ≡ other.old.capacity) }
+        ensures posted { other.new.posted ≡ other.old.posted ++ letters.now }
+        ensures collected { self.new.collected ≡ self.old.collected ++ letters.now }
+        ensures seen { other.new.seen ≡ other.old.seen + length letters.now }
+    {
+        let count = letters.len() as u64;
+        other.count = other.count.saturating_add(count);
+        self.count = self.count.saturating_add(count);
+        go_by(&mut other.bypass, &mut self.bypass, &other.ring, letters);
     }
 
     /// The number of letters that are known to wait.
@@ -227,17 +302,20 @@ pub(crate) fn make(
     ensures into { IfOk result (λ r. r.1 ≡ new_receiving r.0.ring from to) }
 {
     let (producer, consumer) = RingBuffer::new(alloc, capacity)?;
+    let (out_bypass, in_bypass) = halves();
     let out = OutLane {
         ring: producer,
         from,
         to,
         count: 0,
+        bypass: out_bypass,
     };
     let into = InLane {
         ring: consumer,
         from,
         to,
         count: 0,
+        bypass: in_bypass,
     };
     Ok((out, into))
 }

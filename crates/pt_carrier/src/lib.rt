@@ -42,6 +42,9 @@
 //! A caller that has several letters for one desk uses [`Outs::post_run`] in place of as many calls of `post`. The
 //! letters are copied into the ring one after the other, and shown to the other end by one write for all of them.
 //!
+//! A caller that has both ends of a desk need not move the desk's letters to itself, if nothing is in that lane: it
+//! handles them where they are, and [`Ins::go_by`] counts them as posted and as collected.
+//!
 //! A caller that only reads a letter uses [`Ins::next_from`], [`Ins::front`] and [`Ins::pass`] in place of `collect`.
 //! The letter is then read in its ring, and removed without being moved out.
 //!
@@ -56,6 +59,7 @@
 //! - **Collecting.** `collect` returns nothing only if its end knows of no letter in any lane.
 //! - **Reading in place.** `next_from`, `front`, `take` and `pass` are its parts: the desk of the next letter, that
 //!   letter in its lane, and taking it.
+//! - **By a lane.** After `go_by` letters of a desk to itself are posted and collected, behind all that were.
 //! - **No locks.** None of these takes a lock or memory, or waits.
 //! - **Both ends.** After `Ins::meet` each end of the lane knows all of it.
 //!
@@ -66,6 +70,7 @@
 //! `IsNode` of the places of all desks. `proofs/Places.antt` reads it at one desk.
 #![tactic(auto)]
 
+mod bypass;
 mod ends;
 mod lane;
 mod opening;

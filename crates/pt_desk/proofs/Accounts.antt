@@ -12,12 +12,13 @@ use Rattle.pt_events.specs.History.{sent_by}
 use Rattle.pt_events.specs.Journal.{letter, letters, posts, gots, Agrees}
 use Rattle.pt_carrier.specs.Ends.{Place, OutEnds, InEnds, more_of, Collects, looking_from}
 use Rattle.pt_carrier.specs.Meeting.{out_kept, in_kept}
+use Rattle.pt_carrier.proofs.Meeting.{meets_still}
 use Rattle.pt_shard.specs.ShardState.{ShardState, box, past, written, handled, came_event}
 use Rattle.pt_shard.specs.Outbox.{sent_on_some, holding, held_from}
 use Rattle.pt_shard.specs.Fit.{IsFit}
 use Rattle.pt_desk.specs.DeskState.{IsAccounted}
 use Rattle.pt_events.proofs.Agreeing.{Agrees-got, Agrees-posted}
-use Rattle.pt_desk.proofs.Letters.{put_at}
+use Rattle.pt_shard.proofs.Boxes.{put_at}
 
 -- the accounts of a desk with the same ends, of which the number and the settings stay
 pub accounted_by : (s s' : ShardState) (o : OutEnds) (i : InEnds) → IsAccounted s o i → s'.number ≡ s.number → s'.config ≡ s.config → ((e : ℕ) → e < s.config.desks → posts s'.start s'.journal e ≡ get_or o.posted e [] ++ box s' e)
@@ -33,6 +34,7 @@ accounted_by s s' o i acc number config posted collected =
       collected_desks = acc.collected_desks ∙ sym desks;
       posted = λ e l. posted e (omega (arith, l, desks));
       collected = λ d l. collected d (omega (arith, l, desks));
+      own = acc.own;
     }
 
 -- what an event sends waits in the outbox
@@ -72,6 +74,7 @@ module _ (s : ShardState) (o : OutEnds) (i : InEnds) (acc : IsAccounted s o i) w
     collected_desks = ap length takes.collected ∙ length-set i.collected l.from.shard (get_or i.collected l.from.shard [] ++ l ∷ []) ∙ acc.collected_desks;
     posted = acc.posted;
     collected = λ d h. go d h (l.from.shard == d) refl;
+    own = meets_still o o i i' refl place acc.own;
   }
     where
       before : (d : ℕ) → d < s.config.desks → Agrees (get_or i.collected d []) (gots s.journal d) []
@@ -102,6 +105,7 @@ accounted_posted s s' o o' i e count e_in fit acc after more place =
       collected_desks = acc.collected_desks;
       posted = λ k h. go k h (k == e) refl;
       collected = acc.collected;
+      own = meets_still o o' i i place refl acc.own;
     })
   where
     here : posts s.start s.journal e ≡ get_or o'.posted e [] ++ get_or (set s.outbox e (drop count (get_or s.outbox e []))) e []
@@ -148,9 +152,10 @@ accounted_met s o o' i i' acc p q = record {
   collected_desks = ap (λ (k : Place × ℕ × List (List Letter)). length k.2) q ∙ acc.collected_desks;
   posted = λ e l. acc.posted e l ∙ ap (λ (k : Place × List (List Letter) × List ℕ). get_or k.1 e [] ++ box s e) (sym p);
   collected = λ d l. subst (λ (k : Place × ℕ × List (List Letter)). Agrees (get_or k.2 d []) (gots s.journal d) (held_from d s.hold)) (sym q) (acc.collected d l);
+  own = meets_still o o' i i' (ap (λ (k : Place × List (List Letter) × List ℕ). k.0) p) (ap (λ (k : Place × ℕ × List (List Letter)). k.0) q) acc.own;
 }
 
 -- another lane is looked at first
 pub accounted_looking : (s : ShardState) (o : OutEnds) (i : InEnds) (k : ℕ) → IsAccounted s o i → IsAccounted s o (looking_from k i)
 accounted_looking s o i k acc =
-    record { out_number = acc.out_number; in_number = acc.in_number; out_desks = acc.out_desks; in_desks = acc.in_desks; posted_desks = acc.posted_desks; collected_desks = acc.collected_desks; posted = acc.posted; collected = acc.collected }
+    record { out_number = acc.out_number; in_number = acc.in_number; out_desks = acc.out_desks; in_desks = acc.in_desks; posted_desks = acc.posted_desks; collected_desks = acc.collected_desks; posted = acc.posted; collected = acc.collected; own = meets_still o o i (looking_from k i) refl refl acc.own }

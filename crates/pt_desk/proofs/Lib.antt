@@ -8,6 +8,8 @@ pub mod Ending
 pub mod Deaths
 pub mod Before
 pub mod Seating
+mod Own
+mod Owning
 mod Looking
 mod Telling
 mod Forgetful

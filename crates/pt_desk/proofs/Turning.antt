@@ -24,7 +24,7 @@ pub held_accounted : (s s1 s2 : ShardState) (o : OutEnds) (i : InEnds) (l : Lett
 held_accounted s s1 s2 o i l boxes acc holds handles frees =
     subst (λ z. IsAccounted z o i) (sym (frees ∙ ap (λ (z : ShardState). holding None z) handles)) (accounted_handled s o i boxes acc l holds)
 
-refused : (l : Letter) (s s' : ShardState) (stop : Stop) → Handles l s (Err stop) s' → s' ≡ s
+pub refused : (l : Letter) (s s' : ShardState) (stop : Stop) → Handles l s (Err stop) s' → s' ≡ s
 refused l s s' Memory h = h.1
 refused l s s' Worn h = h.1
 

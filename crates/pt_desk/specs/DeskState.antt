@@ -3,6 +3,7 @@ use Rattle.std.specs.Prelude.{◌≡◌, ℕ, ◌<◌, List, [], ◌++◌, lengt
 use Rattle.pt_signal.specs.declared.letter.Letter.{Letter}
 use Rattle.pt_events.specs.Journal.{posts, gots, Agrees}
 use Rattle.pt_carrier.specs.Ends.{Place, OutEnds, InEnds}
+use Rattle.pt_carrier.specs.Meeting.{Meets}
 use Rattle.pt_carrier.specs.Node.{places}
 use Rattle.pt_shard.specs.ShardState.{ShardState, box}
 use Rattle.pt_shard.specs.Outbox.{held_from}
@@ -33,7 +34,8 @@ abbrev pub collected_from : DeskState → ℕ → List Letter
 collected_from d e = slice_index_or d.ins.collected e []
 
 -- what the journal sent to each desk is what was posted there, then what waits to be posted;
--- what was collected from each desk is what came from it, then the letter in the hold
+-- what was collected from each desk is what came from it, then the letter in the hold;
+-- and the ends are those of one desk: it has both ends of its lane to itself
 pub record IsAccounted (s : ShardState) (o : OutEnds) (i : InEnds) : Type 0 where
   pub out_number : o.place.number ≡ s.number
   pub in_number : i.place.number ≡ s.number
@@ -44,6 +46,7 @@ pub record IsAccounted (s : ShardState) (o : OutEnds) (i : InEnds) : Type 0 wher
   pub posted : (e : ℕ) → e < s.config.desks → posts s.start s.journal e ≡ slice_index_or o.posted e [] ++ box s e
   pub collected : (d : ℕ) → d < s.config.desks
       → Agrees (slice_index_or i.collected d []) (gots s.journal d) (held_from d s.hold)
+  pub own : Meets o i
 
 -- what holds of every desk
 pub record IsDesk (d : DeskState) : Type 0 where

@@ -6,3 +6,4 @@ pub mod Sight
 pub mod Turns
 pub mod Meeting
 pub mod Forgetting
+pub mod Own

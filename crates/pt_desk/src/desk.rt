@@ -1,13 +1,13 @@
 //! A desk of a node.
 
-ghost use Rattle.std.specs.Prelude.{◌≡◌, ◌<◌, ◌+◌, ◌-◌, ◌^◌, ◌++◌, ℕ, [], length, min, true, Some, None, IfSome};
+ghost use Rattle.std.specs.Prelude.{◌≡◌, ◌<◌, ◌≤◌, ◌+◌, ◌-◌, ◌^◌, ◌++◌, ℕ, [], length, min, true, Some, None, IfSome};
 ghost use Rattle.std.specs.Prelude.{IfOk, IsOk, cond, drop, is_some, nat_lt, slice_get, slice_index_or, ◌==◌};
 ghost use Rattle.std.specs.Option.{option_copied};
 ghost use Rattle.pt_signal.specs.declared.signal.Signal.{Signal};
 ghost use Rattle.pt_events.specs.declared.event.Event.{Event};
 ghost use Rattle.pt_events.specs.Journal.{IsLocal, Agrees, posts, gots, clock};
 ghost use Rattle.pt_carrier.specs.Meeting.{Meets};
-ghost use Rattle.pt_shard.specs.ShardState.{lives, state_in};
+ghost use Rattle.pt_shard.specs.ShardState.{lives, state_in, box};
 ghost use Rattle.pt_shard.specs.Known.{knows};
 ghost use Rattle.pt_shard.specs.Living.{living_count, living_in, living_pids};
 ghost use Rattle.pt_signal.specs.declared.pid.Pid.{Pid};
@@ -27,6 +27,8 @@ ghost use Rattle.pt_desk.specs.Reaching.{LooksFirst, Reaches, has_link_to_make, 
 ghost use Rattle.pt_desk.specs.Posting.{PostsTo, PostsSome, Posts, total};
 ghost use Rattle.pt_desk.specs.InPlace.{HandlesFront, HoldsFront, CanTell, seat_told};
 ghost use Rattle.pt_desk.specs.Turns.{HandlesAtMostOne, Turns, looking_first};
+ghost use Rattle.pt_desk.specs.Own.{IsClear, MayGoBy, HandlesOwn, PostsLeft, waits_here};
+ghost use Rattle.pt_carrier.specs.Ends.{HasPlaces};
 
 use crate::turned::Turned;
 use pt_accounts::DeskLives;
@@ -35,7 +37,7 @@ use pt_directory::{Directory, Seat};
 use pt_events::Journal;
 use pt_process::Process;
 use pt_shard::{Config, Fault, Loss, Shard, Stop};
-use pt_signal::{Body, Ids, Item, Pick, Pid, Reason, Ref};
+use pt_signal::{Body, Ids, Item, Letter, Pick, Pid, Reason, Ref};
 use std::alloc::{AllocError, Global};
 use std::marker::Model;
 use std::sync::Arc;
@@ -98,7 +100,7 @@ impl Desk {
     ///
     /// These are required:
     ///
-    /// - The ends are those of the shard's number.
+    /// - The ends are those of the shard's number, and two of them are the two ends of the desk's lane to itself.
     /// - The letters that the shard's journal sent to each desk are those posted there, followed by those waiting in
     ///   its outbox.
     /// - The letters collected from each desk are those that its journal received from there, followed by the letter in
@@ -604,6 +606,111 @@ impl Desk {
         ensures turns { Turns budget self.old result self.new }
         ensures goes_on { GoesOn self.old self.new }
     {
+        let waiting = self.count_by();
+        if waiting > 0 {
+            return self.turn_by(waiting, budget);
+        }
+        self.turn_over(budget)
+    }
+
+    /// The number of letters that go by the lane of the desk to itself in a turn: none, or all that wait for it.
+    ///
+    /// They go by if the desk is alone in its node, with nothing in its hold and nothing in its lane, and the lane has
+    /// places for all of them. Then a turn would post them, and collect them one after the other with nothing between.
+    /// So they are handled where they wait, and count as posted and as collected.
+    #[inline(always)]
+    fn count_by(&self) -> usize
+        ensures { 0 < result → MayGoBy result self.now }
+    {
+        if self.shard.config().desks != 1 || self.shard.holds() {
+            return 0;
+        }
+        let own = self.shard.number();
+        let waiting = self.shard.letters_for(own).len();
+        if waiting == 0 || !self.outs.has_places(own, waiting) {
+            return 0;
+        }
+        let posted = self.outs.posted(own);
+        if posted == u64::MAX || posted != self.ins.collected(own) {
+            return 0;
+        }
+        waiting
+    }
+
+    /// A turn in which so many letters go by the lane of the desk to itself: all that wait for it.
+    #[inline(always)]
+    fn turn_by(&mut self, waiting: usize, budget: u32) -> Turned
+        requires { MayGoBy waiting self.old }
+        ensures turns { Turns budget self.old result self.new }
+        ensures goes_on { GoesOn self.old self.new }
+    {
+        let count = waiting.min(budget as usize);
+        for k in 0..count {
+            if let Err(stop) = self.handle_own() {
+                self.post_left(waiting - k - 1);
+                return Turned {
+                    posted: waiting as u64,
+                    handled: k as u64,
+                    stopped: Some(stop),
+                };
+            }
+        }
+        if count < waiting {
+            self.post_left(waiting - count);
+        }
+        Turned {
+            posted: waiting as u64,
+            handled: count as u64,
+            stopped: None,
+        }
+    }
+
+    /// Handles the oldest letter of the desk to itself, which goes by their lane. If it is refused, it is in the hold.
+    #[inline(always)]
+    fn handle_own(&mut self) -> Result<(), Stop>
+        requires clear { IsClear self.old }
+        requires waits { 0 < length (waits_here self.old) }
+        ensures { HandlesOwn self.old result self.new }
+    {
+        let own = self.shard.number();
+        let letter = oldest(&self.shard, own);
+        self.shard.pass_out(own, 1);
+        self.ins.go_by(&mut self.outs, &[letter]);
+        self.ins.look_from(0);
+        match self.shard.handle_in_place(&letter) {
+            Ok(ended) => {
+                tell_ended(&self.shard, &self.directory, &mut self.seat, ended);
+                Ok(())
+            }
+            Err(stop) => {
+                self.shard.put_hold(letter);
+                Err(stop)
+            }
+        }
+    }
+
+    /// Posts so many letters to the desk itself, the oldest first, for which its lane has places.
+    #[cold]
+    #[inline(never)]
+    fn post_left(&mut self, count: usize)
+        requires wait { count ≤ length (waits_here self.old) }
+        requires places { HasPlaces self.old.outs self.old.shard.number count }
+        requires desk { self.old.shard.number < self.old.shard.config.desks }
+        ensures { PostsLeft count self.old self.new }
+    {
+        let own = self.shard.number();
+        let posted = self
+            .outs
+            .post_run(own, &self.shard.letters_for(own)[..count]);
+        self.shard.pass_out(own, posted);
+    }
+
+    /// A turn in which every letter goes over its lane.
+    #[inline(always)]
+    fn turn_over(&mut self, budget: u32) -> Turned
+        ensures turns { Turns budget self.old result self.new }
+        ensures goes_on { GoesOn self.old self.new }
+    {
         let posted = self.post();
         let mut handled: u64 = 0;
         for _letter in 0..budget {
@@ -718,6 +825,16 @@ impl Desk {
         tell_ended(&self.shard, &self.directory, &mut self.seat, ended);
         Ok(true)
     }
+}
+
+/// The oldest letter that waits to be posted to desk `to`.
+#[inline(always)]
+fn oldest(shard: &Shard, to: u8) -> Letter
+    requires desk { to < shard.now.config.desks }
+    requires waits { 0 < length (box shard.now to) }
+    ensures { slice_get (box shard.now to) 0 ≡ Some result }
+{
+    shard.letters_for(to)[0]
 }
 
 /// Handles the oldest letter that is known to wait in the lane from desk `from`, and leaves it there. To move it out

@@ -70,7 +70,8 @@
 //! # Cost
 //!
 //! A call costs what the shard's call costs. A turn costs time for the letters that it posts and handles, with the
-//! exits that they cause, and for one look at each desk's queue. No call takes a lock or waits for another thread. It
+//! exits that they cause, and for one look at each desk's queue. A desk that is alone in its node handles its letters
+//! to itself where they wait: they count as posted and as collected, and are not moved. No call takes a lock or waits for another thread. It
 //! allocates only for the events and letters that it writes.
 //!
 //! Tests: `checks/tried/test_calls/desk.rt.txt`, `checks/tried/test_calls/called.rt.txt` and `checks/rows`.

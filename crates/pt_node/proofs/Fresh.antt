@@ -1,11 +1,12 @@
 -- The desks of a new node.
 use Rattle.std.proofs.Common.{◌≡◌, ℕ, zero, suc, ◌<◌, List, [], length, map, get_or, refl, sym, ap, ◌∙◌, subst, arith}
 use Rattle.std.specs.Prelude.{replicate}
-use Rattle.std.proofs.lemmas.List.{get_or-map, length-map}
+use Rattle.std.proofs.lemmas.List.{get_or-map, get_or_default, length-map}
 use Rattle.std.proofs.lemmas.Simd.{map-map}
 use Rattle.pt_signal.specs.declared.letter.Letter.{Letter}
 use Rattle.pt_carrier.specs.Ends.{Place, OutEnds, InEnds}
 use Rattle.pt_carrier.specs.Node.{places, IsNode, IsNew}
+use Rattle.pt_carrier.proofs.Meeting.{can_meet}
 use Rattle.pt_signal.specs.declared.config.Config.{Config}
 use Rattle.pt_shard.specs.ShardState.{ShardState}
 use Rattle.pt_signal.specs.Settings.{IsInRange}
@@ -42,6 +43,8 @@ module _ (config : Config) (shards : List ShardState) (pairs : List (OutEnds × 
           let numbers = node.numbers k (places p) in_node in
           let rings = node.lanes k (places p) in_node in
           let fresh_ends = new k p in_desks in
+          let here = get_or pairs k p in
+          let still : here ≡ get_or pairs k here = get_or_default pairs k p here in_pairs in
           let all : length (map places pairs) ≡ config.desks = length-map pairs places ∙ count in
           subst (λ z. IsAccounted z (get_or pairs k p).0 (get_or pairs k p).1) (sym (are.fresh_each k s h)) (record {
             out_number = ap (λ (z : Place × Place). z.0.number) (sym at) ∙ numbers.0;
@@ -52,6 +55,7 @@ module _ (config : Config) (shards : List ShardState) (pairs : List (OutEnds × 
             collected_desks = fresh_ends.collected_desks;
             posted = λ e l. rw (fresh_ends.posted e, empty_box config.desks e) refl;
             collected = λ d l. fresh_ends.collected d;
+            own = can_meet pairs node k k here here in_pairs in_pairs still still;
           })
 
   module _ (range : IsInRange config) (desks : List DeskState) (ends_are : all_ends desks ≡ pairs) (shards_are : all_shards desks ≡ shards)

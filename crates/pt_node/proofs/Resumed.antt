@@ -3,7 +3,7 @@ use Rattle.std.proofs.Common.{◌≡◌, ℕ, ◌+◌, ◌*◌, ◌<◌, false, 
 use Rattle.std.specs.Prelude.{filter_map}
 use Rattle.std.specs.List.{cons_option}
 use Rattle.std.specs.Option.{option_or}
-use Rattle.std.proofs.lemmas.List.{get_or-map, length-map}
+use Rattle.std.proofs.lemmas.List.{get_or-map, get_or_default, length-map}
 use Rattle.std.proofs.lemmas.Simd.{map-map}
 use Rattle.pt_signal.specs.declared.pid.Pid.{Pid}
 use Rattle.pt_events.specs.declared.event.Stamped.{Stamped}
@@ -18,6 +18,7 @@ use Rattle.pt_directory.specs.Seats.{DirectoryState, death_of, given_deaths, reo
 use Rattle.pt_directory.proofs.Lists.{at_nothing}
 use Rattle.pt_carrier.specs.Ends.{Place, OutEnds, InEnds}
 use Rattle.pt_carrier.specs.Node.{places, IsNode, IsNew}
+use Rattle.pt_carrier.proofs.Meeting.{can_meet}
 use Rattle.pt_signal.specs.declared.config.Config.{Config}
 use Rattle.pt_shard.specs.ShardState.{ShardState, past, phase_of, box}
 use Rattle.pt_shard.specs.Outbox.{held_from}
@@ -141,6 +142,8 @@ module _ (g : GatheredState) (whole : IsGathered g) (n : ℕ) where
             let numbers = node.numbers k (places p) in_node in
             let rings = node.lanes k (places p) in_node in
             let fresh_ends = new k p (omega (arith, in_pairs, count)) in
+            let here = get_or pairs k p in
+            let still : here ≡ get_or pairs k here = get_or_default pairs k p here in_pairs in
             let desks = desks_of k s in_shards in
             let number = (whole.shards k s in_shards).number in
             let all : length (map places pairs) ≡ (get_or g.shards k s).config.desks = length-map pairs places ∙ count ∙ desks in
@@ -153,6 +156,7 @@ module _ (g : GatheredState) (whole : IsGathered g) (n : ℕ) where
               collected_desks = fresh_ends.collected_desks ∙ desks;
               posted = λ e l. rw (fresh_ends.posted e, box_none k e s in_shards (omega (arith, l, desks, whole.desks))) refl;
               collected = λ d l. subst (λ z. Agrees (get_or (get_or pairs k p).1.collected d []) [] z) (sym (hold_none d k s (omega (arith, l, desks, whole.desks)) in_shards)) (fresh_ends.collected d);
+              own = can_meet pairs node k k here here in_pairs in_pairs still still;
             })
 
   -- the tables forgot -----------------------------------------------------------------------------

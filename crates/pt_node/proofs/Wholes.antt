@@ -2,6 +2,7 @@
 use Rattle.std.proofs.Common.{◌≡◌, ℕ, suc, ◌<◌, List, [], ◌∷◌, length, map, get_or, refl, sym, ap, ◌∙◌, arith}
 use Rattle.pt_carrier.specs.Ends.{Place, OutEnds, InEnds}
 use Rattle.pt_carrier.specs.Node.{kept}
+use Rattle.pt_carrier.proofs.Meeting.{meets_still}
 use Rattle.pt_shard.specs.ShardState.{ShardState}
 use Rattle.pt_desk.specs.DeskState.{DeskState, IsAccounted}
 use Rattle.pt_workers.specs.Desks.{AreAccounted, AreWhole, all_ends, all_shards, desk_kept}
@@ -42,6 +43,7 @@ kept_accounted s p q k a =
       collected_desks = ap length (sym collected) ∙ a.collected_desks;
       posted = λ e h. rw (← posted) (a.posted e h);
       collected = λ d h. rw (← collected) (a.collected d h);
+      own = meets_still p.0 q.0 p.1 q.1 (sym out_place) (sym in_place) a.own;
     }
 
 pub accounted_kept : (ss : List ShardState) (ps qs : List (OutEnds × InEnds)) → map kept qs ≡ map kept ps → AreAccounted ss ps → AreAccounted ss qs

@@ -1,7 +1,7 @@
 //! What a call or a receipt does with the ledger, and with a process that the desk lends it.
 
 ghost use Rattle.std.specs.Prelude.{◌≡◌, true, ◌<◌, ◌≤◌, max, length, Some, None};
-ghost use Rattle.std.specs.Prelude.{IfSome, IsSome, is_some};
+ghost use Rattle.std.specs.Prelude.{IfSome, IsSome, is_some, slice_get};
 ghost use Rattle.pt_signal.specs.declared.signal.Signal.{Signal};
 ghost use Rattle.pt_events.specs.declared.event.Event.{Event};
 ghost use Rattle.pt_signal.specs.declared.config.TheConstants.{MAX_DESKS, MAX_STAMP};
@@ -165,9 +165,20 @@ pub(crate) fn take(
         return Ok(None);
     };
     ledger.prepare(0)?;
+    // The event is written from where the item waits: the item is not needed beside it.
+    let waiting = item_at(process, place);
+    ledger.write(0, Event::Took(p, pick, waiting));
     let item = process.take_at(place);
-    ledger.write(0, Event::Took(p, pick, item));
     Ok(Some(item))
+}
+
+/// The item that waits at a place.
+#[inline(always)]
+fn item_at(process: &Process, place: usize) -> Item
+    requires { place < length process.now.state.waiting }
+    ensures { slice_get process.now.state.waiting place ≡ Some result }
+{
+    process.waiting()[place]
 }
 
 /// Makes room for spawning a process, and for the parent's half of the link, if one is asked for. It returns the id of

@@ -1,8 +1,8 @@
--- `Desk::turn`: its clauses `goes_on` and `turns`, and its loop over `letter`.
+-- `Desk::turn_over`: its clauses `goes_on` and `turns`, and its loop over `letter`.
 use Rattle.std.proofs.Common.{◌∷◌, Some, None, subst, Ok, inl, inr, refl, arith, rules}
 use Rattle.pt_desk.specs.Turns.{HandlesAtMostOne}
 use Rattle.pt_desk.proofs.Turning.{turn_goes_on}
-use Rattle.pt_desk.proofs.desk.Desk.turn.Goals as goal
+use Rattle.pt_desk.proofs.desk.Desk.turn_over.Goals as goal
 
 pub loop-letter-preserved : goal.loop-letter-preserved
 loop-letter-preserved c =

@@ -1,0 +1,6 @@
+-- It owns a ghost value alone, so it may go to any thread.
+use denote.Param.Send.{IsSend}
+use Rattle.pt_carrier.specs.contracts.bypass.InBypass.{the_row}
+
+pub send : IsSend the_row
+send = record { owned = λ d vs. ((λ vss. (tt, tt)), tt); leaving = λ k f vs. tt }
