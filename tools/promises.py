@@ -42,7 +42,7 @@ QUESTIONS = (
     ("Every schedule of a script", ("pt_schedules", "pt_explorer", "pt_explore")),
     ("A printed history is judged", ("pt_auditor", "pt_texts", "pt_audit")),
     ("A history is drawn, or printed for another tool", ("pt_chart", "pt_render")),
-    ("The shell", ("pt_lines", "pt_session", "pt_shell")),
+    ("The shell", ("pt_lines", "pt_shell")),
 )
 
 HEAD = """# What each crate promises

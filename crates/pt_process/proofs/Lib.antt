@@ -1,7 +1,4 @@
 -- The lemmas that more than one function of the crate uses.
-pub mod MapLemmas
-pub mod FewLemmas
-pub mod GapLemmas
 pub mod PlaceLemmas
 pub mod MarkLemmas
 pub mod LinkLemmas

@@ -9,7 +9,7 @@ use Rattle.pt_signal.specs.declared.ids.Ids.{Ids}
 use Rattle.pt_signal.specs.Values.{same_pid}
 use Rattle.pt_signal.specs.Process.{held, holds_any, has_id, share_id, without_ids, one_id, ids_of, second_id, enter, enter_at, add_id, cut, cut_at, leave_at}
 use Rattle.pt_process.specs.Outcome.{has_two}
-use Rattle.pt_process.proofs.MapLemmas.{length-remove_entry}
+use Rattle.pt_entries.proofs.MapLemmas.{length-remove_entry}
 
 module _ {K V : Type 0} (test : K → Bool) where
   set_same_step : (b : Bool) (e : K × V) (es : List (K × V)) (v : V) → cond b (Some e.1) (lookup test es) ≡ Some v

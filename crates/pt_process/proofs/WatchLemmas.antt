@@ -3,7 +3,7 @@ use Rattle.std.proofs.Common.{◌≡◌, ◌≢◌, ◌+◌, Bool, true, false, 
 use Rattle.std.specs.List.{list_any}
 use Rattle.std.specs.Map.{lookup, remove_entry, keys_of}
 use Rattle.pt_signal.specs.Values.{without_first}
-use Rattle.pt_process.proofs.MapLemmas.{none_from_test, any-keys_of}
+use Rattle.pt_entries.proofs.MapLemmas.{none_from_test, any-keys_of}
 
 module _ {K V : Type 0} (test : K → Bool) where
   remove_step : (b : Bool) (e : K × V) (es rest : List (K × V)) (keys : List K) → keys_of rest ≡ keys → keys_of (cond b es (e ∷ rest)) ≡ cond b (keys_of es) (e.0 ∷ keys)

@@ -3,6 +3,4 @@ pub mod Outcome
 pub mod Exits
 pub mod Places
 pub mod Peers
-pub mod Gaps
-pub mod Held
 pub mod Marks

@@ -3,7 +3,8 @@
 ghost use Rattle.std.specs.Prelude.{◌≡◌, ◌<◌, length, slice_get, Some};
 ghost use Rattle.pt_signal.specs.Process.{sent};
 
-use crate::{Mailbox, Rows};
+use crate::Mailbox;
+use pt_entries::Rows;
 use pt_signal::{Ids, Pid, Reason, Ref, Signal};
 use std::marker::Model;
 

@@ -61,19 +61,14 @@
 //!   entry.
 #![tactic(auto)]
 
-mod entries;
 mod estate;
 mod mailbox;
-mod many;
 mod outcome;
 mod process;
-mod rows;
 mod verdict;
 
-pub use entries::Entries;
 pub use estate::Estate;
 pub use mailbox::Mailbox;
 pub use outcome::Outcome;
 pub use process::Process;
-pub use rows::Rows;
 pub use verdict::{ExitSignal, Verdict};

@@ -13,7 +13,8 @@ ghost use Rattle.pt_process.specs.Places.{IsFirst, IsFirstPlace};
 ghost use Rattle.pt_process.specs.Peers.{peers_held};
 ghost use Rattle.pt_process.specs.ProcessView.{owing_of};
 
-use crate::{Entries, Estate, ExitSignal, Mailbox, Outcome, Verdict};
+use crate::{Estate, ExitSignal, Mailbox, Outcome, Verdict};
+use pt_entries::Entries;
 use pt_signal::{Ids, Item, LinkId, Pick, Pid, Reason, Ref, Signal};
 use std::alloc::{AllocError, Global};
 use std::marker::Model;

@@ -13,16 +13,40 @@
 //! line. Else it ends there, with the status 1. The status is 2 where the words are refused, and 3 where memory or a
 //! file was wanting. `--help` and `--version` print on standard output, with the status 0.
 //!
+//! `pt_lines` says what a line may be. A session (`session`) has at most one node, which is running, gathered, or settled, and
+//! each call is the node's call of that name. `running` reads the lines of a reader and writes each answer.
+//!
+//! Tests: `checks/shell` and `checks/rows`.
+//!
 //! # What is proved
 //!
+//! - **Answers.** Each call that a line asks for is the node's call, and the text kept is that of its answer. (`hear`)
+//! - **Texts.** The text of each answer is the one that the definitions give. A value has the text that it has everywhere
+//!   else: in histories, in scripts, and in the bindings. (`text_of`)
+//! - **Calls out of place.** A call that the node's state does not allow changes nothing.
+//! - **Expectations.** An expectation passes exactly if the next line of the answer is its words.
+//! - **Runs.** A run that reached its end wrote the answers of its lines, in order. (`run`)
 //! - **It ends.** The program ends and goes wrong nowhere.
 #![tactic(auto)]
 
+mod acting;
+mod answer;
 mod bounded;
+mod complaint;
+mod expecting;
+mod looking;
+mod looking_back;
+mod parts;
+mod phase;
+mod running;
+mod session;
+mod stepping;
+mod telling;
+mod text;
 
 use crate::bounded::{Bounded, MOST_BYTES};
 use pt_render::VERSION;
-use pt_session::{Fault, run};
+use pt_shell::{Fault, run};
 use std::io::{BufReader, BufWriter, IsTerminal, Write};
 use std::process::ExitCode;
 use std::rt::Runtime;

@@ -1,6 +1,6 @@
 -- `Process::cut_link`: its clause `none`.
 use Rattle.std.proofs.Common.{◌∙◌, sym}
-use Rattle.pt_process.proofs.MapLemmas.{remove_entry-absent}
+use Rattle.pt_entries.proofs.MapLemmas.{remove_entry-absent}
 use Rattle.pt_process.proofs.StateLemmas.{links_same, IfNone-from}
 use Rattle.pt_process.proofs.process.Process.cut_link.Goals as goal
 

@@ -1,6 +1,6 @@
 -- `Process::cut_monitor`: its clause `none`.
 use Rattle.std.proofs.Common.{◌∙◌, sym}
-use Rattle.pt_process.proofs.MapLemmas.{remove_entry-absent}
+use Rattle.pt_entries.proofs.MapLemmas.{remove_entry-absent}
 use Rattle.pt_process.proofs.StateLemmas.{watching_same, IfNone-from}
 use Rattle.pt_process.proofs.process.Process.cut_monitor.Goals as goal
 

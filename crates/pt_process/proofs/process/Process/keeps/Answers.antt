@@ -2,7 +2,7 @@
 use Rattle.std.proofs.Common.{◌∙◌, ap, is_some}
 use Rattle.std.specs.List.{list_any}
 use Rattle.pt_signal.specs.Process.{same_watch}
-use Rattle.pt_process.proofs.MapLemmas.{any-keys_of}
+use Rattle.pt_entries.proofs.MapLemmas.{any-keys_of}
 use Rattle.pt_process.proofs.process.Process.keeps.Goals as goal
 
 pub returns : goal.returns

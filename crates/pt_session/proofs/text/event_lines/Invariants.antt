@@ -1,8 +1,0 @@
--- `event_lines`: what holds in its loop over `place`.
-use Rattle.std.proofs.Common.{◌≡◌, ◌++◌, drop}
-use Rattle.std.specs.Prelude.{string_bytes}
-use Rattle.pt_session.specs.Text.{event_lines}
-use Rattle.pt_session.proofs.text.event_lines.Given as goal
-
-abbrev pub invariant-loop-place : goal.invariant-loop-place
-invariant-loop-place l = string_bytes l.text ++ event_lines (drop l.place l.events) ≡ event_lines l.events

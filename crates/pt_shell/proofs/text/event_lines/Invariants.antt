@@ -1,0 +1,8 @@
+-- `event_lines`: what holds in its loop over `place`.
+use Rattle.std.proofs.Common.{◌≡◌, ◌++◌, drop}
+use Rattle.std.specs.Prelude.{string_bytes}
+use Rattle.pt_shell.specs.Text.{event_lines}
+use Rattle.pt_shell.proofs.text.event_lines.Given as goal
+
+abbrev pub invariant-loop-place : goal.invariant-loop-place
+invariant-loop-place l = string_bytes l.text ++ event_lines (drop l.place l.events) ≡ event_lines l.events
