@@ -45,8 +45,8 @@ mod telling;
 mod text;
 
 use crate::bounded::{Bounded, MOST_BYTES};
+use crate::running::{Fault, run};
 use pt_render::VERSION;
-use pt_shell::{Fault, run};
 use std::io::{BufReader, BufWriter, IsTerminal, Write};
 use std::process::ExitCode;
 use std::rt::Runtime;
@@ -140,7 +140,11 @@ fn printed<R: Runtime>(rt: &R, done: io::Result<()>) -> ExitCode {
 }
 
 /// Reads lines until they end, and returns the status.
-fn answer<R: Runtime + AllocGlobal, E: Write>(rt: &R, is_person: bool, errors: &mut E) -> ExitCode {
+fn answer_all<R: Runtime + AllocGlobal, E: Write>(
+    rt: &R,
+    is_person: bool,
+    errors: &mut E,
+) -> ExitCode {
     match run_shell(rt, is_person, errors) {
         Ok(()) => ExitCode::SUCCESS,
         Err(Stop::Fault(Fault::Line)) => ExitCode::from(1),
@@ -162,7 +166,7 @@ fn answer<R: Runtime + AllocGlobal, E: Write>(rt: &R, is_person: bool, errors: &
 fn main(rt: HostRuntime) -> ExitCode {
     match read_words(&rt) {
         Ok(Some(Asked::Lines(is_person))) => {
-            answer(&rt, is_person || rt.stdin().is_terminal(), &mut rt.stderr())
+            answer_all(&rt, is_person || rt.stdin().is_terminal(), &mut rt.stderr())
         }
         Ok(Some(Asked::Help)) => printed(&rt, rt.print(HELP)),
         Ok(Some(Asked::Version)) => printed(&rt, println!(rt; "pt_shell {VERSION}")),
