@@ -53,7 +53,7 @@ done
 
 # So it is where they share the states that as many moves lead to. In wide.json three processes send each other messages, and
 # hundreds of states are reached by as many moves.
-for name in erlang_causal erlang_limit erlang_reduced erlang_wide moves_chart moves_cross moves_history moves_limit moves_limit_exact \
+for name in erlang_causal erlang_first erlang_limit erlang_reduced erlang_wide moves_chart moves_cross moves_first moves_first_cut moves_first_met moves_first_one moves_history moves_limit moves_limit_exact \
     moves_one moves_race moves_reduced moves_reduced_limit moves_shared moves_turns moves_waiting moves_wide moves_wide_cut \
     moves_wide_limit moves_wide_reduced; do
     mapfile -t words <"$here/$name.args"
