@@ -6,9 +6,9 @@
 LIBRARY is a folder that bindings/build.sh has built; ROUNDS is 5 if it is not given. It prints a section of RESULTS.md, or
 writes it there.
 
-A row is what one of a workload takes of the processor, in microseconds. Each program is run for a number of times and for twice
-as many, and the row is what the second run takes more: the least of the rounds of each, in which the programs take turns. (the
-least of the differences would be too low: it would be that of a round in which other work held up the first run) A run takes
+A row is what one of a workload takes of the processor, in microseconds. Each program is run for a number of times, and at once
+behind that for twice as many. What the second run takes more is the figure of a round, in which the programs take turns. The row
+is the median of the rounds: other work, and a processor that grows slower meanwhile, make one round higher or lower. A run takes
 about half a second, many times what its start differs by. The second table is by the wall, too: so it says something only if
 the machine has a processor for each desk. What is missing (cargo, Debian's tokio, erl) is left out, and said.
 """
@@ -23,6 +23,7 @@ import tempfile
 import time
 from datetime import date
 from pathlib import Path
+from statistics import median
 from typing import NamedTuple
 
 ROOT = Path(__file__).resolve().parent.parent
@@ -66,9 +67,6 @@ class Cost(NamedTuple):
     processor: float
     wall: float
 
-    def least(self, other: Cost | None) -> Cost:
-        return self if other is None else Cost(min(self.processor, other.processor), min(self.wall, other.wall))
-
 
 def run(words: list[str], **variables: str) -> None:
     subprocess.run(words, check=True, env={**os.environ, **variables}, stdin=subprocess.DEVNULL)
@@ -84,12 +82,14 @@ def cost(words: list[str]) -> Cost:
     return Cost(float(used.ru_utime + used.ru_stime), time.monotonic() - began)
 
 
-def least(commands: list[list[str]], rounds: int) -> list[Cost]:
-    """The least that each command takes in so many rounds."""
-    best: list[Cost | None] = [None] * len(commands)
+def taken(pairs: list[tuple[list[str], list[str]]], rounds: int) -> list[Cost]:
+    """What the second command of each pair takes more than the first one: the median of so many rounds."""
+    found: list[list[Cost]] = [[] for _ in pairs]
     for _ in range(rounds):
-        best = [cost(words).least(before) for words, before in zip(commands, best)]
-    return [it for it in best if it is not None]
+        for (first, second), differences in zip(pairs, found):
+            few, more = cost(first), cost(second)
+            differences.append(Cost(more.processor - few.processor, more.wall - few.wall))
+    return [Cost(median(it.processor for it in rows), median(it.wall for it in rows)) for rows in found]
 
 
 def rust(library: Path, room: Path) -> list[Program]:
@@ -140,11 +140,10 @@ def erlang(room: Path) -> list[Program]:
 def table(programs: list[Program], rounds: int) -> str:
     """What one of each workload takes."""
     asked = [(it, row) for it in programs for row in it.workloads]
-    times = [(1, it, it.workloads[row]) for it, row in asked] + [(2, it, it.workloads[row]) for it, row in asked]
-    costs = least([[*it.words, work.word, str(fold * work.times)] for fold, it, work in times], rounds)
-    once, twice = costs[:len(asked)], costs[len(asked):]
-    micros = {(it.name, row): (more.processor - few.processor) / it.workloads[row].times / it.workloads[row].many * 1e6
-              for (it, row), few, more in zip(asked, once, twice)}
+    works = [(it.words, it.workloads[row]) for it, row in asked]
+    costs = taken([([*words, work.word, str(work.times)], [*words, work.word, str(2 * work.times)]) for words, work in works], rounds)
+    micros = {(it.name, row): more.processor / it.workloads[row].times / it.workloads[row].many * 1e6
+              for (it, row), more in zip(asked, costs)}
     rows = list(dict.fromkeys(row for _, row in asked))
     lines = [f"| | {' | '.join(rows)} |", "|---|" + "---|" * len(rows)]
     lines += [f"| {it.name} | {' | '.join(f'{micros[it.name, row]:.2f}' if row in it.workloads else '' for row in rows)} |"
@@ -155,27 +154,22 @@ def table(programs: list[Program], rounds: int) -> str:
 def desks_table(runtime: list[str], rounds: int) -> str:
     """What a message of Rust's runtime takes on several desks."""
     asked = [(shape, desks, every) for shape in SHAPES for desks in DESKS for every in EVERY]
-    commands = [[*runtime, shape, str(fold * MESSAGES), str(desks), str(every)]
-                for fold in (1, 2) for shape, desks, every in asked]
-    costs = least(commands, rounds)
-    once, twice = costs[:len(asked)], costs[len(asked):]
+    costs = taken([([*runtime, shape, str(MESSAGES), str(desks), str(every)], [*runtime, shape, str(2 * MESSAGES), str(desks), str(every)])
+                   for shape, desks, every in asked], rounds)
     text = ("| Messages | desks | the node goes on after | microseconds of a processor for each | "
             "millions a second by the wall |\n|---|---|---|---|---|\n")
-    for (shape, desks, every), few, more in zip(asked, once, twice):
-        micros, wall = (more.processor - few.processor) / MESSAGES * 1e6, more.wall - few.wall
-        text += f"| {SHAPES[shape]} | {desks} | {every:,} events | {micros:.2f} | {MESSAGES / wall / 1e6:.2f} |\n"
+    for (shape, desks, every), more in zip(asked, costs):
+        micros = more.processor / MESSAGES * 1e6
+        text += f"| {SHAPES[shape]} | {desks} | {every:,} events | {micros:.2f} | {MESSAGES / more.wall / 1e6:.2f} |\n"
     return text
 
 
 def waiting_table(programs: list[Program], rounds: int) -> str:
     """What a call and a DOWN take behind items that wait."""
     asked = [(it, row, items) for it in programs for row in it.workloads for items in WAITING]
-    commands = [[*it.words, it.workloads[row].word, str(fold * WAITING[items] * it.workloads[row].many), str(items)]
-                for fold in (1, 2) for it, row, items in asked]
-    costs = least(commands, rounds)
-    once, twice = costs[:len(asked)], costs[len(asked):]
-    micros = {(it.name, row, items): (more.processor - few.processor) / WAITING[items] / it.workloads[row].many * 1e6
-              for (it, row, items), few, more in zip(asked, once, twice)}
+    costs = taken([([*it.words, it.workloads[row].word, str(WAITING[items]), str(items)],
+                    [*it.words, it.workloads[row].word, str(2 * WAITING[items]), str(items)]) for it, row, items in asked], rounds)
+    micros = {(it.name, row, items): more.processor / WAITING[items] * 1e6 for (it, row, items), more in zip(asked, costs)}
     text = f"| Items that wait | {' | '.join(f'{it:,}' for it in WAITING)} |\n|---|{'---|' * len(WAITING)}\n"
     for it in programs:
         for row in it.workloads:
@@ -198,8 +192,8 @@ def section(library: Path, rounds: int) -> str:
         third = waiting_table([Program("A desk", [str(room / "calls")], CALLER),
                                *(it._replace(workloads=ERLANG_CALLER) for it in programs if it.name == "Erlang")], rounds)
     return (f"{HEADING}\n{date.today():%-d %B %Y}, beside other work (load {before:.0f} on {os.cpu_count()} processors), over "
-            f"a library {proved}. `bench/beside.py` wrote this section: microseconds of a processor for one of each, the least "
-            f"of {rounds} rounds in which the programs took turns. A call is one with its answer, a spawn one with the exit "
+            f"a library {proved}. `bench/beside.py` wrote this section: microseconds of a processor for one of each, the "
+            f"median of {rounds} rounds in which the programs took turns. A call is one with its answer, a spawn one with the exit "
             "and the `DOWN`, and a restart that of a supervisor's child. Only Pundewo's have a journal.\n\n"
             f"{first}\nRust's runtime on several desks, with 64 processes on each, in the same way:\n\n{second}\n"
             "A process that calls another one, or that spawns and monitors one and waits for its `DOWN`, while so many items wait "
