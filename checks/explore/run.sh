@@ -116,6 +116,10 @@ python3 "$here/moves.py" "$root/bin/pt_explore" || wrong moves "the model counts
 ran[never]=1
 python3 "$here/never.py" "$root/bin/pt_explore" || wrong never "the model stops at another state"
 
+# By moves it stops at the shortest schedule of all that are not as expected.
+ran[first_moves]=1
+python3 "$here/first_moves.py" "$root/bin/pt_explore" || wrong first_moves "it stops elsewhere"
+
 # Schedules by priorities are those that orders of the desks give, and the page has the numbers of what they find.
 ran[by_chance]=1
 python3 "$here/by_chance.py" "$root/bin/pt_explore" || wrong by_chance "another schedule, or other numbers on the page"
