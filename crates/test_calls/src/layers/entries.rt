@@ -1,7 +1,8 @@
-//! `pt_process`: how many entries the lists of a process have. The order of entries is in
+//! `pt_entries`: a map in order of entry. `pt_process`: how many entries the lists of a process have. More is in
 //! `checks/tried/test_calls/entries.rt.txt`.
 
 use crate::compared::{holds, same};
+use pt_entries::Entries;
 use pt_process::Process;
 use pt_signal::{Body, Item, LinkId, Pick, Pid, Ref, Signal};
 use std::process::Abort;
@@ -47,4 +48,15 @@ fn a_process_counts_its_lists(rt: HostRuntime) {
         process.first(Pick::Kind(1)),
         Some((0, Item::User(pid(1), HELLO))),
     );
+}
+
+#[test]
+fn a_map_keeps_its_entries_in_order(rt: HostRuntime) {
+    let mut entries: Entries<u32, u32> = Entries::new(rt.alloc());
+    holds(&rt, entries.insert(1, 10).is_ok());
+    holds(&rt, entries.insert(2, 20).is_ok());
+    holds(&rt, entries.insert(3, 30).is_ok());
+    same(&rt, entries.remove(&1), Some(10));
+    same(&rt, entries.read(0), Some((2, 20)));
+    same(&rt, entries.get(&3), Some(30));
 }
