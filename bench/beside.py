@@ -35,7 +35,8 @@ PAIRS = 64
 SHAPES = {"own": "in pairs of one desk", "all": "between one desk and the next"}
 DESKS = (1, 2, 4)
 MESSAGES = 1_000_000
-# How many items wait for a process that calls, and how often it calls then: about as long each time.
+# How many items wait for a process that calls, and how often it calls then: about as long each time. What walks nothing says itself
+# how often it is done at least.
 WAITING = {0: 400_000, 1_000: 200_000, 10_000: 20_000, 100_000: 2_000}
 # After how many events the node goes on: the runtime's own number, and a small one.
 EVERY = (100_000, 10_000)
@@ -49,8 +50,8 @@ class Workload(NamedTuple):
     many: int = 1
 
 # What a process does behind items that wait.
-CALLER = {"a call": Workload("called", 1), "a spawn and its DOWN": Workload("down", 1)}
-ERLANG_CALLER = {"a call": Workload("call", 1), "a spawn and its DOWN": Workload("spawn", 1)}
+CALLER = {"a call": Workload("called", 1), "a spawn and its DOWN": Workload("down", 200_000)}
+ERLANG_CALLER = {"a call": Workload("call", 100_000), "a spawn and its DOWN": Workload("spawn", 100_000)}
 
 
 class Program(NamedTuple):
@@ -167,9 +168,12 @@ def desks_table(runtime: list[str], rounds: int) -> str:
 def waiting_table(programs: list[Program], rounds: int) -> str:
     """What a call and a DOWN take behind items that wait."""
     asked = [(it, row, items) for it in programs for row in it.workloads for items in WAITING]
-    costs = taken([([*it.words, it.workloads[row].word, str(WAITING[items]), str(items)],
-                    [*it.words, it.workloads[row].word, str(2 * WAITING[items]), str(items)]) for it, row, items in asked], rounds)
-    micros = {(it.name, row, items): more.processor / WAITING[items] * 1e6 for (it, row, items), more in zip(asked, costs)}
+    times = [max(WAITING[items], it.workloads[row].times) for it, row, items in asked]
+    costs = taken([([*it.words, it.workloads[row].word, str(count), str(items)],
+                    [*it.words, it.workloads[row].word, str(2 * count), str(items)])
+                   for (it, row, items), count in zip(asked, times)], rounds)
+    micros = {key: more.processor / count * 1e6
+              for key, count, more in zip(((it.name, row, items) for it, row, items in asked), times, costs)}
     text = f"| Items that wait | {' | '.join(f'{it:,}' for it in WAITING)} |\n|---|{'---|' * len(WAITING)}\n"
     for it in programs:
         for row in it.workloads:

@@ -60,7 +60,7 @@ def messages(slots: int) -> dict[str, object]:
 def explored(program: str, script: Path) -> tuple[str, float]:
     """What the program prints of a script, and the processor's seconds that it took."""
     before = resource.getrusage(resource.RUSAGE_CHILDREN)
-    ran = subprocess.run([program, str(script)], stdout=subprocess.PIPE, text=True, check=True)
+    ran = subprocess.run([program, "--order", "turns", str(script)], stdout=subprocess.PIPE, text=True, check=True)
     after = resource.getrusage(resource.RUSAGE_CHILDREN)
     return ran.stdout, after.ru_utime + after.ru_stime - before.ru_utime - before.ru_stime
 
@@ -83,7 +83,7 @@ def row(programs: list[str], script: Path, name: str, times: int) -> str:
 def seconds_of_threads(program: str, script: Path, jobs: int) -> list[float]:
     """The processor's seconds of each thread, the longest first. They are read until the program ends."""
     seconds: dict[str, float] = {}
-    with subprocess.Popen([program, str(script), "--jobs", str(jobs)], stdout=subprocess.DEVNULL) as ran:
+    with subprocess.Popen([program, "--order", "turns", str(script), "--jobs", str(jobs)], stdout=subprocess.DEVNULL) as ran:
         while ran.poll() is None:
             for thread in Path(f"/proc/{ran.pid}/task").glob("*"):
                 try:

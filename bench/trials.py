@@ -46,7 +46,7 @@ def explored(program: Path, of: dict[str, object]) -> str:
     with tempfile.TemporaryDirectory() as folder:
         file = Path(folder, "script.json")
         file.write_text(json.dumps(of))
-        done = subprocess.run([program, file], check=True, capture_output=True, text=True)
+        done = subprocess.run([program, "--order", "turns", file], check=True, capture_output=True, text=True)
     found = re.match(r"schedules (\d+) ", done.stdout)
     if found is None:
         raise SystemExit(f"{program} prints: {done.stdout}")
@@ -68,7 +68,7 @@ def printed(seconds: float, program: Path) -> list[str]:
 
 # Why the counts differ.
 WHY = """\
-`pt_explore` counts orders of whole turns: the operations of a desk's processes, its post, and all letters that came. A round here is
+`pt_explore --order turns` counts orders of whole turns: the operations of a desk's processes, its post, and all letters that came. A round here is
 the post, the letters, and then a handler for each process that has something to do, so what a handler sends is posted in the next round.
 A process that has exited also takes a round, in which all that it had goes. A move is a part of a round.
 """

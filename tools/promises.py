@@ -32,17 +32,17 @@ QUESTIONS = (
     ("What a turn does, and that turning ends", ("pt_desk", "pt_workers")),
     ("The history is legal, and what it says of a process", ("pt_gathered", "pt_history", "pt_accounts")),
     ("A node resumes with empty journals", ("pt_node", "pt_epochs", "pt_pauses")),
-    ("A handler gets each item, and no wake-up is lost", ("pt_crew", "pt_behaviour", "pt_resting")),
+    ("A handler gets each item, and no wake-up is lost", ("pt_crew", "pt_behaviour", "pt_epochs")),
     ("A call is answered, or ends by a `DOWN` or a deadline", ("pt_pending", "pt_c_tools")),
     ("A supervisor starts its children again", ("pt_children", "pt_supervisor", "pt_pauses", "pt_scheduler_laws")),
     ("A timer is never early; a name leads to its process", ("pt_timers", "pt_names")),
     ("From C, Rust or Python: a desk and its calls", ("pt_c", "pt_c_desks", "pt_c_values")),
     ("From C, Rust or Python: processes that run code", ("pt_scheduler", "pt_c_crews", "pt_c_tools")),
     ("A script is read, run and reported", ("pt_script", "pt_runner", "pt_report", "pt_run")),
-    ("Every schedule of a script", ("pt_schedules", "pt_explorer", "pt_explore")),
+    ("Every schedule of a script", ("pt_schedules", "pt_moves", "pt_key_laws", "pt_explorer", "pt_explore")),
     ("A printed history is judged", ("pt_auditor", "pt_texts", "pt_audit")),
     ("A history is drawn, or printed for another tool", ("pt_chart", "pt_render")),
-    ("The shell", ("pt_lines", "pt_shell")),
+    ("The shell", ("pt_shell",)),
 )
 
 HEAD = """# What each crate promises

@@ -19,7 +19,7 @@ HERE = Path(__file__).resolve().parent
 PAGE = HERE.parent.parent / "docs" / "EXPLORE.md"
 HEAD = "| Script | Schedules | by chance alone | `--depth 1` | `--depth 2` | `--depth 3` | `--depth 4` |\n|---|---|---|---|---|---|---|\n"
 NO_FAULT = {"race.json": ["--no-waiting"], "stale.json": ["--expect", "client ended normal; server ended shutdown"]}
-TURNS: list[str] = []
+TURNS = ["--order", "turns"]
 MOVES = ["--order", "table"]
 ROWS = [("race.json", TURNS, 10), ("stale.json", TURNS, 10), ("stale.json", TURNS, 100),
         ("race.json", MOVES, 10), ("stale.json", MOVES, 10), ("stale.json", MOVES, 100)]
@@ -41,13 +41,13 @@ def row(program: str, script: str, order: list[str], schedules: int) -> str:
     words = [[[*order, "--random", str(schedules), "--seed", str(seed), *way] for seed in SEEDS] for way in WAYS]
     with ThreadPoolExecutor(2) as pool:
         counts = [sum(pool.map(lambda said: finds(program, script, said), ways)) for ways in words]
-    of_moves = ", by moves" if order else ""
+    of_moves = ", by moves" if order == MOVES else ""
     return f"| `{script}`{of_moves} | {schedules} | " + " | ".join(map(str, counts)) + " |\n"
 
 
 def listed(program: str, script: str, words: list[str]) -> set[tuple[str, ...]]:
     """The schedules that are run with these words."""
-    said = [program, str(HERE / script), "--print", "schedules", *words]
+    said = [program, str(HERE / script), *TURNS, "--print", "schedules", *words]
     lines = subprocess.run(said, capture_output=True, check=True, text=True).stdout.splitlines()
     return {tuple(line.split(" ")[1].split(",")) for line in lines if line[0].isdigit()}
 

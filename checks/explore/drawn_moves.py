@@ -21,7 +21,7 @@ from pathlib import Path
 sys.dont_write_bytecode = True
 sys.path.insert(0, str(Path(__file__).resolve().parent))
 from model import Model, Script, State  # noqa: E402
-from moves import Writer, told, without_mailboxes  # noqa: E402
+from moves import told, without_mailboxes, writer  # noqa: E402
 
 HERE = Path(__file__).resolve().parent
 BITS = 2**64 - 1
@@ -169,7 +169,7 @@ def main() -> int:
     with tempfile.TemporaryDirectory() as folder:
         file = Path(folder) / "script.json"
         for seed in range(asked.seed, asked.seed + asked.scripts):
-            file.write_text(json.dumps(Writer(seed).script()))
+            file.write_text(json.dumps(writer(seed).script()))
             verdicts += [compared(asked.program, seed, file, way) for way in WAYS]
     print(f"drawn moves: {verdicts.count(True)} passed, {verdicts.count(False)} failed")
     return 0 if False not in verdicts else 1

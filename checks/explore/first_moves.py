@@ -7,6 +7,9 @@ Of each script all outcomes are told first, each with its shortest schedule. Som
 no process waits, or one outcome alone: that of the schedule which is drawn by chance. It has to stop at the shortest schedule of all
 that are not as expected; of those of one length, at the first in the order of moves. If all are as expected, the same is printed as
 without --first. Every other script has no spawns, and is run by Erlang's rules.
+
+Then it tells at which move that schedule parts from one that ends as expected. That one is run again, and has to end as is told. By
+the model no schedule that shares more moves ends so.
 """
 from __future__ import annotations
 
@@ -22,9 +25,10 @@ from typing import NamedTuple
 
 sys.dont_write_bytecode = True
 sys.path.insert(0, str(Path(__file__).resolve().parent))
-from model import Erlang, Model, Script  # noqa: E402
-from moves import APART, OPS, Writer  # noqa: E402
+from model import Erlang, Model, Script, State  # noqa: E402
+from moves import APART, OPS, told, writer  # noqa: E402
 from never import word  # noqa: E402
+from switches import numbered  # noqa: E402
 
 MOST_STATES = 3_000
 
@@ -74,10 +78,56 @@ def asked_of(chance: random.Random, plain: list[str], outcomes: list[Outcome]) -
     return [it for one in expected for it in ("--expect", one.text)], [it for it in outcomes if it not in expected]
 
 
+def without_mailboxes(text: str) -> str:
+    """The same outcome, without the mailboxes of those that wait."""
+    return "; ".join(re.sub(r"(waits at op \d+):.*", r"\1", part) for part in text.split("; "))
+
+
+def reaches(model: Model, script: Script, state: State, wanted: set[str]) -> bool:
+    """Whether moves lead from a state to an end that is one of these."""
+    seen, left = {state}, [state]
+    while left:
+        one = left.pop()
+        after = list(model.moves(one))
+        if not after and told(script, one.processes) in wanted:
+            return True
+        left += [it for it in after if it not in seen]
+        seen.update(after)
+    return False
+
+
+def most_shared(model: Model, script: Script, moves: list[int], wanted: set[str]) -> int | None:
+    """How many of these first moves a schedule shares at most that ends in one of these ways; None if none does."""
+    states = [model.start()]
+    for move in moves:
+        states.append(dict(numbered(model, states[-1]))[move])
+    for shared in range(len(moves), -1, -1):
+        if reaches(model, script, states[shared], wanted):
+            return shared
+    return None
+
+
+def parts(plain: list[str], printed: str, model: Model, script: Script, first: Outcome, met: list[Outcome], unmet: list[Outcome]) -> bool:
+    """Whether it is told rightly where a schedule parts from one that ends as expected."""
+    wanted = {without_mailboxes(it.text) for it in met}
+    moves = by_moves(script, model.ends(), first.schedule)[1]
+    clear = wanted.isdisjoint(without_mailboxes(it.text) for it in unmet)
+    shared = most_shared(model, script, moves, wanted) if clear else 0
+    if not met:
+        return printed == "no schedule ends as expected\n"
+    found = re.fullmatch(r"parts at move (\d+) from (\S*)\n  (.*)\n", printed)
+    if found is None:
+        return False
+    other = by_moves(script, model.ends(), found[2])[1]
+    common = next((at for at, (one, two) in enumerate(zip(moves, other)) if one != two), min(len(moves), len(other)))
+    again = outcomes_in(ran([*plain, "--schedule", found[2]])[1])[0].text
+    return common + 1 == int(found[1]) and again == found[3] and again in [it.text for it in met] and (not clear or common == shared)
+
+
 def compared(program: str, seed: int, file: Path) -> str:
     """How the program agrees with what it tells of all outcomes, if it does."""
     erlang = seed % 2 == 0
-    file.write_text(json.dumps(Writer(seed, ops=APART if erlang else OPS).script()))
+    file.write_text(json.dumps(writer(seed, ops=APART if erlang else OPS).script()))
     script = Script(file)
     plain = [program, "--order", "erlang" if erlang else "table", str(file)]
     status, whole = ran([*plain, "--limit", str(MOST_STATES)])
@@ -88,10 +138,13 @@ def compared(program: str, seed: int, file: Path) -> str:
     if not unmet:
         agrees = has == ran([*plain, *words])
     else:
-        ends = (Erlang if erlang else Model)(script).ends()
-        first = min(unmet, key=lambda it: by_moves(script, ends, it.schedule))
+        model = (Erlang if erlang else Model)(script)
+        first = min(unmet, key=lambda it: by_moves(script, model.ends(), it.schedule))
         history = ran([*plain, "--schedule", first.schedule, "--print", "history"])[1] if first.schedule else ""
-        agrees = has[0] == 1 and has[1].startswith(f"not as expected by {first.schedule}\n  {first.text}\n{history}")
+        head, all_ends = f"not as expected by {first.schedule}\n  {first.text}\n{history}", outcomes_in(whole)
+        met = [it for it in all_ends if it not in unmet]
+        agrees = has[0] == 1 and has[1].startswith(head) and (
+            not first.schedule or parts(plain, has[1].removeprefix(head), model, script, first, met, unmet))
     if agrees:
         return "stopped" if unmet else "all as expected"
     print(f"script {seed}: {plain} --first {words}\n  not as expected: {unmet}\n  has status {has[0]}: {has[1]}\n  {file.read_text()}")

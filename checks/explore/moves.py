@@ -3,12 +3,13 @@
 
     checks/explore/moves.py PROGRAM [--seed S] [--scripts N] [--reduced N] [--erlang N] [--threads N]
 
-Each script has two to four processes on one to three desks, with spawns, links, monitors, asks and exit signals. The number of
-states, the number of schedules, and how many schedules end in which way have to be the same. Scripts of more than 30,000 states
-are passed over.
+Each script has two to four processes on one to three desks, with spawns, links, monitors, asks and exit signals. Two of three have
+format 3: branches, repeats of two and three rounds, and receives that wait for some tries. The number of states, the number of
+schedules, and how many schedules end in which way have to be the same. Scripts of more than 30,000 states are passed over.
 
 With `--reduced` moves are left out, and the outcomes have to be the same. That is tried with so many more scripts, of 3,000 states
-at most. In most of these each process has a desk, and in most it neither links nor spawns nor asks nor sends an exit.
+at most. In most of these each process has a desk. In one of five no process links, spawns, asks or sends an exit. In two of five
+few do: there some processes are spared, and others are not.
 
 With `--order erlang` the model goes by Erlang's rules, and has no desks. So many more scripts, without spawns, are compared with it.
 Each outcome of `--order table` has to be one of these, and with `--reduced` they have to be the same.
@@ -26,6 +27,7 @@ import subprocess
 import sys
 import tempfile
 from collections import Counter
+from dataclasses import dataclass
 from pathlib import Path
 from typing import Any
 
@@ -37,9 +39,15 @@ MOST_STATES = 30_000
 MOST_WHOLE = 3_000
 LEAST_SHARED = 300
 OPS = "send send send receive receive check link unlink monitor demonitor trap exit signal spawn pass alive".split()
+SPARING = "send send send send receive receive receive check check monitor demonitor trap pass exit link signal alive spawn".split()
 PLAIN = "send send send send receive receive receive check check monitor demonitor trap pass exit".split()
 APART = [op for op in OPS if op != "spawn"]
 REASONS = ("normal", "kill", "killed", "other:3", "shutdown")
+# What is written more often if there are branches, so that items come and are taken.
+OFTEN = "send send send receive receive check".split()
+# How often an operation is done at most, and how many are done in all, but for those of spawned processes.
+MOST_ROUNDS = 4
+MOST_DONE = 6
 
 
 class Writer:
@@ -123,6 +131,93 @@ class Writer:
         return {kind: self.chance.choice(known)} if kind in ("down", "alive") and known else None
 
 
+@dataclass
+class Begun:
+    """A list that is written: its operations, how many more are done in it, and what these may name."""
+    me: str
+    made: list[dict[str, Any]]
+    left: int
+    names: list[str]
+    tags: list[str]
+    asks: list[str]
+
+
+class Brancher(Writer):
+    """Writes a script of format 3 by chance: with branches, repeats, and receives that wait for some tries."""
+
+    def __init__(self, seed: int, apart: bool = False, ops: list[str] = OPS) -> None:
+        super().__init__(seed, apart, ops)
+        # processes that take something, to each of which another one sends something
+        self.awaiting: list[str] = []
+
+    def script(self) -> dict[str, Any]:
+        """The whole script."""
+        return {**super().script(), "format": 3}
+
+    def operations(self, me: str, scope: list[str]) -> list[dict[str, Any]]:
+        """The list of a process that may name those in scope."""
+        begun = Begun(me, [], self.chance.randint(1, MOST_DONE // len(self.tops)), list(scope), [], [])
+        if self.awaiting:
+            begun.made.append(self.plain("send", self.awaiting.pop(), begun.names))
+        self.fill(begun, 1)
+        return begun.made
+
+    def fill(self, it: Begun, rounds: int) -> None:
+        """Operations that are done so often, up to an exit."""
+        for _ in range(self.chance.randint(1, 4)):
+            if it.left < rounds:
+                return
+            times = self.chance.randint(2, 3)
+            if rounds * times <= MOST_ROUNDS and self.chance.random() < .15:
+                it.made.append({"op": "repeat", "times": times})
+                self.fill(it, rounds * times)
+                it.made.append({"op": "again"})
+            elif self.one(it, rounds) == "exit":
+                return
+
+    def one(self, it: Begun, rounds: int) -> str | None:
+        """An operation by chance, if it has all that it names, and perhaps the branches behind it."""
+        op = self.chance.choice([*self.ops, *OFTEN])
+        one = self.operation(op, f"c{len(it.made)}{it.me}", it.names, it.tags, it.asks)
+        if one is None:
+            return None
+        it.left -= rounds
+        if op == "receive" and self.chance.random() < .3:
+            one["after"] = self.chance.randint(0, 2)
+        it.made.append(one)
+        if op in ("receive", "check") and it.me in self.tops:
+            self.awaiting.append(it.me)
+        if op in ("receive", "check") and self.chance.random() < .6:
+            self.branch(it, rounds)
+        return op
+
+    def pick(self, names: list[str], tags: list[str], asks: list[str]) -> dict[str, Any] | None:
+        """What a receive takes, or an `if` tests: more often any item, or any of a kind."""
+        chance = self.chance.random()
+        return None if chance < .4 else {"kind": 1} if chance < .6 else super().pick(names, tags, asks)
+
+    def branch(self, it: Begun, rounds: int) -> None:
+        """An `if` with what is done in each case, where the next one may stand directly behind it."""
+        wanted = self.pick(it.names, it.tags, it.asks)
+        it.made.append({"op": "if"} if wanted is None else {"op": "if", "pick": wanted})
+        self.inside(it, rounds)
+        if self.chance.random() < .5:
+            it.made.append({"op": "else"})
+            self.inside(it, rounds)
+        it.made.append({"op": "end"})
+
+    def inside(self, it: Begun, rounds: int) -> None:
+        """What is done in one case."""
+        if self.chance.random() < .2:
+            self.branch(it, rounds)
+        self.fill(it, rounds)
+
+
+def writer(seed: int, apart: bool = False, ops: list[str] = OPS) -> Writer:
+    """Of three scripts two have format 3."""
+    return (Brancher if seed % 3 else Writer)(seed, apart, ops)
+
+
 def told(script: Script, processes: tuple[Process, ...]) -> str:
     """An end, as the program tells it, without the mailboxes of those that wait."""
     parts = []
@@ -160,7 +255,7 @@ def without_mailboxes(outcomes: Counter[str]) -> Counter[str]:
 
 def reduced(program: str, seed: int, file: Path) -> bool | None:
     """Whether moves are left out and no outcome is lost; None if the script has too many states, or none is left out."""
-    file.write_text(json.dumps(Writer(seed, seed % 4 > 0, OPS if seed % 5 == 0 else PLAIN).script()))
+    file.write_text(json.dumps(writer(seed, seed % 4 > 0, (OPS, SPARING, PLAIN)[seed % 5 % 3]).script()))
     whole = printed(program, file, "table", "--limit", str(MOST_WHOLE))
     if isinstance(whole, str) and whole.startswith("status 4"):
         return None
@@ -174,7 +269,7 @@ def reduced(program: str, seed: int, file: Path) -> bool | None:
 def compared(program: str, seed: int, file: Path, order: str = "table") -> bool | None:
     """Whether the program agrees with the model; None if the script has too many states."""
     by_table = order == "table"
-    file.write_text(json.dumps(Writer(seed, ops=OPS if by_table else APART).script()))
+    file.write_text(json.dumps(writer(seed, ops=OPS if by_table else APART).script()))
     script = Script(file)
     found = explored(Model(script) if by_table else Erlang(script), MOST_STATES)
     if found is None:
@@ -206,7 +301,7 @@ def erlang(program: str, seed: int, file: Path) -> bool | None:
 
 def shared(program: str, seed: int, file: Path) -> bool | None:
     """Whether several threads print what one prints; None if the script has too few states, or too many."""
-    file.write_text(json.dumps(Writer(seed, ops=OPS if seed % 2 else APART).script()))
+    file.write_text(json.dumps(writer(seed, ops=OPS if seed % 2 else APART).script()))
     whole = printed(program, file, "table", "--limit", str(MOST_WHOLE))
     if isinstance(whole, str) or whole[0][1] < LEAST_SHARED:
         return None

@@ -28,7 +28,7 @@ from pathlib import Path
 sys.dont_write_bytecode = True
 sys.path.insert(0, str(Path(__file__).resolve().parent))
 from model import Alive, Ended, Model, Process, Script, explored  # noqa: E402
-from moves import Writer  # noqa: E402
+from moves import writer  # noqa: E402
 
 MOST_STATES = 1_000_000
 WORDS = "--threads many --until quiet --print summary --explain".split()
@@ -114,7 +114,7 @@ def by_chance(folder: Path, most: int) -> Iterator[Path]:
     for seed in itertools.count(1):
         if found == most:
             return
-        text = Writer(seed).script()
+        text = writer(seed).script()
         file = folder / f"random-{seed}.json"
         file.write_text(json.dumps(text))
         ends = ends_of(file)

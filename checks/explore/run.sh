@@ -37,8 +37,12 @@ for case in "$here"/*.args; do
     has_status "$name" "$status"
 done
 
+# `rt ci` runs the program over this script, and compares what it prints with this file.
+run pt_explore as_the_gate_runs_it "$root/crates/pt_explore/stdin"
+is_same "$root/crates/pt_explore/stdout" "$work/out/as_the_gate_runs_it" as_the_gate_runs_it "what it prints"
+
 # On several threads the same is printed, where all schedules are run and where there are more than the limit.
-for name in mended_first race race_all race_budget race_chart race_either race_first race_first_at_limit race_first_limit race_first_one \
+for name in after_turns mended_first race race_all race_budget race_chart race_either race_first race_first_at_limit race_first_limit race_first_one \
     race_first_steps race_limit race_one race_turns race_waiting unlink threads; do
     mapfile -t words <"$here/$name.args"
     for jobs in 2 4; do
@@ -53,7 +57,7 @@ done
 
 # So it is where they share the states that as many moves lead to. In wide.json three processes send each other messages, and
 # hundreds of states are reached by as many moves.
-for name in erlang_causal erlang_first erlang_limit erlang_reduced erlang_wide moves_chart moves_cross moves_first moves_first_cut moves_first_met moves_first_one moves_history moves_limit moves_limit_exact \
+for name in after erlang_causal erlang_first erlang_limit erlang_reduced erlang_wide lock_unwatched lock_watched_reduced moves_chart moves_cross moves_first moves_first_cut moves_first_met moves_first_one moves_history moves_limit moves_limit_exact \
     moves_one moves_race moves_reduced moves_reduced_limit moves_shared moves_turns moves_waiting moves_wide moves_wide_cut \
     moves_wide_limit moves_wide_reduced; do
     mapfile -t words <"$here/$name.args"
@@ -81,7 +85,7 @@ python3 "$here/again.py" "$root/bin/pt_explore" "$root/bin/pt_audit" || wrong ag
 
 # The page of a schedule is the frame that each page has, with its steps, its counts and the names of the script.
 for name in race_page named_page; do
-    words=(checks/explore/race.json --print page)
+    words=(checks/explore/race.json --order turns --print page)
     [ "$name" = race_page ] || words+=(--schedule 0,1,1,1,0)
     run pt_explore "$name" /dev/null "${words[@]}"
     python3 "$here/held.py" <"$work/out/$name" >"$work/out/$name-held" || wrong "$name" "it is no page"
@@ -116,6 +120,10 @@ python3 "$here/moves.py" "$root/bin/pt_explore" || wrong moves "the model counts
 ran[never]=1
 python3 "$here/never.py" "$root/bin/pt_explore" || wrong never "the model stops at another state"
 
+# Schedules with so many switches at most are those of the model.
+ran[switches]=1
+python3 "$here/switches.py" "$root/bin/pt_explore" || wrong switches "the model counts otherwise"
+
 # By moves it stops at the shortest schedule of all that are not as expected.
 ran[first_moves]=1
 python3 "$here/first_moves.py" "$root/bin/pt_explore" || wrong first_moves "it stops elsewhere"
@@ -130,7 +138,7 @@ python3 "$here/drawn_moves.py" "$root/bin/pt_explore" || wrong drawn_moves "the 
 
 # A run on threads ends as a schedule of moves does.
 ran[on_threads]=1
-scripts=("$here"/moves_{causal,cross,glare,same_desk}.json "$here"/{race,mended}.json)
+scripts=("$here"/moves_{causal,cross,glare,same_desk}.json "$here"/{race,mended,after,repeat,lock_unwatched}.json)
 python3 "$here/on_threads.py" "$root/bin/pt_run" "${scripts[@]}" --runs 60 || wrong on_threads "a run on threads ends otherwise"
 
 verdict explore

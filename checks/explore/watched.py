@@ -57,12 +57,12 @@ def main(words: list[str]) -> int:
         two, six = Path(folder) / "two.json", Path(folder) / "six.json"
         two.write_text(script(2, 12))
         six.write_text(script(6, 12))
-        most = ["--limit", str(10**9)]
+        turns, most = ["--order", "turns"], ["--limit", str(10**9)]
         for words, form in (
-            ([str(two), "--random", str(10**12)], TIMED),
-            ([str(two), *most], TIMED),
-            ([str(two), *most, "--jobs", "2"], TIMED),
-            ([str(six), *most, "--order", "table"], STATES),
+            ([str(two), *turns, "--random", str(10**12)], TIMED),
+            ([str(two), *turns, *most], TIMED),
+            ([str(two), *turns, *most, "--jobs", "2"], TIMED),
+            ([str(six), *most], STATES),
         ):
             terminal, other = pty.openpty()
             command = [program, *words]

@@ -334,6 +334,36 @@ def member_of_pick_is_wrong(script: Script) -> tuple[int, Value]:
     return fault, operation_at_fault(script, script.chance.choice(["receive", "check"]), ("pick", Value(members=[(name, held)]))).get("pick").get(name)
 
 
+def number_of_format_three(script: Script) -> tuple[int, Value]:
+    """The number of tries or of rounds, of a wrong type or out of its range."""
+    script.whole.put("format", number(3))
+    word, name, least = script.chance.choice([("receive", "after", 0), ("repeat", "times", 1)])
+    value = operation_at_fault(script, word, (name, number(1)))
+    if script.chance.random() < 0.5:
+        return wrong_kind(script, value, name)
+    return BOUNDS, value.put(name, number(script.chance.choice([least - 1, 65_537])))
+
+
+def later_format(script: Script) -> tuple[int, Value]:
+    """What only format 3 has."""
+    word, name = script.chance.choice([("receive", "after"), ("if", "op"), ("repeat", "op"), ("end", "op")])
+    members = [(name, number(1))] if name == "after" else []
+    return FIELD, operation_at_fault(script, word, *members).get(name)
+
+
+def block_is_wrong(script: Script) -> tuple[int, Value]:
+    """A block that does not end, or an end of one that did not begin. The operation at fault has a mark here."""
+    script.whole.put("format", number(3))
+    process = script.chance.choice(script.processes)
+    put_operation(script, process, operation("check"))
+    words = script.chance.choice([["!if", "pass"], ["!repeat"], ["pass", "!if", "end"], ["!end"], ["!again"], ["if", "!again"], ["repeat", "!else"]])
+    values = []
+    for word in words:
+        rounds = [("times", number(2))] if "repeat" in word else []
+        values.append(put_operation(script, process, operation(word.strip("!"), *rounds)))
+    return FIELD, next(value for word, value in zip(words, values) if word[0] == "!")
+
+
 def spawns_too_deep(script: Script) -> tuple[int, Value]:
     """A spawn inside eight others."""
     process = script.chance.choice(script.processes)
@@ -358,7 +388,7 @@ FAULTS: list[Fault] = [
     process_of_wrong_kind, process_lacks_a_member, process_has_no_name, name_is_taken, desk_out_of_range, process_is_no_object,
     no_slot_is_left, operation_is_none, operation_has_no_word, operation_is_unknown, operation_lacks_a_member,
     member_of_wrong_kind, member_out_of_range, name_of_nobody, tag_of_nothing, tag_is_taken, reason_is_none, pick_is_none,
-    member_of_pick_is_wrong, spawns_too_deep, byte_is_wrong,
+    member_of_pick_is_wrong, number_of_format_three, later_format, block_is_wrong, spawns_too_deep, byte_is_wrong,
 ]
 
 # What a member that is replaced by a later one may hold.

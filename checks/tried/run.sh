@@ -7,16 +7,22 @@
 # that one compilation serves both; those of pt_scripts make a crate of their own, since all together would take 4 GB.
 # They are compiled and run there, and not proved: what they call is proved, and a program or a proved test makes each
 # call too. Each #[test] has to be run and to pass. RT names another 'rt'.
+#
+# No other test and no proof says what they find, so the gate runs them too. But with PT_PROVING=1 they are compiled without the
+# checks of each access to memory, as the gate has it. All that they call is proved beside them there, and a proof leaves no
+# bad access. The tests themselves have no unsafe code, and stop at an index out of bounds.
 set -euo pipefail
 
 here=$(cd "$(dirname "$0")" && pwd)
 
 # The crates that only these tests call.
 declare -A calls=(
-    [test_calls]='pt_events pt_children pt_pending pt_auditor pt_accounts pt_directory pt_desk pt_resting pt_scheduler pt_epochs pt_pauses pt_scheduler_laws pt_schedules'
+    [test_calls]='pt_events pt_children pt_pending pt_auditor pt_accounts pt_directory pt_desk pt_scheduler pt_epochs pt_pauses pt_scheduler_laws pt_schedules'
     [pt_scripts]='pt_node pt_script pt_runner pt_chart pt_options pt_report clap'
 )
 [ $# -gt 0 ] || set -- test_calls pt_scripts
+plain=()
+[ -z "${PT_PROVING-}" ] || plain=(--plain)
 for crate in "$@"; do
     [ -n "${calls[$crate]-}" ] || { echo "run.sh: no tests of '$crate' here: ${!calls[*]}" >&2; exit 2; }
 done
@@ -45,7 +51,7 @@ fine=true
 for crate in "$@"; do
     add_modules "$crate"
     status=0
-    (cd "$work/crates/$crate" && "$root/.ci/unproved.py" "$crate" --test --seconds 300 --stdin /dev/null) \
+    (cd "$work/crates/$crate" && "$root/.ci/unproved.py" "$crate" --test --seconds 300 --stdin /dev/null "${plain[@]}") \
         >"$work/said" 2>&1 </dev/null || status=$?
     count=$(cat "$work/crates/$crate/src"/*.rt "$work/crates/$crate/src"/*/*.rt | grep -c '^ *#\[test\]')
     ok=$(grep -c '^test .* \.\.\. ok$' "$work/said" || true)

@@ -6,6 +6,7 @@
     checks/wrong_bodies/batches.py --all           all, and a neutral twin of each function with a proof by hand
     checks/wrong_bodies/batches.py CRATE..         all those of these crates
     checks/wrong_bodies/batches.py CRATE/NAME..    these alone
+    checks/wrong_bodies/batches.py --apply         none: it only applies all edits, in seconds and without libraries
     --keep               writes the verdicts into verdicts.txt
     --fill               gives each edit without a line `clause:` one, by the goals that refuse it
     --mark-open          gives each edit that no goal of its clause refuses a line `open:` that says so
@@ -24,11 +25,12 @@ applies all edits, those too that it does not try.
 
 Edits of different functions go into one copy of their crate, and one check proves the changed functions and what they
 call. In the same check each function that is neither changed nor calls a changed one has to be proved, and at least one
-such function is asked for, so a broken set-up refuses nothing. An edit for which a batch gives no verdict goes into a
-later batch, at last alone. If a hand-written answer of another clause fails there, the prover leaves goals untried. So it
-is checked once more without that answer, and then counts if values break its goal or the tactics do not prove it. If a
-refusal rests on the words of its clause (deciding.py), then a twin of its function is tried too, and the refusal does not
-count if the twin fails at a goal of the same clause.
+such function is asked for, so a broken set-up refuses nothing. An edit for which a batch gives no verdict joins a later batch,
+apart from those for which it waits, and is tried alone at last. If a hand-written answer of another clause fails there, the
+prover leaves goals untried. So one more check looks behind all answers that failed so in a batch: it leaves them out, and an
+edit counts then if values break its goal or the tactics do not prove it. If a refusal rests on the words of its clause
+(deciding.py), then a twin of its function joins a later batch, and the refusal does not count if the twin fails at a goal of
+the same clause. No check is made twice.
 
 A verdict is kept in verdicts.txt beside the checksum of all that it was made from. A run tries the edits that have none or
 one that is out of date, and a tenth of the others. The commit draws it, of few crates, since most of a check is the reading of
@@ -51,7 +53,8 @@ import sys
 import tempfile
 from collections import Counter
 from concurrent.futures import ThreadPoolExecutor
-from dataclasses import dataclass
+from dataclasses import dataclass, replace
+from itertools import product
 from pathlib import Path
 
 sys.dont_write_bytecode = True
@@ -65,6 +68,8 @@ sys.path.insert(0, str(ROOT / "tools"))
 import check  # noqa: E402
 
 VERDICTS = HERE / "verdicts.txt"
+# What the prover says of a closure that asks something of its callers: these are proved beside it.
+BY_CALLERS = re.compile(r": proved where its callers give what it asks$", re.M)
 
 
 @dataclass
@@ -148,6 +153,12 @@ class Trials:
         self.proofs = proofs_of(self.answers)
         self.definitions = definitions_of([*kit.below(crate), crate])
         self.found: dict[str, Finding] = {}
+        self.twins: dict[str, Edit | None] = {}
+        # (pairs of functions of which the first one waits for the proof of the second)
+        self.calls: set[tuple[str, str]] = set()
+        # (the names of the edits that are tried alone)
+        self.aside = {it.label for it in edits if it.outside}
+        self.said: dict[str, Said] = {}
         self.checks = 0
         self.seconds = 0.0
         self.kept = ""
@@ -158,28 +169,39 @@ class Trials:
         wanted = [text for label, text in clauses if edit.clause and edit.clause.name == (label or "ensures")]
         return any(deciding.asks_for_value(it, self.definitions) for it in wanted)
 
-    def batches(self, edits: list[Edit]) -> list[list[Edit]]:
-        """The edits that have no verdict, in batches, but for those that change something outside of functions."""
-        left = [it for it in edits if it.label not in self.found and not it.outside]
-        found = []
-        while left:
-            batch = self.fill(left)[0]
-            found.append(batch)
-            left = [it for it in left if it not in batch]
-        return found
+    def left(self) -> list[Edit]:
+        """The edits and twins that have no verdict."""
+        return [it for it in [*self.edits, *self.twins.values()] if it and it.label not in self.found]
 
-    def fill(self, edits: list[Edit]) -> tuple[list[Edit], dict[str, str]]:
-        """As many edits as go together, and the files with them."""
+    def fill(self, edits: list[Edit]) -> list[Edit]:
+        """As many edits as go together: of different functions, none of which waits for the proof of one that a wrong body changes."""
         batch: list[Edit] = []
-        taken: set[str] = set()
         texts = self.texts
         for edit in edits:
-            changed = None if taken & set(edit.functions) else edit.apply(texts)
+            apart = not any({*edit.functions} & {*it.functions} or self.waits(edit, it) or self.waits(it, edit) for it in batch)
+            changed = edit.apply(texts) if apart else None
             if changed is not None:
                 batch.append(edit)
-                taken |= set(edit.functions)
                 texts = changed
-        return batch, texts
+        return batch
+
+    def waits(self, edit: Edit, other: Edit) -> bool:
+        """Whether it is known that a function of an edit waits for the proof of one that a wrong body changes."""
+        return not other.neutral and not self.calls.isdisjoint(product(edit.functions, other.functions))
+
+    def in_order(self, edits: list[Edit], tries: Counter[str]) -> list[Edit]:
+        """The edits, those first that wait for the fewest others, and of these those that were tried least. Twins are last."""
+        return sorted(edits, key=lambda it: (it.neutral, sum(self.waits(it, other) for other in edits), tries[it.label]))
+
+    def applied(self, edits: list[Edit]) -> dict[str, str]:
+        """The files with all these edits."""
+        texts = self.texts
+        for edit in edits:
+            changed = edit.apply(texts)
+            if changed is None:
+                raise Broken(f"{edit.label}: its text is not in its file exactly once, behind {', '.join(it.label for it in edits)}")
+            texts = changed
+        return texts
 
     def asked_for(self, changed: set[str]) -> list[str]:
         """The functions to ask for: the changed ones, and a short one that calls none of them; an empty list for all."""
@@ -191,83 +213,131 @@ class Trials:
         return [*sorted(changed), free[0].path] if changed and free else []
 
     def try_all(self) -> None:
-        """Tries all edits, and then twins of the functions whose refusals rest on words."""
+        """Tries all edits, and twins of the functions of which a refusal rests on words."""
         with tempfile.TemporaryDirectory(prefix="wrong-bodies-kept-") as folder:
             # (what one check proved of the functions that no edit changes serves the next ones; to keep it costs a little)
-            self.kept = folder if len(self.batches(self.edits)) > 1 else ""
-            self.try_these(self.edits)
-            self.try_twins()
+            self.kept = folder if len(self.edits) > 1 else ""
+            while self.left():
+                self.try_together()
+                for edit in self.left():
+                    self.try_alone(edit)
+        self.take_back()
 
-    def try_these(self, edits: list[Edit]) -> None:
-        """Tries edits: in batches as long as these decide something, and then one by one."""
-        left = -1
-        while left != (left := sum(map(len, self.batches(edits)))):
-            for batch in self.batches(edits):
-                self.try_batch(batch)
-        for edit in edits:
-            if edit.label not in self.found:
-                self.try_alone(edit)
-
-    def try_twins(self) -> None:
-        """Tries a twin of each function of which an edit is refused by words alone, and takes back what it refutes."""
-        doubted = [it for it in self.edits if not it.neutral and self.found[it.label].reason == "words"]
-        made = {path: deciding.twin_of(self.crate, self.texts, path) for it in doubted for path in it.functions}
-        twins = {path: it for path, it in made.items() if it}
-        self.try_these(list(twins.values()))
-        for edit in doubted:
-            for path in edit.functions:
-                if path in twins:
-                    twin = self.found[twins[path].label]
-                    self.found[edit.label] = deciding.with_twin(edit, self.found[edit.label], twin)
+    def try_together(self) -> None:
+        """Tries what has no verdict in batches. What a batch leaves open joins those that are left, as a twin that is due does. If
+        a batch tells nothing at all, then its edits are tried alone."""
+        tries: Counter[str] = Counter()
+        while waits := [it for it in self.left() if it.label not in self.aside]:
+            batch = self.fill(self.in_order(waits, tries))
+            known = len(self.found) + len(self.calls)
+            self.try_batch(batch)
+            tries.update(it.label for it in batch)
+            if known == len(self.found) + len(self.calls):
+                self.aside |= {it.label for it in batch}
 
     def try_batch(self, batch: list[Edit]) -> None:
         """Tries a batch; what it does not decide keeps no verdict."""
-        texts = self.fill(batch)[1]
         changed = {it for edit in batch for it in edit.functions}
-        said = self.check(texts, self.asked_for(changed))
-        if not said.ended:
-            if len(batch) > 1:
-                self.try_batch(batch[: len(batch) // 2])
-                self.try_batch(batch[len(batch) // 2 :])
-            else:
-                self.found[batch[0].label] = Finding("bad", "", deciding.first_error(said.text))
+        said = self.check(self.applied(batch), self.asked_for(changed))
+        if not said.ended and len(batch) > 1:
+            self.try_batch(batch[: len(batch) // 2])
+            self.try_batch(batch[len(batch) // 2 :])
+        elif not said.ended:
+            self.decide(batch[0], Finding("bad", "", deciding.first_error(said.text)))
         elif said.is_sound(changed):
-            for edit in batch:
-                found = deciding.found_in(edit, said, self.proofs, len(batch) == 1, self.asks(edit))
-                if found.verdict and not self.answers_behind(edit, found):
-                    self.found[edit.label] = found
+            self.take(batch, said)
+
+    def take(self, batch: list[Edit], said: Said) -> None:
+        """Takes what a sound check says of each edit of a batch."""
+        hidden = []
+        for edit in batch:
+            found = deciding.found_in(edit, said, self.proofs, len(batch) == 1, self.asks(edit))
+            if self.answers_behind(edit, found, self.answers):
+                hidden.append((edit, found))
+            elif found.verdict:
+                self.decide(edit, found)
+            else:
+                self.calls |= {(path, it) for path in edit.functions for it in self.waits_for(path, batch, said)}
+        self.look_behind(hidden, len(batch) == 1)
+
+    def waits_for(self, path: str, batch: list[Edit], said: Said) -> set[str]:
+        """The functions that a batch changes for whose proofs this function waits, since it calls them, by others or at once."""
+        full = {it: {name for name in said.verdicts if deciding.same(name, it)} for edit in batch for it in edit.functions}
+        return {it for it, names in full.items() if it != path and any(said.is_above(name, names) for name in full[path])}
 
     def try_alone(self, edit: Edit) -> None:
         """Tries one edit; if it changes no function, with a check of the whole crate."""
         changed = set(edit.functions)
         said = self.check(edit.apply(self.texts) or self.texts, self.asked_for(changed))
         if not said.ended:
-            self.found[edit.label] = Finding("bad", "", deciding.first_error(said.text))
+            self.decide(edit, Finding("bad", "", deciding.first_error(said.text)))
         elif not changed:
-            self.found[edit.label] = Finding("bad", "", "it changes no function: name the one that is to refuse it by a line 'fn: PATH'")
-        elif said.is_sound(changed):
-            self.found[edit.label] = self.looked_behind(edit, deciding.found_in(edit, said, self.proofs, True, self.asks(edit)))
+            self.decide(edit, Finding("bad", "", "it changes no function: name the one that is to refuse it by a line 'fn: PATH'"))
+        elif not said.is_sound(changed):
+            self.decide(edit, Finding("bad", "", "a function is refused that the edit does not reach: " + said.not_sound(changed)))
         else:
-            self.found[edit.label] = Finding("bad", "", "a function is refused that the edit does not reach: " + said.not_sound(changed))
+            found = deciding.found_in(edit, said, self.proofs, True, self.asks(edit))
+            if self.answers_behind(edit, found, self.answers):
+                self.look_behind([(edit, found)], True)
+            else:
+                self.decide(edit, found)
 
-    def answers_behind(self, edit: Edit, found: Finding) -> dict[str, str]:
+    def decide(self, edit: Edit, found: Finding) -> None:
+        """Notes what was found of an edit. If it is refused by words alone, a twin of each function that it changes is due."""
+        self.found[edit.label] = found
+        if found.reason == "words" and not edit.neutral:
+            for path in edit.functions:
+                self.twins[path] = self.twins.get(path) or deciding.twin_of(self.crate, self.texts, path)
+
+    def take_back(self) -> None:
+        """Takes back each refusal by words that a twin of its function refutes."""
+        for edit in self.edits:
+            if self.found[edit.label].reason == "words" and not edit.neutral:
+                for twin in filter(None, map(self.twins.get, edit.functions)):
+                    self.found[edit.label] = deciding.with_twin(edit, self.found[edit.label], self.found[twin.label])
+
+    def answers_behind(self, edit: Edit, found: Finding, answers: dict[str, str]) -> dict[str, str]:
         """The files of answers without those that failed, if another goal than that of the clause refuses the edit."""
         if edit.neutral or found.verdict not in ("other", "name"):
             return {}
-        return deciding.without_failed(self.answers, edit, found)
+        return deciding.without_failed(answers, edit, found)
 
-    def looked_behind(self, edit: Edit, found: Finding) -> Finding:
-        """A finding, after a look at the goals that the prover does not try once a hand-written answer of others fails."""
-        answers = self.answers_behind(edit, found)
-        if not answers:
-            return found
-        said = self.check({**(edit.apply(self.texts) or self.texts), **answers}, self.asked_for(set(edit.functions)))
-        return deciding.found_behind(edit, found, said, self.proofs, self.asks(edit))
+    def cuts_others(self, one: tuple[Edit, Finding], hidden: list[tuple[Edit, Finding]]) -> bool:
+        """Whether a file of answers that is cut for this edit is that of a function of another one."""
+        others = [path for edit, _ in hidden if edit is not one[0] for path in edit.functions]
+        files = map(deciding.function_at, self.answers_behind(*one, self.answers))
+        return any(deciding.same(it, path) for it in files for path in others)
+
+    def look_behind(self, hidden: list[tuple[Edit, Finding]], is_alone: bool) -> None:
+        """Looks at the goals that the prover does not try once a hand-written answer of others fails: one check for all these
+        edits. Of several it decides those alone that it refuses, and each of the others is tried alone."""
+        self.aside |= {edit.label for edit, _ in hidden}
+        hidden = [it for it in hidden if not self.cuts_others(it, hidden)]
+        if not hidden:
+            return
+        answers = self.answers
+        for edit, found in hidden:
+            answers = {**answers, **self.answers_behind(edit, found, answers)}
+        cut = {file: text for file, text in answers.items() if text != self.answers[file]}
+        changed = {it for edit, _ in hidden for it in edit.functions}
+        said = self.check({**self.applied([it for it, _ in hidden]), **cut}, self.asked_for(changed))
+        for edit, found in hidden:
+            own = {name: it for name, it in said.verdicts.items() if any(deciding.same(name, path) for path in edit.functions)}
+            of_it = replace(said, verdicts={**own, **said.apart(changed)})
+            behind = deciding.found_behind(edit, found, of_it, self.proofs, self.asks(edit))
+            if is_alone or behind.verdict == "refused":
+                self.decide(edit, behind)
 
     def check(self, texts: dict[str, str], only: list[str]) -> Said:
-        """Checks a copy of the crate with these source files, or of it the functions `only` and what they call."""
+        """Checks a copy of the crate with these source files, or of it the functions `only` and what they call; the same once."""
         reads = (self.kit.version, self.crate, self.kit.crates[self.crate], check.checksum(self.kit.crates, self.crate))
         known = hashlib.sha256(repr((*reads, sorted(texts.items()), sorted(only))).encode()).hexdigest()
+        if known not in self.said:
+            self.said[known] = self.check_anew(texts, only, known)
+        return self.said[known]
+
+    def check_anew(self, texts: dict[str, str], only: list[str], known: str) -> Said:
+        """Makes a check, or takes from the folder of `--said` what the prover said in it before."""
         kept_file = self.options.said / f"{self.crate}.{known[:20]}" if self.options.said else None
         if kept_file and kept_file.exists():
             text, seconds = kept_file.read_text(), 0.0
@@ -283,7 +353,7 @@ class Trials:
         unknown = re.search(r"^rattle: error: `.*` (has no function|fits).*", text, re.M)
         if unknown:
             raise Broken(f"{self.crate}: {unknown[0][:200]}")
-        return deciding.understood(text, self.crate, seconds)
+        return deciding.understood(BY_CALLERS.sub(": proved", text), self.crate, seconds)
 
     def run(self, texts: dict[str, str], only: list[str]) -> tuple[str, float]:
         """Runs the prover, and returns what it said and the processor seconds."""
@@ -382,6 +452,7 @@ def arguments() -> argparse.Namespace:
     """The words of the command line."""
     parser = argparse.ArgumentParser(description="Tries wrong bodies in batches.", allow_abbrev=False)
     parser.add_argument("names", nargs="*", metavar="CRATE[/NAME]")
+    parser.add_argument("--apply", action="store_true", help="tries none, and only applies all edits")
     parser.add_argument("--all", action="store_true", help="those with a kept verdict too, and twins of all functions with a proof by hand")
     parser.add_argument("--keep", action="store_true", help="writes the verdicts into verdicts.txt")
     parser.add_argument("--fill", action="store_true", help="writes a line 'clause:' into each edit that has none")
@@ -399,10 +470,13 @@ def main() -> int:
         if folder:
             folder.mkdir(parents=True, exist_ok=True)
     try:
+        edits = all_edits()
+        if given.apply:
+            print(f"{len(edits)} passed, 0 failed")
+            return 0
         kit = kit_of(given.libraries.resolve())
         sums = kept.Checksums(ROOT, kit.crates, kit.version, HERE / "deciding.py")
         verdicts = kept.read(VERDICTS)
-        edits = all_edits()
         tried = chosen(edits, given, verdicts, sums)
         crates: dict[str, list[Edit]] = {}
         for edit in tried:

@@ -57,10 +57,13 @@ class Checksums:
         self.logic = logic[1] if logic else kit
         self.deciding = deciding_file.read_bytes()
         self.reach = Reach(root, crates)
+        self.reached: dict[str, str] = {}
 
     def of_edit(self, edit: Edit, text: bytes) -> str:
         """A checksum of all that the verdict of an edit is made from, of which this is the file."""
-        reached = self.reach.checksum(edit)
+        if edit.label not in self.reached:
+            self.reached[edit.label] = self.reach.checksum(edit)
+        reached = self.reached[edit.label]
         return hashlib.sha256(b"\0".join([self.logic.encode(), reached.encode(), text, self.deciding])).hexdigest()[:20]
 
 

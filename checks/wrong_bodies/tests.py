@@ -294,6 +294,94 @@ class Drawn(unittest.TestCase):
             self.assertEqual(len(tried), wanted)
 
 
+class Checks(unittest.TestCase):
+    """How many checks a run of edits takes, with a prover that goes by words in the bodies.
+
+    `open` breaks the clause `right`. So does `hidden`, but the answer of the clause `other` fails there first. `named` has a name
+    alone fail, `far` breaks each function that no edit changes, and `worded` fails at the answer of the clause `right`. `d` calls `a`.
+    """
+
+    FUNCTIONS = ("a", "b", "c", "d", "free")
+    BODY = "pub fn NAME(x: u8) -> u8\n    ensures right { is_one }\n    ensures other { is_other }\n{\n    let y = x;\n    y\n}\n\n"
+    SOURCE = "".join(map(BODY.replace, ("NAME",) * 5, FUNCTIONS))
+
+    def fake(self, texts: dict[str, str], only: list[str]) -> str:
+        """What the prover says of these functions."""
+        lines = []
+        bodies = {it.path: it for it in deciding.functions_of(texts["src/lib.rt"], "")}
+        source = texts["src/lib.rt"].split("\n")
+        for name in only:
+            if name == "d" and any(it.startswith("fn low::a: no") for it in lines):
+                lines.append("fn low::d: no proof: it calls `low::a`, which is not proved")
+                continue
+            body = "\n".join(source[bodies[name].first : bodies[name].last])
+            answers = texts.get(f"proofs/{name}/Answers.antt", self.ANSWERS)
+            fails = "right" if "worded" in body else "other" if "hidden" in body or "named" in body else ""
+            if fails and f"pub returns-clause-{fails} " in answers:
+                says = "is not in scope" if "named" in body else "the types differ"
+                lines += [f"./proofs/{name}/Answers.antt:1:1: error: `returns-clause-{fails}`: {says}", f"fn low::{name}: not proved"]
+            elif any(it in body for it in ("open", "hidden", "named")):
+                lines.append(f"fn low::{name}: no proof: `search` did not prove `returns-clause-{'other' if 'named' in body else 'right'}`")
+            else:
+                lines.append(f"fn low::{name}: {'not proved' if 'far' in texts['src/lib.rt'] and 'far' not in body else 'proved'}")
+        return "\n".join([*lines, f"only={len(only)}"])
+
+    ANSWERS = "pub returns-clause-other : goal\nreturns-clause-other c =\n  let walk = c in\n  walk\n"
+    OF_RIGHT = "pub returns-clause-right : goal\nreturns-clause-right c =\n  let walk = c in\n  walk\n"
+
+    def tried(self, *bodies: str) -> batches.Trials:
+        """The trials of edits, each a function and the word in its body, once all were tried."""
+        edits = []
+        for number, it in enumerate(bodies):
+            function, word = it.split()
+            old = next(part for part in self.SOURCE.split("\n\n") if part.startswith(f"pub fn {function}("))
+            new = old.replace("    let y = x;", f"    let y = {word}{number}(x);")
+            edits.append(Edit("low", f"{number}", [("src/lib.rt", old, new)], clause=deciding.clause_in("right: words"), functions=[function]))
+        answers = {f"proofs/{it}/Answers.antt": self.ANSWERS + (self.OF_RIGHT if it == "c" else "") for it in self.FUNCTIONS}
+        kit = mock.Mock(version="kit", crates={"low": []}, below=lambda _: [])
+        with mock.patch.multiple(batches, sources_of=lambda _: {"src/lib.rt": self.SOURCE}, answers_of=lambda _: answers, definitions_of=lambda _: {}), \
+                mock.patch.object(batches.check, "checksum", lambda *_: ""), mock.patch("builtins.print"):
+            trials = batches.Trials(kit, "low", edits, batches.Options(None, None))
+            with mock.patch.object(trials, "run", lambda texts, only: (self.fake({**answers, **texts}, only), 1.0)):
+                trials.try_all()
+        return trials
+
+    def found(self, *bodies: str) -> tuple[list[str], int]:
+        """What was found of each edit, and in how many checks."""
+        trials = self.tried(*bodies)
+        found = [trials.found[it.label] for it in trials.edits]
+        return [f"{it.verdict} {it.reason}".strip() for it in found], trials.checks
+
+    def test_edits_of_different_functions_share_a_check(self) -> None:
+        self.assertEqual(self.found("a open", "b open"), (["refused search"] * 2, 1))
+        self.assertEqual(self.found("a open", "a open", "b open"), (["refused search"] * 3, 2))
+
+    def test_one_check_looks_behind_all_answers_that_fail(self) -> None:
+        self.assertEqual(self.found("a hidden"), (["refused search"], 2))
+        self.assertEqual(self.found("a hidden", "b hidden"), (["refused search"] * 2, 2))
+        self.assertEqual(self.found("a hidden", "b open", "b hidden"), (["refused search"] * 3, 4))
+
+    def test_what_no_look_refuses_has_one_of_its_own(self) -> None:
+        self.assertEqual(self.found("a named"), (["name"], 2))
+        self.assertEqual(self.found("a named", "b hidden", "free open"), (["name", "refused search", "refused search"], 4))
+
+    def test_a_twin_joins_the_batches_that_are_left(self) -> None:
+        self.assertEqual(self.found("c worded"), (["refused words"], 2))
+        self.assertEqual(self.found("c worded", "a open", "a open"), (["refused words", "refused search", "refused search"], 2))
+
+    def test_a_twin_is_tried_once(self) -> None:
+        self.assertEqual(self.found("c worded", "c worded"), (["refused words"] * 2, 3))
+
+    def test_what_waits_for_another_proof_joins_the_batches_that_are_left(self) -> None:
+        self.assertEqual(self.found("a open", "d open"), (["refused search"] * 2, 2))
+        self.assertEqual(self.found("a open", "b open", "b open", "d open"), (["refused search"] * 4, 2))
+        self.assertEqual(self.found("a open", "a open", "d open", "d open"), (["refused search"] * 4, 4))
+
+    def test_a_check_that_decides_nothing_is_not_made_twice(self) -> None:
+        self.assertEqual(self.found("a far"), (["bad"], 1))
+        self.assertEqual(self.found("a fine"), (["proved proved"], 1))
+
+
 class Reached(unittest.TestCase):
     """What changes the checksum of a verdict: a small repository of two crates, and one change of it at a time."""
 

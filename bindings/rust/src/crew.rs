@@ -1,13 +1,13 @@
 //! The processes of one desk whose handlers are the program's own, and their supervisors.
 
 use crate::raw::{
-    self, Handle, RawAnswer, RawBody, RawChild, RawChildCounts, RawChildSpec, RawGaveUp, RawItem, RawJob, RawLoss,
-    RawNext, RawPick, RawReason, RawRef, RawTurned,
+    self, Handle, RawAnswer, RawBody, RawChild, RawChildCounts, RawChildSpec, RawGaveUp, RawJob, RawLoss, RawNext,
+    RawPick, RawReason, RawRef, RawTurned,
 };
 use crate::supervisors::{Child, ChildCounts, ChildFault, ChildSpec, GaveUp, Origin, SupervisorSpec, asked};
 use crate::{
-    Body, Desk, Fault, Gathered, Held, History, Item, Lineage, Loss, NONE, OK, Pick, Pid, Quiet, Reason, Turned,
-    desks_of, fault_of, found, is_whole, told,
+    Desk, Fault, Gathered, Held, History, Item, Lineage, Loss, NONE, OK, Pick, Pid, Quiet, Reason, Turned, desks_of,
+    fault_of, found, is_whole, told,
 };
 use std::fmt;
 use std::mem;
@@ -261,15 +261,21 @@ impl Crew {
         self.told.resize(most, RawJob::default());
     }
 
-    /// The job in this place of the last step, if it is a message that names nobody: its process with its tag, and the item.
+    /// The job in this place of the last step, if it is a message that names nobody: its process with its tag, and the kind and
+    /// the number of the message.
     #[inline(always)]
-    pub(crate) fn letter(&self, place: usize) -> Option<(Pid, u64, Item)> {
+    pub(crate) fn letter(&self, place: usize) -> Option<(Pid, u64, u32, i64)> {
         let job = &self.told[place];
-        let RawItem { code, pid: from, body: RawBody { kind, num, has_who, .. }, .. } = job.item;
-        if job.code != raw::PT_JOB_ITEM || code != raw::PT_ITEM_USER || has_who {
+        let RawBody { kind, num, has_who, .. } = job.item.body;
+        if job.code != raw::PT_JOB_ITEM || job.item.code != raw::PT_ITEM_USER || has_who {
             return None;
         }
-        Some((job.pid, job.tag, Item::User(from, Body { kind, num, who: None })))
+        Some((job.pid, job.tag, kind, num))
+    }
+
+    /// The item of the job in this place of the last step, which has one.
+    pub(crate) fn item_of(&self, place: usize) -> Item {
+        self.told[place].item.into()
     }
 
     /// The same of any item.

@@ -259,3 +259,87 @@ fn a_run_that_halts_keeps_all_until_it_is_dropped() -> Result<(), Error> {
     ledger.balance();
     Ok(())
 }
+
+/// A value that panics as it is dropped.
+struct Thorn;
+
+impl Drop for Thorn {
+    fn drop(&mut self) {
+        std::panic::resume_unwind(Box::new("a thorn"));
+    }
+}
+
+/// Keeps what it is sent in timers that go off much later.
+struct Keeps;
+
+impl Behaviour for Keeps {
+    type Message = Thorn;
+
+    fn handle(&mut self, cx: &mut Context<'_, Thorn>, event: Event<Thorn>) -> Next {
+        if let Event::Message(thorn) = event {
+            let me = cx.me().clone();
+            cx.send_after(Duration::from_secs(100_000), &me, thorn);
+        }
+        Next::Wait
+    }
+}
+
+#[test]
+fn values_in_timers_that_panic_as_they_are_dropped_harm_no_end_of_a_run() -> Result<(), Error> {
+    for drained in [false, true] {
+        let runtime = Runtime::builder().desks(2).start()?;
+        let keeps = runtime.spawn(Keeps)?;
+        (0..3).for_each(|_| assert!(keeps.send(Thorn)));
+        while drained && keeps.waiting() > 0 {}
+        assert_eq!(if drained { runtime.drain(Duration::from_secs(60))? } else { runtime.stop()? }.panics, 0);
+    }
+    Ok(())
+}
+
+/// Answers with such values.
+struct Thorns;
+
+impl Behaviour for Thorns {
+    type Message = Reply<Thorn>;
+
+    fn handle(&mut self, cx: &mut Context<'_, Reply<Thorn>>, event: Event<Reply<Thorn>>) -> Next {
+        if let Event::Message(reply) = event {
+            cx.reply(reply, Thorn);
+        }
+        Next::Wait
+    }
+}
+
+/// Postpones two of them, and exits.
+struct Postpones(Address<Reply<Thorn>>, u32);
+
+impl Behaviour for Postpones {
+    type Message = ();
+
+    fn started(&mut self, cx: &mut Context<'_, ()>) -> Next {
+        for _ in 0..2 {
+            cx.call(&self.0, Duration::from_secs(60), |reply| reply).expect("a call");
+        }
+        Next::Wait
+    }
+
+    fn handle(&mut self, cx: &mut Context<'_, ()>, event: Event<()>) -> Next {
+        assert!(matches!(event, Event::Answer(_)) && cx.postpone(event));
+        self.1 += 1;
+        if self.1 == 2 { Next::DONE } else { Next::Wait }
+    }
+}
+
+#[test]
+fn answers_that_were_postponed_and_panic_as_they_are_dropped_harm_no_run() -> Result<(), Error> {
+    for desks in 1..=2 {
+        let runtime = Runtime::builder().desks(desks).start()?;
+        let thorns = runtime.spawn(Thorns)?;
+        let postpones = runtime.spawn(Postpones(thorns, 0))?;
+        let mut watch = runtime.mailbox::<()>()?;
+        watch.monitor(&postpones)?;
+        assert!(matches!(watch.recv_within(Duration::from_secs(60)), Some(Event::Down(_))));
+        assert_eq!(runtime.stop()?.panics, 0);
+    }
+    Ok(())
+}

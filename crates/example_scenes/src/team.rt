@@ -22,11 +22,11 @@ use crate::stage::{BUDGET, Curtain, DESKS, first_of, rested};
 use anyhow::{Result, bail};
 use pt_behaviour::{Behaviour, Births, Next};
 use pt_crew::{Crew, are_idle};
+use pt_epochs::{RestGate, RestingWork};
 use pt_node::{Account, Config, Desk, Fault, FreeGate, Item, Node, Pick, Pid, Quiet, Reason, open};
 use pt_pauses::{
     children_here_live, paused_children_live, quiet_children_live, stopped_children_ended,
 };
-use pt_resting::{RestGate, RestingWork};
 use pt_supervisor::{
     Child, Limit, Restart, Start, Strategy, Supervised, Supervisor, children_stay_here,
 };

@@ -8,3 +8,4 @@ pub mod Idling
 pub mod Again
 pub mod Pausing
 pub mod Driving
+pub mod Bringing

@@ -3,3 +3,6 @@ pub mod Epochs
 pub mod Running
 pub mod Driving
 pub mod Watching
+pub mod Bringing
+pub mod Views
+pub mod Timing

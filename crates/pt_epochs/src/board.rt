@@ -1,6 +1,6 @@
 //! What the workers of a run know of one another: whether it is over, and when each had nothing to do.
 
-use pt_resting::Bells;
+use crate::bells::Bells;
 use std::alloc::{AllocError, Global};
 use std::sync::atomic::{AtomicU64, Ordering};
 

@@ -1,4 +1,7 @@
-//! A node that goes on by itself: crews that run until nothing is left to do, and epoch behind epoch.
+//! A node that goes on by itself, beside the threads of its program: crews that run until nothing is left to do, epoch
+//! behind epoch, desks that rest, and the way in for messages from threads that have no desk.
+//!
+//! # Until idle, and epochs
 //!
 //! [`run_until_idle`] runs the crews of a node until no process has anything to do and no letter is in flight, with no
 //! number of turns to be guessed. [`run_epochs`] empties the journals from time to time: it gathers and settles the node,
@@ -6,7 +9,17 @@
 //! meanwhile, as [`Rounds`] does on the calling thread; [`run_epochs_on_threads`] runs each on a thread of its own. If
 //! something fails, a [`Halted`] has the node as it is then, and goes on from there.
 //!
-//! Tests: `checks/tried/test_calls/running_on.rt.txt`.
+//! # Desks that rest, and the way in
+//!
+//! The workers of a node wake each other by [`Bells`]. A [`RestGate`] lets a worker rest if its desk has nothing to do,
+//! and lets every worker continue until [`Bells::stop`]. A [`RestingWork`] is the work that reports to it. A [`Door`] takes
+//! messages from a thread without a desk; a [`Porter`] sends them on, as a process of its desk.
+//!
+//! A [`Clocked`] work takes its steps at the time that a [`TimeSource`] says. A [`TimedGate`] rests no longer than until
+//! the next time at which the desk has something to do.
+//!
+//! Tests: `checks/tried/test_calls/running_on.rt.txt`, `checks/tried/test_calls/resting.rt.txt`,
+//! `checks/tried/test_calls/timed_rests.rt.txt` and `crates/test_stress`.
 //!
 //! # What is proved
 //!
@@ -23,24 +36,46 @@
 //! - **The last epoch.** A run of epochs ends behind the first that ends it, and not later. (`EndsRun`)
 //! - **Halts.** If an epoch halts, what was done stays, the node comes back, and `Halted::go_on` does the rest.
 //!   (`HaltsRun`, `GoesOnAs`)
+//! - **The way in.** The messages that a `Porter` took out, followed by those that wait, are the messages handed in at its
+//!   `Door`: in order, each once. A message that it took was sent, once and in order, or its receiver was seen to have
+//!   exited or is not known. (`meet`, `Brings`)
+//! - **How many.** A step sends on at most as many as asked for, and fewer only if it knows of no more or sending the
+//!   next one fails. (`few`, `keeps`)
+//! - **Refusals.** A message that could not be sent for want of memory or stamps stays in front.
+//! - **Doors.** `Door::post` fails only if the door knows of no free place. `way_in` makes as many places as asked for,
+//!   at the desk of the process that sends on.
+//! - **Work left.** A crew has work exactly while a process is queued or waits to enter; a porter also while it knows
+//!   of a message. (`busy`)
+//! - **The work within.** A `RestingWork` does what its work does. A `Clocked` work sets its work's time to one that its
+//!   source says, and does what that does then. (`says`)
+//! - **Next time.** A crew that attends its desk has no process outside its queue that waits until an earlier time than
+//!   the one it tells. (`next`)
 #![tactic(auto)]
 
+mod bells;
 mod board;
 mod call;
+mod door;
 mod drive;
 mod ending;
 mod epochs;
+mod gate;
 mod halted;
 mod idle;
 mod on_threads;
+mod resting;
 mod sink;
+mod timed;
 mod watched;
 mod workers;
 
+pub use bells::Bells;
 pub use call::Call;
+pub use door::{Door, Porter, Post, way_in};
 pub use drive::{Drive, Rounds};
 pub use ending::end_epoch;
 pub use epochs::{Outcome, Pause, Plan, run_epochs};
+pub use gate::{RestGate, TimedGate};
 pub use halted::Halted;
 pub use idle::{Ended, none_has_work, run_until_idle};
 pub use on_threads::run_epochs_on_threads;
@@ -48,4 +83,6 @@ pub use pt_behaviour::Behaviour;
 pub use pt_crew::Crew;
 pub use pt_events::Stamped;
 pub use pt_node::{Node, RunFault, Stopped};
+pub use resting::{RestingWork, Rests};
 pub use sink::{Refused, Sink};
+pub use timed::{Clocked, TimeSource, Timed};

@@ -4,9 +4,9 @@ ghost use Rattle.std.specs.Prelude.{◌≡◌, ◌<◌, ◌≤◌, MatchBool, le
 ghost use Rattle.pt_epochs.specs.Watching.{WatchedDoes, WatchedHears, watch, watched_standing};
 
 use crate::board::Board;
+use crate::resting::{RestingWork, Rests};
 use pt_desk::Desk;
 use pt_node::{Standing, Task, Turned};
-use pt_resting::{RestingWork, Rests};
 use std::marker::Model;
 
 /// A work that is done once the journal of its desk has more than so many events. It does what the work within does.

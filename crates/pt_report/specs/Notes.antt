@@ -1,5 +1,5 @@
 -- What an explained summary says of a process that ended: why it did. No public clause cites this module.
-use Rattle.std.specs.Prelude.{ℕ, ◌+◌, ◌==◌, ◌&&◌, Bool, false, cond, is_some, not, List, [], ◌∷◌, ◌++◌, codes, decimal}
+use Rattle.std.specs.Prelude.{ℕ, ◌+◌, ◌==◌, ◌&&◌, Bool, false, true, cond, is_some, not, List, [], ◌∷◌, ◌++◌, codes, decimal}
 use Rattle.std.specs.Prelude.{Option, Some, None}
 use Rattle.std.specs.List.{list_any}
 use Rattle.indexmap.specs.IndexMap.{get}
@@ -11,7 +11,7 @@ use Rattle.pt_signal.specs.declared.signal.Signal.TheVariants.{Exit as ExitSigna
 use Rattle.pt_signal.specs.Values.{same_pid}
 use Rattle.pt_script.specs.Plans.{Plan}
 use Rattle.pt_script.specs.declared.values.Operation.{Operation}
-use Rattle.pt_script.specs.declared.values.Operation.TheVariants.{Monitor, Exit as ExitOp, Spawn}
+use Rattle.pt_script.specs.declared.values.Operation.TheVariants.{Monitor, Exit as ExitOp, If, Spawn}
 use Rattle.pt_runner.specs.declared.runner.Runner.{Runner}
 use Rattle.pt_runner.specs.Acting.{pid_numbered, plan_at, table}
 use Rattle.pt_report.specs.declared.ending.Ending.{Ending}
@@ -44,6 +44,11 @@ ending_by from _ = Exit from
 -- by what a process ended, as it was played
 abbrev pub ending_of : Endings → Pid → Ending
 ending_of e p = or_unseen (get same_pid e.ended p)
+
+-- a list can go on at several places behind the operation
+abbrev pub is_branch : Operation → Bool
+is_branch (If pattern) = true
+is_branch _ = false
 
 -- why it ended ------------------------------------------------------------------------------
 

@@ -3,6 +3,7 @@ use Rattle.std.specs.Prelude.{ℕ, ◌==◌, cond, List, [], ◌++◌, codes, de
 use Rattle.pt_script.specs.declared.values.Operation.{Operation}
 use Rattle.pt_script.specs.declared.values.Operation.TheVariants.{Send, Receive, Check, Link, Unlink, Monitor}
 use Rattle.pt_script.specs.declared.values.Operation.TheVariants.{Demonitor, Alive, Trap, Exit, Signal, Spawn, Pass}
+use Rattle.pt_script.specs.declared.values.Operation.TheVariants.{ReceiveAfter, If, Else, End, Repeat, Again}
 
 -- how often an operation was refused for memory or at the clock's limit
 unfoldable pub refused_text : ℕ → List ℕ
@@ -25,3 +26,9 @@ word_text (Exit reason) = codes "exit"
 word_text (Signal to reason) = codes "signal"
 word_text (Spawn process linked) = codes "spawn"
 word_text Pass = codes "pass"
+word_text (ReceiveAfter pattern tries) = codes "receive"
+word_text (If pattern) = codes "if"
+word_text Else = codes "else"
+word_text End = codes "end"
+word_text (Repeat times) = codes "repeat"
+word_text Again = codes "again"

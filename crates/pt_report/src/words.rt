@@ -43,5 +43,11 @@ pub(crate) fn word_of(operation: Operation) -> &'static str
         Operation::Signal { .. } => "signal",
         Operation::Spawn { .. } => "spawn",
         Operation::Pass => "pass",
+        Operation::ReceiveAfter { .. } => "receive",
+        Operation::If(_) => "if",
+        Operation::Else => "else",
+        Operation::End => "end",
+        Operation::Repeat(_) => "repeat",
+        Operation::Again => "again",
     }
 }

@@ -1,5 +1,5 @@
 -- What operations do, and what a step does.
-use Rattle.std.proofs.Common.{◌≡◌, ◌≢◌, inl, inr, ℕ, ◌+◌, ◌<◌, List, [], ◌∷◌, ◌++◌, Bool, true, false, length, map, get_or, set, Option, Some, None, Result, Ok, Err, refl, ap, sym, subst, ◌∙◌, add-one}
+use Rattle.std.proofs.Common.{◌≡◌, ◌≢◌, ◌⊎◌, inl, inr, ℕ, suc, ◌+◌, ◌-◌, ◌<◌, List, [], ◌∷◌, ◌++◌, Bool, true, false, length, length-append, map, get_or, replicate, set, Option, Some, None, Result, Ok, Err, refl, ap, sym, subst, ◌∙◌, append_assoc, add-one, arith}
 use Rattle.std.specs.Prelude.{is_some}
 use Rattle.std.specs.List.{filter, position}
 use Rattle.std.proofs.lemmas.List.{map-set, get_or-map, get_or_append_left, get_or_default, length-map}
@@ -10,11 +10,13 @@ use Rattle.pt_signal.specs.declared.pid.Pid.{Pid}
 use Rattle.pt_signal.specs.Values.{same_pid}
 use Rattle.pt_events.specs.declared.event.Event.{Event}
 use Rattle.pt_script.specs.Plans.{Plan}
+use Rattle.pt_script.specs.declared.values.Pattern.{Pattern}
 use Rattle.pt_script.specs.declared.values.Operation.{Operation}
-use Rattle.pt_script.specs.declared.values.Operation.TheVariants.{Send, Receive, Check, Link, Unlink, Monitor, Demonitor, Alive, Trap, Exit, Signal as SendExit, Spawn, Pass}
+use Rattle.pt_script.specs.declared.values.Operation.TheVariants.{Send, Receive, Check, Link, Unlink, Monitor, Demonitor, Alive, Trap, Exit, Signal as SendExit, Spawn, Pass, ReceiveAfter, If, Else, End, Repeat, Again}
 use Rattle.pt_signal.specs.declared.signal.Signal.TheVariants.{AliveAsk}
 use Rattle.pt_events.specs.declared.event.Event.TheVariants.{Said}
 use Rattle.pt_shard.specs.declared.fault.Fault.{Fault}
+use Rattle.pt_shard.specs.declared.fault.Fault.TheVariants.{Full, Memory, Worn, Gone, Myself, NoProc}
 use Rattle.pt_desk.specs.DeskState.{DeskState}
 use Rattle.pt_desk.specs.Reaching.{Reaches, has_monitor_to_make}
 use Rattle.pt_node.proofs.Reached.{reached}
@@ -23,7 +25,7 @@ use Rattle.pt_runner.specs.declared.calls.Progress.TheVariants.{Done, Stays}
 use Rattle.pt_shard.specs.ShardState.{ShardState}
 use Rattle.pt_runner.specs.declared.calls.Progress.{Progress}
 use Rattle.pt_runner.specs.declared.runner.Actor.{Actor}
-use Rattle.pt_runner.specs.Acting.{came_of, CallsTarget, ReachesAt, Takes, taken_of, Demonitors, MonitorsAt, AsksAt, ref_got, Performs, Acting, PidTable, acting, set_acting, with_born, newborn_actor, Plays, DoesOperation, ActsAt, ActsIfAt, EachActs}
+use Rattle.pt_runner.specs.Acting.{came_of, CallsTarget, ReachesAt, Takes, taken_of, Demonitors, MonitorsAt, AsksAt, padded_to, with_answer, Performs, Acting, PidTable, acting, set_acting, with_born, newborn_actor, GoesBehind, Plays, DoesOperation, ActsAt, ActsIfAt, EachActs}
 
 -- calls on a target ------------------------------------------------------------------------
 
@@ -55,12 +57,6 @@ pub take_at : (at : Option Pick) (k : Pick) (p : Pid) (without : Progress) (old 
 take_at at k p without old new answer progress is calls came =
     subst (λ (o : Option Pick). Takes o p without old progress new) (sym is) (answer, calls, came)
 
--- a receive that may find nothing is done whatever it finds
-pub checked_came : (answer : Result (Option Item) Fault) → came_of answer ≡ taken_of Done answer
-checked_came (Ok None) = refl
-checked_came (Ok (Some item)) = refl
-checked_came (Err fault) = refl
-
 pub demonitor_passed : (at : Option Ref) (p : Pid) (flush : Bool) (old : ShardState) → at ≡ None → Demonitors at p flush old Done old
 demonitor_passed at p flush old is = subst (λ (o : Option Ref). Demonitors o p flush old Done old) (sym is) (refl, refl)
 
@@ -70,37 +66,54 @@ demonitor_at at m p flush old new answer progress is calls came =
 
 -- operations that make a tag
 
-pub no_room : (p : Pid) (at : Option Pid) (old : ShardState) (references after : List (Option Ref)) → after ≡ references → MonitorsAt p at old references Stays old after
-no_room p None old references after e = inl (refl, refl, e)
-no_room p (Some t) old references after e = inl (refl, refl, e)
+-- one more of the tags before it has no reference
+pub padded_more : (tag : ℕ) (references : List (Option Ref)) → length references < tag → padded_to tag (references ++ None ∷ []) ≡ padded_to tag references
+padded_more tag references lt =
+    let count : suc (tag - length (references ++ None ∷ [])) ≡ tag - length references = omega (arith, lt, length-append references (None ∷ [])) in
+    append_assoc references (None ∷ []) (replicate (tag - length (references ++ None ∷ [])) None)
+    ∙ ap (λ n. references ++ replicate n None) count
 
-pub no_target : (p : Pid) (at : Option Pid) (old : ShardState) (references after : List (Option Ref)) → at ≡ None → after ≡ references ++ None ∷ [] → MonitorsAt p at old references Done old after
-no_target p at old references after is e = subst (λ (o : Option Pid). MonitorsAt p o old references Done old after) (sym is) (inr ((refl, refl), e))
+pub no_room : (p : Pid) (at : Option Pid) (tag : ℕ) (old : ShardState) (references after : List (Option Ref)) → after ≡ references → MonitorsAt p at tag old references Stays old after
+no_room p None tag old references after e = inl (refl, refl, e)
+no_room p (Some t) tag old references after e = inl (refl, refl, e)
 
-pub monitor_at : (p : Pid) (at : Option Pid) (t : Pid) (old new : DeskState) (references after : List (Option Ref)) (answer : Result Ref Fault) (progress : Progress) → at ≡ Some t
-    → Reaches (has_monitor_to_make old.shard p t) p t (Monitors p t old.shard answer new.shard) old answer new → progress ≡ came_of answer → after ≡ references ++ ref_got answer → MonitorsAt p at old.shard references progress new.shard after
-monitor_at p at t old new references after answer progress is reaches came noted =
-    subst (λ (o : Option Pid). MonitorsAt p o old.shard references progress new.shard after) (sym is)
+pub no_target : (p : Pid) (at : Option Pid) (tag : ℕ) (old : ShardState) (references after : List (Option Ref)) → at ≡ None → after ≡ with_answer tag references (Err NoProc) → MonitorsAt p at tag old references Done old after
+no_target p at tag old references after is e = subst (λ (o : Option Pid). MonitorsAt p o tag old references Done old after) (sym is) (inr ((refl, refl), e))
+
+pub monitor_at : (p : Pid) (at : Option Pid) (t : Pid) (tag : ℕ) (old new : DeskState) (references after : List (Option Ref)) (answer : Result Ref Fault) (progress : Progress) → at ≡ Some t
+    → Reaches (has_monitor_to_make old.shard p t) p t (Monitors p t old.shard answer new.shard) old answer new → progress ≡ came_of answer → after ≡ with_answer tag references answer → MonitorsAt p at tag old.shard references progress new.shard after
+monitor_at p at t tag old new references after answer progress is reaches came noted =
+    subst (λ (o : Option Pid). MonitorsAt p o tag old.shard references progress new.shard after) (sym is)
     (inr (answer, reached (has_monitor_to_make old.shard p t) p t (Monitors p t old.shard answer new.shard) old answer new reaches, came, noted))
 
-pub ask_no_room : (p : Pid) (at : Option Pid) (old : ShardState) (references after : List (Option Ref)) → after ≡ references → AsksAt p at old references Stays old after
-ask_no_room p None old references after e = inl (refl, refl, e)
-ask_no_room p (Some t) old references after e = inl (refl, refl, e)
+pub ask_no_room : (p : Pid) (at : Option Pid) (tag : ℕ) (old : ShardState) (references after : List (Option Ref)) → after ≡ references → AsksAt p at tag old references Stays old after
+ask_no_room p None tag old references after e = inl (refl, refl, e)
+ask_no_room p (Some t) tag old references after e = inl (refl, refl, e)
 
-pub ask_no_target : (p : Pid) (at : Option Pid) (old : ShardState) (references after : List (Option Ref)) → at ≡ None → after ≡ references ++ None ∷ [] → AsksAt p at old references Done old after
-ask_no_target p at old references after is e = subst (λ (o : Option Pid). AsksAt p o old references Done old after) (sym is) (inr ((refl, refl), e))
+pub ask_no_target : (p : Pid) (at : Option Pid) (tag : ℕ) (old : ShardState) (references after : List (Option Ref)) → at ≡ None → after ≡ with_answer tag references (Err NoProc) → AsksAt p at tag old references Done old after
+ask_no_target p at tag old references after is e = subst (λ (o : Option Pid). AsksAt p o tag old references Done old after) (sym is) (inr ((refl, refl), e))
 
-pub ask_at : (p : Pid) (at : Option Pid) (t : Pid) (old new : ShardState) (references after : List (Option Ref)) (answer : Result Ref Fault) (progress : Progress) → at ≡ Some t → Calls p (Some (Said p t (AliveAsk (new_ref old)))) (new_ref old) old answer new → progress ≡ came_of answer → after ≡ references ++ ref_got answer → AsksAt p at old references progress new after
-ask_at p at t old new references after answer progress is calls came noted =
-    subst (λ (o : Option Pid). AsksAt p o old references progress new after) (sym is) (inr (answer, calls, came, noted))
+pub ask_at : (p : Pid) (at : Option Pid) (t : Pid) (tag : ℕ) (old new : ShardState) (references after : List (Option Ref)) (answer : Result Ref Fault) (progress : Progress) → at ≡ Some t → Calls p (Some (Said p t (AliveAsk (new_ref old)))) (new_ref old) old answer new → progress ≡ came_of answer → after ≡ with_answer tag references answer → AsksAt p at tag old references progress new after
+ask_at p at t tag old new references after answer progress is calls came noted =
+    subst (λ (o : Option Pid). AsksAt p o tag old references progress new after) (sym is) (inr (answer, calls, came, noted))
 
 -- any operation ---------------------------------------------------------------------------
 
 pub performs_as : (pids : List (Option Pid)) (p : Pid) (o named : Operation) (old : ShardState) (references : List (Option Ref)) (progress : Progress) (new : ShardState) (after : List (Option Ref)) → o ≡ named → Performs pids p named old references progress new after → Performs pids p o old references progress new after
 performs_as pids p o named old references progress new after is h = subst (λ (x : Operation). Performs pids p x old references progress new after) (sym is) h
 
+-- one that does nothing
+pub performs_nothing : (pids : List (Option Pid)) (p : Pid) (o : Operation) (old : ShardState) (references : List (Option Ref))
+    → (o ≡ Pass) ⊎ (((pattern : Pattern) × (o ≡ If pattern)) ⊎ ((o ≡ Else) ⊎ ((o ≡ End) ⊎ (((times : ℕ) × (o ≡ Repeat times)) ⊎ (o ≡ Again))))) → Performs pids p o old references Done old references
+performs_nothing pids p o old references (inl is) = performs_as pids p o Pass old references Done old references is ((refl, refl), refl)
+performs_nothing pids p o old references (inr (inl (pattern, is))) = performs_as pids p o (If pattern) old references Done old references is ((refl, refl), refl)
+performs_nothing pids p o old references (inr (inr (inl is))) = performs_as pids p o Else old references Done old references is ((refl, refl), refl)
+performs_nothing pids p o old references (inr (inr (inr (inl is)))) = performs_as pids p o End old references Done old references is ((refl, refl), refl)
+performs_nothing pids p o old references (inr (inr (inr (inr (inl (times, is)))))) = performs_as pids p o (Repeat times) old references Done old references is ((refl, refl), refl)
+performs_nothing pids p o old references (inr (inr (inr (inr (inr is))))) = performs_as pids p o Again old references Done old references is ((refl, refl), refl)
+
 -- an operation that is no spawn
-pub acts_plain : (o : Operation) (i : ℕ) (a b : Acting) (t u : PidTable) (old new : ShardState) → ((process : ℕ) (linked : Bool) → o ≢ Spawn process linked) → Plays t.pids o a old b new → u ≡ set_acting i b t → DoesOperation o i a t old u new
+pub acts_plain : (o : Operation) (i : ℕ) (a b : Acting) (t u : PidTable) (old new : ShardState) → ((process : ℕ) (linked : Bool) → o ≢ Spawn process linked) → Plays t.plans t.pids o a old b new → u ≡ set_acting i b t → DoesOperation o i a t old u new
 acts_plain (Send to kind num who) i a b t u old new plain plays is = (b, plays, is)
 acts_plain (Receive pattern) i a b t u old new plain plays is = (b, plays, is)
 acts_plain (Check pattern) i a b t u old new plain plays is = (b, plays, is)
@@ -114,6 +127,12 @@ acts_plain (Exit reason) i a b t u old new plain plays is = (b, plays, is)
 acts_plain (SendExit to reason) i a b t u old new plain plays is = (b, plays, is)
 acts_plain (Spawn process linked) i a b t u old new plain plays is = absurd (plain process linked refl)
 acts_plain Pass i a b t u old new plain plays is = (b, plays, is)
+acts_plain (ReceiveAfter pattern tries) i a b t u old new plain plays is = (b, plays, is)
+acts_plain (If pattern) i a b t u old new plain plays is = (b, plays, is)
+acts_plain Else i a b t u old new plain plays is = (b, plays, is)
+acts_plain End i a b t u old new plain plays is = (b, plays, is)
+acts_plain (Repeat times) i a b t u old new plain plays is = (b, plays, is)
+acts_plain Again i a b t u old new plain plays is = (b, plays, is)
 
 -- tables ------------------------------------------------------------------------------------
 
@@ -141,6 +160,21 @@ with_child_same process answer plans pids xs ys e = ap (λ (zs : List Actor). wi
 pub child_behind : (process : ℕ) (answer : Result Pid Fault) (t : PidTable) (i : ℕ) (d : Acting) → i < length t.actors → get_or (with_born process answer t).actors i d ≡ get_or t.actors i d
 child_behind process (Ok p) t i d lt = get_or_append_left t.actors (newborn_actor t.plans process p ∷ []) d i lt
 child_behind process (Err fault) t i d lt = refl
+
+-- and what the processes do
+pub child_plans : (process : ℕ) (answer : Result Pid Fault) (t : PidTable) → (with_born process answer t).plans ≡ t.plans
+child_plans process (Ok p) t = refl
+child_plans process (Err fault) t = refl
+
+-- a birth takes no item, so whom an operation may name makes no difference behind it
+pub behind_birth : (plans : List Plan) (pids more : List (Option Pid)) (answer : Result Pid Fault) (a b : Acting) (old new : ShardState) → GoesBehind plans more (came_of answer) a old b new → GoesBehind plans pids (came_of answer) a old b new
+behind_birth plans pids more (Ok p) a b old new h = h
+behind_birth plans pids more (Err Full) a b old new h = h
+behind_birth plans pids more (Err Memory) a b old new h = h
+behind_birth plans pids more (Err Worn) a b old new h = h
+behind_birth plans pids more (Err Gone) a b old new h = h
+behind_birth plans pids more (Err Myself) a b old new h = h
+behind_birth plans pids more (Err NoProc) a b old new h = h
 
 -- a step --------------------------------------------------------------------------------------
 

@@ -5,3 +5,4 @@ pub mod Starting
 pub mod Stepping
 pub mod NothingFound
 pub mod Waiting
+pub mod Branches

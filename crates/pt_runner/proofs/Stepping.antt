@@ -1,5 +1,5 @@
 -- What a runner does in a step is one event at most of each live process.
-use Rattle.std.proofs.Common.{◌≡◌, ◌⊎◌, inl, inr, ℕ, zero, suc, ◌+◌, ◌<◌, ◌≤◌, List, [], ◌∷◌, ◌++◌, Bool, true, false, ◌&&◌, cond, max, length, length-append, map, get_or, take, Option, Some, None, Result, Ok, Err, refl, ap, sym, subst, ◌∙◌, append_assoc, append-nil, add-one, arith}
+use Rattle.std.proofs.Common.{◌≡◌, inl, inr, ℕ, zero, suc, ◌+◌, ◌<◌, ◌≤◌, List, [], ◌∷◌, ◌++◌, Bool, true, false, ◌&&◌, cond, max, length, length-append, map, get_or, take, Option, Some, None, Result, Ok, Err, refl, ap, sym, subst, ◌∙◌, append_assoc, append-nil, add-one, arith}
 use Rattle.std.specs.Prelude.{is_some}
 use Rattle.std.specs.Option.{option_map}
 use Rattle.std.specs.List.{All, filter, position}
@@ -24,13 +24,15 @@ use Rattle.pt_shard.specs.declared.fault.Fault.TheVariants.{Full, Memory, Worn, 
 use Rattle.pt_shard.specs.ShardState.{ShardState, lives, state_in, shard_after, written}
 use Rattle.pt_shard.specs.Calls.{Calls, Monitors, Refuses, BearsChild, link_event, unlink_event, take_event, first_match, demonitor_event, demonitor_at, held_by, new_link, new_ref, birth_link, if_asked}
 use Rattle.pt_desk.specs.Reaching.{IsReached, has_link_to_make, has_monitor_to_make}
+use Rattle.pt_script.specs.Plans.{Plan}
+use Rattle.pt_script.specs.declared.values.Pattern.{Pattern}
 use Rattle.pt_script.specs.declared.values.Operation.{Operation}
-use Rattle.pt_script.specs.declared.values.Operation.TheVariants.{Send, Receive, Check, Link, Unlink, Monitor, Demonitor, Alive, Trap, Exit, Signal as SendExit, Spawn, Pass}
+use Rattle.pt_script.specs.declared.values.Operation.TheVariants.{Send, Receive, Check, Link, Unlink, Monitor, Demonitor, Alive, Trap, Exit, Signal as SendExit, Spawn, Pass, ReceiveAfter, If, Else, End, Repeat, Again}
 use Rattle.pt_runner.specs.declared.calls.Progress.{Progress}
-use Rattle.pt_runner.specs.declared.calls.Progress.TheVariants.{Done, Waits, Stays, Ends}
+use Rattle.pt_runner.specs.declared.calls.Progress.TheVariants.{Done, Took as TookItem, Waits, Stays, Ends}
 use Rattle.pt_runner.specs.declared.runner.Actor.{Actor}
 use Rattle.pt_runner.specs.declared.runner.Runner.{Runner}
-use Rattle.pt_runner.specs.Acting.{came_of, IsCall, CallsTarget, ReachesAt, Takes, taken_of, Demonitors, HasNoRoom, MonitorsAt, AsksAt, Performs, GoesBehind, Acting, PidTable, acting, table, advanced, ended_or_put_off, put_off, set_acting, with_born, newborn_actor, next_of, Plays, Spawns, TriesSpawn, DoesOperation, ActsAt, ActsIfAt, EachActs, OneDoesNext, living, EachDoesNext, target_of, pid_if, pick_meant, reference_of}
+use Rattle.pt_runner.specs.Acting.{came_of, IsCall, CallsTarget, ReachesAt, Takes, taken_of, Demonitors, HasNoRoom, MonitorsAt, AsksAt, Performs, GoesBehind, Acting, PidTable, acting, table, advanced, fits_none, fits_taken, pid_numbered, ended_or_put_off, put_off, set_acting, with_born, newborn_actor, next_of, Plays, Spawns, SpawnsIfNew, TriesSpawn, DoesOperation, ActsAt, ActsIfAt, EachActs, OneDoesNext, living, EachDoesNext, target_of, pid_if, pick_meant, reference_of}
 use Rattle.pt_runner.specs.Stepping.{actor_of, child_of, IsStampOf, DoesOne, EachDoesOne, processes_here, ProcessSteps, ProcessesStep}
 
 -- one event ---------------------------------------------------------------------------------
@@ -181,16 +183,15 @@ first_of true b h = refl
 first_of false b h = h
 
 -- a receive, where what comes of it without an item ends nobody
-without_item : (p : Pid) (without : Progress) (old new : ShardState) → (without ≡ Done) ⊎ (without ≡ Waits) → DoesOne p old new [] → Leaves p without old new
-without_item p without old new (inl e) one = leaves_as p without Done old new e one
-without_item p without old new (inr e) one = leaves_as p without Waits old new e one
+abbrev EndsNobody : Pid → Progress → Type 0
+EndsNobody p without = (old new : ShardState) → DoesOne p old new [] → Leaves p without old new
 
-taken_leaves : (p : Pid) (k : Pick) (without : Progress) (old new : ShardState) (answer : Result (Option Item) Fault) → (without ≡ Done) ⊎ (without ≡ Waits) → Calls p (take_event old p k) (first_match old p k) old answer new → Leaves p (taken_of without answer) old new
-taken_leaves p k without old new (Ok None) h c = without_item p without old new h (leaves p (take_event old p k) (first_match old p k) old new (Ok None) (take_own old p k) c)
+taken_leaves : (p : Pid) (k : Pick) (without : Progress) (old new : ShardState) (answer : Result (Option Item) Fault) → EndsNobody p without → Calls p (take_event old p k) (first_match old p k) old answer new → Leaves p (taken_of without answer) old new
+taken_leaves p k without old new (Ok None) h c = h old new (leaves p (take_event old p k) (first_match old p k) old new (Ok None) (take_own old p k) c)
 taken_leaves p k without old new (Ok (Some item)) h c = leaves p (take_event old p k) (first_match old p k) old new (Ok (Some item)) (take_own old p k) c
 taken_leaves p k without old new (Err fault) h c = leaves p (take_event old p k) (first_match old p k) old new (Err fault) (take_own old p k) c
 
-takes_leaves : (at : Option Pick) (p : Pid) (without : Progress) (old : ShardState) (progress : Progress) (new : ShardState) → (without ≡ Done) ⊎ (without ≡ Waits) → Takes at p without old progress new → Leaves p progress old new
+takes_leaves : (at : Option Pick) (p : Pid) (without : Progress) (old : ShardState) (progress : Progress) (new : ShardState) → EndsNobody p without → Takes at p without old progress new → Leaves p progress old new
 takes_leaves None p without old progress new h (is, same) = passed p progress old new is same
 takes_leaves (Some k) p without old progress new h (answer, calls, is) = leaves_as p progress (taken_of without answer) old new is (taken_leaves p k without old new answer h calls)
 
@@ -201,36 +202,42 @@ demonitors_leaves (Some m) p flush old progress new h = call_leaves p (demonitor
 no_room_leaves : (p : Pid) (old : ShardState) (references : List (Option Ref)) (progress : Progress) (new : ShardState) (after : List (Option Ref)) → HasNoRoom old references progress new after → Leaves p progress old new
 no_room_leaves p old references progress new after (is, same, kept) = leaves_as p progress Stays old new is (inl (same, refl))
 
-monitors_leaves : (p : Pid) (at : Option Pid) (old : ShardState) (references : List (Option Ref)) (progress : Progress) (new : ShardState) (after : List (Option Ref)) → MonitorsAt p at old references progress new after → Leaves p progress old new
-monitors_leaves p None old references progress new after (inl h) = no_room_leaves p old references progress new after h
-monitors_leaves p None old references progress new after (inr ((is, same), noted)) = passed p progress old new is same
-monitors_leaves p (Some t) old references progress new after (inl h) = no_room_leaves p old references progress new after h
-monitors_leaves p (Some t) old references progress new after (inr (answer, reached, is, noted)) =
+monitors_leaves : (p : Pid) (at : Option Pid) (tag : ℕ) (old : ShardState) (references : List (Option Ref)) (progress : Progress) (new : ShardState) (after : List (Option Ref)) → MonitorsAt p at tag old references progress new after → Leaves p progress old new
+monitors_leaves p None tag old references progress new after (inl h) = no_room_leaves p old references progress new after h
+monitors_leaves p None tag old references progress new after (inr ((is, same), noted)) = passed p progress old new is same
+monitors_leaves p (Some t) tag old references progress new after (inl h) = no_room_leaves p old references progress new after h
+monitors_leaves p (Some t) tag old references progress new after (inr (answer, reached, is, noted)) =
     leaves_as p progress (came_of answer) old new is (reached_leaves (has_monitor_to_make old p t) p t _ old answer new (first_of (lives old p) _) (monitor_leaves p t old new answer) reached)
 
-asks_leaves : (p : Pid) (at : Option Pid) (old : ShardState) (references : List (Option Ref)) (progress : Progress) (new : ShardState) (after : List (Option Ref)) → AsksAt p at old references progress new after → Leaves p progress old new
-asks_leaves p None old references progress new after (inl h) = no_room_leaves p old references progress new after h
-asks_leaves p None old references progress new after (inr ((is, same), noted)) = passed p progress old new is same
-asks_leaves p (Some t) old references progress new after (inl h) = no_room_leaves p old references progress new after h
-asks_leaves p (Some t) old references progress new after (inr (answer, calls, is, noted)) =
+asks_leaves : (p : Pid) (at : Option Pid) (tag : ℕ) (old : ShardState) (references : List (Option Ref)) (progress : Progress) (new : ShardState) (after : List (Option Ref)) → AsksAt p at tag old references progress new after → Leaves p progress old new
+asks_leaves p None tag old references progress new after (inl h) = no_room_leaves p old references progress new after h
+asks_leaves p None tag old references progress new after (inr ((is, same), noted)) = passed p progress old new is same
+asks_leaves p (Some t) tag old references progress new after (inl h) = no_room_leaves p old references progress new after h
+asks_leaves p (Some t) tag old references progress new after (inr (answer, calls, is, noted)) =
     leaves_as p progress (came_of answer) old new is (leaves p (Some (Said p t (AliveAsk (new_ref old)))) (new_ref old) old new answer (refl, refl, λ d. refl) calls)
 
 performs_leaves : (pids : List (Option Pid)) (p : Pid) (o : Operation) (old : ShardState) (references : List (Option Ref)) (progress : Progress) (new : ShardState) (after : List (Option Ref)) → Performs pids p o old references progress new after → Leaves p progress old new
 performs_leaves pids p (Send to kind num who) old references progress new after h =
     reach_leaves (target_of old pids to) p (λ t. lives old p) (λ t. Some (Said p t (Message (record { kind = kind; num = num; who = pid_if pids who })))) old progress new (λ t h. h) (λ t. (refl, refl, λ d. refl)) h.0
-performs_leaves pids p (Receive pattern) old references progress new after h = takes_leaves (pick_meant pids references pattern) p Waits old progress new (inr refl) h.0
-performs_leaves pids p (Check pattern) old references progress new after h = takes_leaves (pick_meant pids references pattern) p Done old progress new (inl refl) h.0
+performs_leaves pids p (Receive pattern) old references progress new after h = takes_leaves (pick_meant pids references pattern) p Waits old progress new (λ x y one. one) h.0
+performs_leaves pids p (Check pattern) old references progress new after h = takes_leaves (pick_meant pids references pattern) p Done old progress new (λ x y one. one) h.0
+performs_leaves pids p (ReceiveAfter pattern tries) old references progress new after h = takes_leaves (pick_meant pids references pattern) p Stays old progress new (λ x y one. one) h.0
 performs_leaves pids p (Link to) old references progress new after h =
     reach_leaves (target_of old pids to) p (has_link_to_make old p) (link_event old p) old progress new (λ t. first_of (lives old p) _) (link_own old p) h.0
 performs_leaves pids p (Unlink to) old references progress new after h = at_leaves (target_of old pids to) p (unlink_event old p) old progress new (unlink_own old p) h.0
-performs_leaves pids p (Monitor to tag) old references progress new after h = monitors_leaves p (target_of old pids to) old references progress new after h
+performs_leaves pids p (Monitor to tag) old references progress new after h = monitors_leaves p (target_of old pids to) tag old references progress new after h
 performs_leaves pids p (Demonitor tag flush) old references progress new after h = demonitors_leaves (reference_of references tag) p flush old progress new h.0
-performs_leaves pids p (Alive to tag) old references progress new after h = asks_leaves p (target_of old pids to) old references progress new after h
+performs_leaves pids p (Alive to tag) old references progress new after h = asks_leaves p (target_of old pids to) tag old references progress new after h
 performs_leaves pids p (Trap on) old references progress new after h = call_leaves p (Some (Flag p on)) (state_in old p).traps old progress new (refl, refl, λ d. refl) h.0
 performs_leaves pids p (Exit reason) old references progress new after h = call_leaves p (Some (Left p reason)) (tt {0}) old progress new (refl, refl, λ d. refl) h.0
 performs_leaves pids p (SendExit to reason) old references progress new after h = at_leaves (target_of old pids to) p (λ t. Some (Said p t (ExitSignal reason))) old progress new (λ t. (refl, refl, λ d. refl)) h.0
 performs_leaves pids p (Spawn process linked) old references progress new after h = absurd h
 performs_leaves pids p Pass old references progress new after h = passed p progress old new h.0.0 h.0.1
+performs_leaves pids p (If pattern) old references progress new after h = passed p progress old new h.0.0 h.0.1
+performs_leaves pids p Else old references progress new after h = passed p progress old new h.0.0 h.0.1
+performs_leaves pids p End old references progress new after h = passed p progress old new h.0.0 h.0.1
+performs_leaves pids p (Repeat times) old references progress new after h = passed p progress old new h.0.0 h.0.1
+performs_leaves pids p Again old references progress new after h = passed p progress old new h.0.0 h.0.1
 
 -- how it goes on behind it
 
@@ -238,24 +245,26 @@ advanced_case : (begins : Bool) (a : Acting) (done : ℕ) → (cond begins (reco
 advanced_case true a done = refl
 advanced_case false a done = refl
 
-advanced_pid : (a : Acting) → (advanced a).pid ≡ a.pid
-advanced_pid a = advanced_case a.begins a _
+advanced_pid : (plans : List Plan) (test : Pattern → Bool) (a : Acting) → (advanced plans test a).pid ≡ a.pid
+advanced_pid plans test a = advanced_case a.begins a _
 
 ended_pid : (answer : Result (Unit {0}) Fault) (a : Acting) → (ended_or_put_off answer a).pid ≡ a.pid
 ended_pid (Ok x) a = refl
 ended_pid (Err f) a = refl
 
-behind_pid : (progress : Progress) (a : Acting) (old : ShardState) (b : Acting) (new : ShardState) → GoesBehind progress a old b new → b.pid ≡ a.pid
-behind_pid Done a old b new h = ap (λ (x : Acting). x.pid) h.0 ∙ advanced_pid a
-behind_pid Waits a old b new h = ap (λ (x : Acting). x.pid) h.0
-behind_pid Stays a old b new h = ap (λ (x : Acting). x.pid) h.0
-behind_pid (Ends reason) a old b new h = ap (λ (x : Acting). x.pid) h.1 ∙ ended_pid h.0 a
+behind_pid : (plans : List Plan) (pids : List (Option Pid)) (progress : Progress) (a : Acting) (old : ShardState) (b : Acting) (new : ShardState) → GoesBehind plans pids progress a old b new → b.pid ≡ a.pid
+behind_pid plans pids Done a old b new h = ap (λ (x : Acting). x.pid) h.0 ∙ advanced_pid plans fits_none a
+behind_pid plans pids (TookItem item) a old b new h = ap (λ (x : Acting). x.pid) h.0 ∙ advanced_pid plans (fits_taken pids a.references item) a
+behind_pid plans pids Waits a old b new h = ap (λ (x : Acting). x.pid) h.0
+behind_pid plans pids Stays a old b new h = ap (λ (x : Acting). x.pid) h.0
+behind_pid plans pids (Ends reason) a old b new h = ap (λ (x : Acting). x.pid) h.1 ∙ ended_pid h.0 a
 
-then_behind : (progress : Progress) (a : Acting) (old between : ShardState) (b : Acting) (new : ShardState) → Leaves a.pid progress old between → GoesBehind progress a between b new → DoesOne a.pid old new []
-then_behind Done a old between b new one h = subst (λ (s : ShardState). DoesOne a.pid old s []) (sym h.1) one
-then_behind Waits a old between b new one h = subst (λ (s : ShardState). DoesOne a.pid old s []) (sym h.1) one
-then_behind Stays a old between b new one h = subst (λ (s : ShardState). DoesOne a.pid old s []) (sym h.1) one
-then_behind (Ends reason) a old between b new same (answer, is, calls) =
+then_behind : (plans : List Plan) (pids : List (Option Pid)) (progress : Progress) (a : Acting) (old between : ShardState) (b : Acting) (new : ShardState) → Leaves a.pid progress old between → GoesBehind plans pids progress a between b new → DoesOne a.pid old new []
+then_behind plans pids Done a old between b new one h = subst (λ (s : ShardState). DoesOne a.pid old s []) (sym h.1) one
+then_behind plans pids (TookItem item) a old between b new one h = subst (λ (s : ShardState). DoesOne a.pid old s []) (sym h.1) one
+then_behind plans pids Waits a old between b new one h = subst (λ (s : ShardState). DoesOne a.pid old s []) (sym h.1) one
+then_behind plans pids Stays a old between b new one h = subst (λ (s : ShardState). DoesOne a.pid old s []) (sym h.1) one
+then_behind plans pids (Ends reason) a old between b new same (answer, is, calls) =
     subst (λ (s : ShardState). DoesOne a.pid s new []) same (does_one a.pid (Some (Left a.pid reason)) (tt {0}) between new answer (refl, refl, λ d. refl) calls)
 
 -- a birth -------------------------------------------------------------------------------------
@@ -270,14 +279,14 @@ bears_one p linked old new (Err Myself) c = absurd c
 bears_one p linked old new (Err NoProc) c = absurd c
 
 -- a birth, and how the process goes on behind it
-spawned : (a : Acting) (linked : Bool) (r : Result Pid Fault) (old between : ShardState) (b : Acting) (new : ShardState) → BearsChild a.pid linked old r between → GoesBehind (came_of r) a between b new → DoesOne a.pid old new (born_by r)
-spawned a linked (Ok child) old between b new c h = subst (λ (s : ShardState). DoesOne a.pid old s (child ∷ [])) (sym h.1) (bears_one a.pid linked old between (Ok child) c)
-spawned a linked (Err Gone) old between b new c h = inl (h.1 ∙ c.1, refl)
-spawned a linked (Err Worn) old between b new c h = inl (h.1 ∙ c.2, refl)
-spawned a linked (Err Memory) old between b new c h = inl (h.1 ∙ c.3, refl)
-spawned a linked (Err Full) old between b new c h = then_behind (Ends (Other 1)) a old between b new c.3 h
-spawned a linked (Err Myself) old between b new c h = absurd c
-spawned a linked (Err NoProc) old between b new c h = absurd c
+spawned : (plans : List Plan) (pids : List (Option Pid)) (a : Acting) (linked : Bool) (r : Result Pid Fault) (old between : ShardState) (b : Acting) (new : ShardState) → BearsChild a.pid linked old r between → GoesBehind plans pids (came_of r) a between b new → DoesOne a.pid old new (born_by r)
+spawned plans pids a linked (Ok child) old between b new c h = subst (λ (s : ShardState). DoesOne a.pid old s (child ∷ [])) (sym h.1) (bears_one a.pid linked old between (Ok child) c)
+spawned plans pids a linked (Err Gone) old between b new c h = inl (h.1 ∙ c.1, refl)
+spawned plans pids a linked (Err Worn) old between b new c h = inl (h.1 ∙ c.2, refl)
+spawned plans pids a linked (Err Memory) old between b new c h = inl (h.1 ∙ c.3, refl)
+spawned plans pids a linked (Err Full) old between b new c h = then_behind plans pids (Ends (Other 1)) a old between b new c.3 h
+spawned plans pids a linked (Err Myself) old between b new c h = absurd c
+spawned plans pids a linked (Err NoProc) old between b new c h = absurd c
 
 -- the processes of a table --------------------------------------------------------------------
 
@@ -306,23 +315,27 @@ child_at : (process : ℕ) (r : Result Pid Fault) (t : PidTable) (i : ℕ) (d : 
 child_at process (Ok p) t i d lt = get_or_append_left t.actors (newborn_actor t.plans process p ∷ []) d i lt
 child_at process (Err fault) t i d lt = refl
 
-plays_once : (o : Operation) (i : ℕ) (a b : Acting) (t u : PidTable) (old new : ShardState) → i < length t.actors → get_or t.actors i a ≡ a → Plays t.pids o a old b new → u ≡ set_acting i b t → ActsOnce a.pid t old u new
+plays_once : (o : Operation) (i : ℕ) (a b : Acting) (t u : PidTable) (old new : ShardState) → i < length t.actors → get_or t.actors i a ≡ a → Plays t.plans t.pids o a old b new → u ≡ set_acting i b t → ActsOnce a.pid t old u new
 plays_once o i a b t u old new lt at plays is =
     let noted : Acting = record a { references = plays.references } in
     let left : Leaves a.pid plays.progress old plays.between = performs_leaves t.pids a.pid o old a.references plays.progress plays.between plays.references plays.performs in
-    let same : b.pid ≡ a.pid = behind_pid plays.progress noted plays.between b new plays.behind in
-    ([], then_behind plays.progress noted old plays.between b new left plays.behind, ap pids_in is ∙ set_pids i a b t lt at same ∙ sym (append-nil (pids_in t)))
+    let same : b.pid ≡ a.pid = behind_pid t.plans t.pids plays.progress noted plays.between b new plays.behind in
+    ([], then_behind t.plans t.pids plays.progress noted old plays.between b new left plays.behind, ap pids_in is ∙ set_pids i a b t lt at same ∙ sym (append-nil (pids_in t)))
 
 spawns_once : (process : ℕ) (linked : Bool) (i : ℕ) (a : Acting) (t u : PidTable) (old new : ShardState) → i < length t.actors → get_or t.actors i a ≡ a → Spawns process linked i a t old u new → ActsOnce a.pid t old u new
 spawns_once process linked i a t u old new lt at h =
     let more : PidTable = with_born process h.answer t in
-    let same : h.b.pid ≡ a.pid = behind_pid (came_of h.answer) a h.between h.b new h.behind in
+    let same : h.b.pid ≡ a.pid = behind_pid t.plans t.pids (came_of h.answer) a h.between h.b new h.behind in
     let kept : pids_in (set_acting i h.b more) ≡ pids_in more = set_pids i a h.b more (child_within process h.answer t i lt) (child_at process h.answer t i a lt ∙ at) same in
-    (born_by h.answer, spawned a linked h.answer old h.between h.b new h.bears h.behind, ap pids_in h.table ∙ kept ∙ child_pids process h.answer t)
+    (born_by h.answer, spawned t.plans t.pids a linked h.answer old h.between h.b new h.bears h.behind, ap pids_in h.table ∙ kept ∙ child_pids process h.answer t)
+
+new_once : (at : Option Pid) (process : ℕ) (linked : Bool) (i : ℕ) (a : Acting) (t u : PidTable) (old new : ShardState) → i < length t.actors → get_or t.actors i a ≡ a → SpawnsIfNew at process linked i a t old u new → ActsOnce a.pid t old u new
+new_once (Some p) process linked i a t u old new lt is (same, still) = ([], inl (still, refl), ap pids_in same ∙ set_pids i a (advanced t.plans fits_none a) t lt is (advanced_pid t.plans fits_none a) ∙ sym (append-nil (pids_in t)))
+new_once None process linked i a t u old new lt is (inl (same, still)) = ([], inl (still, refl), ap pids_in same ∙ set_pids i a (put_off a) t lt is refl ∙ sym (append-nil (pids_in t)))
+new_once None process linked i a t u old new lt is (inr h) = spawns_once process linked i a t u old new lt is h
 
 tries_once : (process : ℕ) (linked : Bool) (i : ℕ) (a : Acting) (t u : PidTable) (old new : ShardState) → i < length t.actors → get_or t.actors i a ≡ a → TriesSpawn process linked i a t old u new → ActsOnce a.pid t old u new
-tries_once process linked i a t u old new lt at (inl (same, still)) = ([], inl (still, refl), ap pids_in same ∙ set_pids i a (put_off a) t lt at refl ∙ sym (append-nil (pids_in t)))
-tries_once process linked i a t u old new lt at (inr h) = spawns_once process linked i a t u old new lt at h
+tries_once process linked i a t u old new lt at h = new_once (pid_numbered t.pids process) process linked i a t u old new lt at h
 
 operation_once : (o : Operation) (i : ℕ) (a : Acting) (t u : PidTable) (old new : ShardState) → i < length t.actors → get_or t.actors i a ≡ a → DoesOperation o i a t old u new → ActsOnce a.pid t old u new
 operation_once (Spawn process linked) i a t u old new lt at h = tries_once process linked i a t u old new lt at h
@@ -338,6 +351,12 @@ operation_once (Trap on) i a t u old new lt at (b, plays, is) = plays_once (Trap
 operation_once (Exit reason) i a t u old new lt at (b, plays, is) = plays_once (Exit reason) i a b t u old new lt at plays is
 operation_once (SendExit to reason) i a t u old new lt at (b, plays, is) = plays_once (SendExit to reason) i a b t u old new lt at plays is
 operation_once Pass i a t u old new lt at (b, plays, is) = plays_once Pass i a b t u old new lt at plays is
+operation_once (ReceiveAfter pattern tries) i a t u old new lt at (b, plays, is) = plays_once (ReceiveAfter pattern tries) i a b t u old new lt at plays is
+operation_once (If pattern) i a t u old new lt at (b, plays, is) = plays_once (If pattern) i a b t u old new lt at plays is
+operation_once Else i a t u old new lt at (b, plays, is) = plays_once Else i a b t u old new lt at plays is
+operation_once End i a t u old new lt at (b, plays, is) = plays_once End i a b t u old new lt at plays is
+operation_once (Repeat times) i a t u old new lt at (b, plays, is) = plays_once (Repeat times) i a b t u old new lt at plays is
+operation_once Again i a t u old new lt at (b, plays, is) = plays_once Again i a b t u old new lt at plays is
 
 -- one process after the other -------------------------------------------------------------------
 

@@ -219,7 +219,7 @@ pub skipped : (plans : List Plan) (pids : List (Option Pid)) (actors : List Acto
 skipped plans pids actors i a d lt is f =
     let t = table_of plans pids actors in
     let at : get_or (map acting actors) i (acting a) ≡ acting a = acting_at actors i a lt is in
-    let plays : Plays pids (Receive f.pattern) (acting a) d (acting a) d = record {
+    let plays : Plays plans pids (Receive f.pattern) (acting a) d (acting a) d = record {
       progress = Waits;
       references = (acting a).references;
       between = d;
@@ -324,15 +324,12 @@ buried p q (x ∷ xs) h =
 
 -- a child is listed, or no one ---------------------------------------------------------------------------
 
-pub knows_listed : (plans : List Plan) (pids : List (Option Pid)) (actors others : List Actor) (came : List ℕ) (read : ℕ) (d : ShardState) (i : ℕ) (p : Pid) (a : Actor) → KnowsOf plans pids actors came read d → IsUnmarked a
-    → ((get_or pids i None ≡ None) × (others ≡ actors)) ⊎ All IsUnmarked others → KnowsOf plans (set pids i (Some p)) (others ++ a ∷ []) came read d
-knows_listed plans pids actors others came read d i p a k bare (inl (free, is)) =
+pub knows_listed : (plans : List Plan) (pids : List (Option Pid)) (actors : List Actor) (came : List ℕ) (read : ℕ) (d : ShardState) (i : ℕ) (p : Pid) (a : Actor) → KnowsOf plans pids actors came read d → IsUnmarked a → get_or pids i None ≡ None
+    → KnowsOf plans (set pids i (Some p)) (actors ++ a ∷ []) came read d
+knows_listed plans pids actors came read d i p a k bare free =
     let kept = All-weaker (IsTrueOf plans pids d) (IsTrueOf plans (set pids i (Some p)) d) (true_with_pid plans pids i p d free) actors k.waits in
-    with_waits plans pids actors (others ++ a ∷ []) (set pids i (Some p)) came read d k
-    (All-push (IsTrueOf plans (set pids i (Some p)) d) others a (subst (All (IsTrueOf plans (set pids i (Some p)) d)) (sym is) kept) (unmarked_true plans (set pids i (Some p)) d a bare))
-knows_listed plans pids actors others came read d i p a k bare (inr none) =
-    with_waits plans pids actors (others ++ a ∷ []) (set pids i (Some p)) came read d k
-    (all_unmarked plans (set pids i (Some p)) d (others ++ a ∷ []) (All-push IsUnmarked others a none bare))
+    with_waits plans pids actors (actors ++ a ∷ []) (set pids i (Some p)) came read d k
+    (All-push (IsTrueOf plans (set pids i (Some p)) d) actors a kept (unmarked_true plans (set pids i (Some p)) d a bare))
 
 pub knows_by : (plans plans2 : List Plan) (pids pids2 : List (Option Pid)) (actors actors2 : List Actor) (came came2 : List ℕ) (read read2 : ℕ) (d : ShardState) → plans2 ≡ plans → pids2 ≡ pids → actors2 ≡ actors → came2 ≡ came → read2 ≡ read
     → KnowsOf plans pids actors came read d → KnowsOf plans2 pids2 actors2 came2 read2 d

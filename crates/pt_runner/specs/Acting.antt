@@ -1,6 +1,6 @@
 -- What an operation of a process does, and what a step does: the operations of the processes, one after the other.
 use Rattle.std.specs.Prelude.{◌≡◌, ◌⊎◌, ℕ, ℤ, zero, suc, ◌+◌, ◌-◌, ◌^◌, ◌<◌, Bool, true, false, cond, is_some, List, []}
-use Rattle.std.specs.Prelude.{◌∷◌, ◌++◌, length, map, min, slice_get, slice_index_or, slice_set, Option, Some, None}
+use Rattle.std.specs.Prelude.{◌∷◌, ◌++◌, drop, length, map, min, nat_lt, replicate, slice_get, slice_index_or, slice_set, Option, Some, None}
 use Rattle.std.specs.Prelude.{Result, Ok, Err}
 use Rattle.std.specs.Bool.{then_some}
 use Rattle.std.specs.List.{filter, find, position}
@@ -11,7 +11,7 @@ use Rattle.pt_signal.specs.declared.item.Pick.{Pick}
 use Rattle.pt_signal.specs.declared.pid.Pid.{Pid}
 use Rattle.pt_signal.specs.declared.reason.Reason.TheVariants.{Normal, Other}
 use Rattle.pt_signal.specs.declared.signal.Signal.{Signal}
-use Rattle.pt_signal.specs.Values.{same_pid}
+use Rattle.pt_signal.specs.Values.{fits, same_pid}
 use Rattle.pt_events.specs.declared.event.Event.{Event}
 use Rattle.pt_events.specs.declared.event.Event.TheVariants.{Said, Flag, Left}
 use Rattle.pt_shard.specs.declared.fault.Fault.{Fault}
@@ -26,11 +26,13 @@ use Rattle.pt_script.specs.Plans.{Plan}
 use Rattle.pt_script.specs.declared.values.Operation.{Operation}
 use Rattle.pt_script.specs.declared.values.Operation.TheVariants.{Send, Receive, Check, Link, Unlink, Monitor}
 use Rattle.pt_script.specs.declared.values.Operation.TheVariants.{Demonitor, Alive, Trap, Exit, Signal as SendExit}
-use Rattle.pt_script.specs.declared.values.Operation.TheVariants.{Spawn, Pass}
+use Rattle.pt_script.specs.declared.values.Operation.TheVariants.{Spawn, Pass, ReceiveAfter, If, Else, End, Repeat, Again}
 use Rattle.pt_script.specs.declared.values.Pattern.{Pattern}
 use Rattle.pt_script.specs.declared.values.Pattern.TheVariants.{Any, Kind, From, ExitOf, DownOf, AliveOf}
 use Rattle.pt_runner.specs.declared.calls.Progress.{Progress}
-use Rattle.pt_runner.specs.declared.calls.Progress.TheVariants.{Done, Waits, Stays, Ends}
+use Rattle.pt_runner.specs.declared.calls.Progress.TheVariants.{Done, Took, Waits, Stays, Ends}
+use Rattle.pt_runner.specs.declared.reading.Reading.{Reading}
+use Rattle.pt_runner.specs.declared.reading.Reading.TheVariants.{Here, Over}
 use Rattle.pt_runner.specs.declared.runner.Actor.{Actor}
 use Rattle.pt_runner.specs.declared.runner.Place.{Place}
 use Rattle.pt_runner.specs.declared.runner.Runner.{Runner}
@@ -102,15 +104,16 @@ newborn_actor plans process p = record {
   references = [];
 }
 
+-- a receive that was tried as often as it says waits no longer
+abbrev pub in_time : ℕ → Operation → Operation
+in_time tried (ReceiveAfter pattern tries) = cond (nat_lt tried tries) (ReceiveAfter pattern tries) (Check pattern)
+in_time tried o = o
+
 -- the next operation: behind the last one of the list the process exits
 abbrev pub next_of : List Plan → Acting → Operation
-next_of plans a = cond a.begins (Trap true) (slice_index_or (plan_at plans a.process).operations a.done (Exit Normal))
-
--- its next operation is behind it; the count stays at the greatest number, past every list
-abbrev pub advanced : Acting → Acting
-advanced a =
-    cond a.begins (record a { begins = false; refused = 0 })
-    (record a { done = min (a.done + 1) (2 ^ 64 - 1); refused = 0 })
+next_of plans a =
+    cond a.begins (Trap true)
+    (in_time a.refused (slice_index_or (plan_at plans a.process).operations a.done (Exit Normal)))
 
 -- its next operation was refused once more, and is tried again; this count too stays at the greatest number
 abbrev pub put_off : Acting → Acting
@@ -145,6 +148,64 @@ pick_meant pids references (From process) = option_map Pick.From (pid_numbered p
 pick_meant pids references (ExitOf process) = option_map Pick.ExitOf (pid_numbered pids process)
 pick_meant pids references (DownOf tag) = option_map Pick.DownOf (reference_of references tag)
 pick_meant pids references (AliveOf tag) = option_map Pick.AliveOf (reference_of references tag)
+
+-- branches ----------------------------------------------------------------------------------
+
+abbrev pub fits_pick : Option Pick → Item → Bool
+fits_pick None item = false
+fits_pick (Some k) item = fits k item
+
+-- an `if` does what follows it: the item that was taken just before fits
+abbrev pub fits_taken : List (Option Pid) → List (Option Ref) → Item → Pattern → Bool
+fits_taken pids references item pattern = fits_pick (pick_meant pids references pattern) item
+
+-- no item was taken
+abbrev pub fits_none : Pattern → Bool
+fits_none pattern = false
+
+-- the same of what was taken, if anything was
+abbrev pub fits_if_taken : List (Option Pid) → List (Option Ref) → Option Item → Pattern → Bool
+fits_if_taken pids references None = fits_none
+fits_if_taken pids references (Some item) = fits_taken pids references item
+
+-- Behind an operation that would be done next, if it only begins or ends a block; none if it is to be done.
+abbrev pub past_here : (Pattern → Bool) → Operation → Option Reading
+past_here test (If pattern) = Some (cond (test pattern) Here (Over 0 true))
+past_here test Else = Some (Over 0 false)
+past_here test End = Some Here
+past_here test _ = None
+
+-- Behind an operation of a branch that is not taken, inside so many others. The branch may stop at an `else`.
+abbrev pub past_over : ℕ → Bool → Operation → Reading
+past_over depth stops (If pattern) = Over (min (depth + 1) (2 ^ 64 - 1)) stops
+past_over zero true Else = Here
+past_over zero stops End = Here
+past_over (suc depth) stops End = Over depth stops
+past_over depth stops _ = Over depth stops
+
+-- behind one more operation, if it is passed over
+abbrev pub past_mark : (Pattern → Bool) → Reading → Operation → Option Reading
+past_mark test Here o = past_here test o
+past_mark test (Over depth stops) o = Some (past_over depth stops o)
+
+-- how many operations come before the next one that is done
+abbrev pub passed_from : (Pattern → Bool) → Reading → List Operation → ℕ
+passed_from test reading [] = 0
+passed_from test reading (o ∷ os) = elim (past_mark test reading o) [ None ↦ 0 | Some further ↦ 1 + passed_from test further os ]
+
+-- the place of the next operation that is done, from this place of a list on
+abbrev pub next_place : (Pattern → Bool) → List Operation → ℕ → ℕ
+next_place test os place = place + passed_from test Here (drop place os)
+
+-- The next operation is behind it, and it goes on at the first one that is to be done, where the test says which branches are
+-- taken. The count stays at the greatest number, past every list.
+abbrev pub advanced : List Plan → (Pattern → Bool) → Acting → Acting
+advanced plans test a =
+    cond a.begins (record a { begins = false; refused = 0 })
+    (record a {
+      done = next_place test (plan_at plans a.process).operations (min (a.done + 1) (2 ^ 64 - 1));
+      refused = 0;
+    })
 
 -- what an operation does ------------------------------------------------------------------
 
@@ -187,6 +248,7 @@ Sends pids p to kind num who old progress new =
 -- what comes of a receive, where `without` does so when no item fits
 abbrev pub taken_of : Progress → Result (Option Item) Fault → Progress
 taken_of without (Ok None) = without
+taken_of without (Ok (Some item)) = Took item
 taken_of without answer = came_of answer
 
 abbrev pub Takes : Option Pick → Pid → Progress → ShardState → Progress → ShardState → Type 0
@@ -200,40 +262,45 @@ Demonitors None p flush old progress new = IsPassed old progress new
 Demonitors (Some m) p flush old progress new =
     IsCall p (demonitor_event old p m flush) (is_some (demonitor_event old p m flush)) old progress new
 
--- what the tag of an operation stands for by the answer: a reference, or none where it is passed over
-abbrev pub ref_got : Result Ref Fault → List (Option Ref)
-ref_got (Ok reference) = Some reference ∷ []
-ref_got (Err NoProc) = None ∷ []
-ref_got (Err _) = []
+-- The references up to this tag. Those of operations that were passed over are none.
+abbrev pub padded_to : ℕ → List (Option Ref) → List (Option Ref)
+padded_to tag references = references ++ replicate (tag - length references) None
+
+-- and what the tag of an operation stands for by the answer: a reference, or none where it is passed over
+abbrev pub with_answer : ℕ → List (Option Ref) → Result Ref Fault → List (Option Ref)
+with_answer tag references (Ok reference) = padded_to tag references ++ Some reference ∷ []
+with_answer tag references (Err NoProc) = padded_to tag references ++ None ∷ []
+with_answer tag references (Err _) = references
 
 abbrev pub HasNoRoom : ShardState → List (Option Ref) → Progress → ShardState → List (Option Ref) → Type 0
 HasNoRoom old references progress new after = (progress ≡ Stays) × (new ≡ old) × (after ≡ references)
 
 -- the tag of what was passed over has no reference
-abbrev pub HasNoTarget : ShardState → List (Option Ref) → Progress → ShardState → List (Option Ref) → Type 0
-HasNoTarget old references progress new after = IsPassed old progress new × (after ≡ references ++ None ∷ [])
+abbrev pub HasNoTarget : ℕ → ShardState → List (Option Ref) → Progress → ShardState → List (Option Ref) → Type 0
+HasNoTarget tag old references progress new after =
+    IsPassed old progress new × (after ≡ with_answer tag references (Err NoProc))
 
 -- a monitor; without memory for its tag it is tried again
-abbrev pub MonitorsAt : Pid → Option Pid → ShardState → List (Option Ref) → Progress → ShardState → List (Option Ref)
-    → Type 0
-MonitorsAt p None old references progress new after =
-    HasNoRoom old references progress new after ⊎ HasNoTarget old references progress new after
-MonitorsAt p (Some t) old references progress new after =
+abbrev pub MonitorsAt : Pid → Option Pid → ℕ → ShardState → List (Option Ref) → Progress → ShardState
+    → List (Option Ref) → Type 0
+MonitorsAt p None tag old references progress new after =
+    HasNoRoom old references progress new after ⊎ HasNoTarget tag old references progress new after
+MonitorsAt p (Some t) tag old references progress new after =
     HasNoRoom old references progress new after
     ⊎ ((answer : Result Ref Fault)
     × IsReached (has_monitor_to_make old p t) p t (Monitors p t old answer new) old answer new
-    × (progress ≡ came_of answer) × (after ≡ references ++ ref_got answer))
+    × (progress ≡ came_of answer) × (after ≡ with_answer tag references answer))
 
 -- an ask, likewise
-abbrev pub AsksAt : Pid → Option Pid → ShardState → List (Option Ref) → Progress → ShardState → List (Option Ref)
+abbrev pub AsksAt : Pid → Option Pid → ℕ → ShardState → List (Option Ref) → Progress → ShardState → List (Option Ref)
     → Type 0
-AsksAt p None old references progress new after =
-    HasNoRoom old references progress new after ⊎ HasNoTarget old references progress new after
-AsksAt p (Some t) old references progress new after =
+AsksAt p None tag old references progress new after =
+    HasNoRoom old references progress new after ⊎ HasNoTarget tag old references progress new after
+AsksAt p (Some t) tag old references progress new after =
     HasNoRoom old references progress new after
     ⊎ ((answer : Result Ref Fault)
     × Calls p (Some (Said p t (Signal.AliveAsk (new_ref old)))) (new_ref old) old answer new
-    × (progress ≡ came_of answer) × (after ≡ references ++ ref_got answer))
+    × (progress ≡ came_of answer) × (after ≡ with_answer tag references answer))
 
 -- An operation of p that bears nobody: what it does to the desk, what comes of it, and the references of p behind it.
 abbrev pub Performs : List (Option Pid) → Pid → Operation → ShardState → List (Option Ref) → Progress → ShardState
@@ -244,17 +311,19 @@ Performs pids p (Receive pattern) old references progress new after =
     Takes (pick_meant pids references pattern) p Waits old progress new × (after ≡ references)
 Performs pids p (Check pattern) old references progress new after =
     Takes (pick_meant pids references pattern) p Done old progress new × (after ≡ references)
+Performs pids p (ReceiveAfter pattern tries) old references progress new after =
+    Takes (pick_meant pids references pattern) p Stays old progress new × (after ≡ references)
 Performs pids p (Link to) old references progress new after =
     ReachesAt (target_of old pids to) p (has_link_to_make old p) (link_event old p) old progress new
     × (after ≡ references)
 Performs pids p (Unlink to) old references progress new after =
     CallsTarget (target_of old pids to) p (unlink_event old p) old progress new × (after ≡ references)
 Performs pids p (Monitor to tag) old references progress new after =
-    MonitorsAt p (target_of old pids to) old references progress new after
+    MonitorsAt p (target_of old pids to) tag old references progress new after
 Performs pids p (Demonitor tag flush) old references progress new after =
     Demonitors (reference_of references tag) p flush old progress new × (after ≡ references)
 Performs pids p (Alive to tag) old references progress new after =
-    AsksAt p (target_of old pids to) old references progress new after
+    AsksAt p (target_of old pids to) tag old references progress new after
 Performs pids p (Trap on) old references progress new after =
     IsCall p (Some (Flag p on)) (state_in old p).traps old progress new × (after ≡ references)
 Performs pids p (Exit reason) old references progress new after =
@@ -264,6 +333,11 @@ Performs pids p (SendExit to reason) old references progress new after =
     × (after ≡ references)
 Performs pids p (Spawn process linked) old references progress new after = ⊥
 Performs pids p Pass old references progress new after = IsPassed old progress new × (after ≡ references)
+Performs pids p (If pattern) old references progress new after = IsPassed old progress new × (after ≡ references)
+Performs pids p Else old references progress new after = IsPassed old progress new × (after ≡ references)
+Performs pids p End old references progress new after = IsPassed old progress new × (after ≡ references)
+Performs pids p (Repeat times) old references progress new after = IsPassed old progress new × (after ≡ references)
+Performs pids p Again old references progress new after = IsPassed old progress new × (after ≡ references)
 
 -- a process that was to end, by the answer to that
 abbrev pub ended_or_put_off : Result (Unit {0}) Fault → Acting → Acting
@@ -272,22 +346,24 @@ ended_or_put_off (Err _) a = put_off a
 
 -- How a process goes on behind its operation: the next one comes, or it is tried again, or the process ends by the
 -- refusal. An end that is refused in its turn leaves the operation to be tried again.
-abbrev pub GoesBehind : Progress → Acting → ShardState → Acting → ShardState → Type 0
-GoesBehind Done a old b new = (b ≡ advanced a) × (new ≡ old)
-GoesBehind Waits a old b new = (b ≡ a) × (new ≡ old)
-GoesBehind Stays a old b new = (b ≡ put_off a) × (new ≡ old)
-GoesBehind (Ends reason) a old b new =
+abbrev pub GoesBehind : List Plan → List (Option Pid) → Progress → Acting → ShardState → Acting → ShardState → Type 0
+GoesBehind plans pids Done a old b new = (b ≡ advanced plans fits_none a) × (new ≡ old)
+GoesBehind plans pids (Took item) a old b new =
+    (b ≡ advanced plans (fits_taken pids a.references item) a) × (new ≡ old)
+GoesBehind plans pids Waits a old b new = (b ≡ a) × (new ≡ old)
+GoesBehind plans pids Stays a old b new = (b ≡ put_off a) × (new ≡ old)
+GoesBehind plans pids (Ends reason) a old b new =
     (answer : Result (Unit {0}) Fault) × (b ≡ ended_or_put_off answer a)
     × Calls a.pid (Some (Left a.pid reason)) (tt {0}) old answer new
 
 -- A process does an operation that bears nobody.
-pub record Plays (pids : List (Option Pid)) (operation : Operation) (a : Acting) (old : ShardState) (b : Acting)
-    (new : ShardState) : Type 0 where
+pub record Plays (plans : List Plan) (pids : List (Option Pid)) (operation : Operation) (a : Acting) (old : ShardState)
+    (b : Acting) (new : ShardState) : Type 0 where
   pub progress : Progress
   pub references : List (Option Ref)
   pub between : ShardState
   pub performs : Performs pids a.pid operation old a.references progress between references
-  pub behind : GoesBehind progress (record a { references = references }) between b new
+  pub behind : GoesBehind plans pids progress (record a { references = references }) between b new
 
 -- what an operation does to the table ----------------------------------------------------------
 
@@ -309,22 +385,36 @@ pub record Spawns (process : ℕ) (linked : Bool) (i : ℕ) (a : Acting) (t : Pi
   pub between : ShardState
   pub b : Acting
   pub bears : BearsChild a.pid linked old answer between
-  pub behind : GoesBehind (came_of answer) a between b new
+  pub behind : GoesBehind t.plans t.pids (came_of answer) a between b new
   pub table : u ≡ set_acting i b (with_born process answer t)
 
--- without memory to list the child, nothing is done, and it is tried again
+-- one that was not born before; without memory to list the child, nothing is done, and it is tried again
+abbrev pub SpawnsNew : ℕ → Bool → ℕ → Acting → PidTable → ShardState → PidTable → ShardState → Type 0
+SpawnsNew process linked i a t old u new =
+    ((u ≡ set_acting i (put_off a) t) × (new ≡ old)) ⊎ Spawns process linked i a t old u new
+
+-- a process that was born already, with this pid, is not born again: the spawn is passed over
+abbrev pub SpawnsIfNew : Option Pid → ℕ → Bool → ℕ → Acting → PidTable → ShardState → PidTable → ShardState → Type 0
+SpawnsIfNew (Some p) process linked i a t old u new = (u ≡ set_acting i (advanced t.plans fits_none a) t) × (new ≡ old)
+SpawnsIfNew None process linked i a t old u new = SpawnsNew process linked i a t old u new
+
 abbrev pub TriesSpawn : ℕ → Bool → ℕ → Acting → PidTable → ShardState → PidTable → ShardState → Type 0
 TriesSpawn process linked i a t old u new =
-    ((u ≡ set_acting i (put_off a) t) × (new ≡ old)) ⊎ Spawns process linked i a t old u new
+    SpawnsIfNew (pid_numbered t.pids process) process linked i a t old u new
 
 abbrev pub RunnerSpawns : ℕ → Bool → ℕ → PidTable → ShardState → PidTable → ShardState → Type 0
 RunnerSpawns process linked i t old u new =
     (a : Acting) × (slice_index_or t.actors i a ≡ a) × TriesSpawn process linked i a t old u new
 
+abbrev pub RunnerSpawnsNew : ℕ → Bool → ℕ → PidTable → ShardState → PidTable → ShardState → Type 0
+RunnerSpawnsNew process linked i t old u new =
+    (a : Acting) × (slice_index_or t.actors i a ≡ a) × SpawnsNew process linked i a t old u new
+
 -- the process a, at place i, does the operation
 abbrev pub DoesOperation : Operation → ℕ → Acting → PidTable → ShardState → PidTable → ShardState → Type 0
 DoesOperation (Spawn process linked) i a t old u new = TriesSpawn process linked i a t old u new
-DoesOperation operation i a t old u new = (b : Acting) × Plays t.pids operation a old b new × (u ≡ set_acting i b t)
+DoesOperation operation i a t old u new =
+    (b : Acting) × Plays t.plans t.pids operation a old b new × (u ≡ set_acting i b t)
 
 -- the process at place i does its next operation
 pub record ActsAt (i : ℕ) (t : PidTable) (old : ShardState) (u : PidTable) (new : ShardState) : Type 0 where

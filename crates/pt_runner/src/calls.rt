@@ -2,7 +2,7 @@
 
 #![tactic(auto, using(pt_workers::proofs::GoingOn::stays))]
 
-ghost use Rattle.std.specs.Prelude.{◌≡◌, ◌≢◌, ℕ, Bool, ◌<◌, ◌++◌, true, Some, IfSome, vec_len, vec_capacity};
+ghost use Rattle.std.specs.Prelude.{◌≡◌, ◌≢◌, ℕ, Bool, ◌<◌, ◌+◌, ◌-◌, true, Some, IfSome, vec_len, vec_capacity};
 ghost use Rattle.pt_signal.specs.declared.signal.Signal.{Signal};
 ghost use Rattle.pt_events.specs.declared.event.Event.{Event};
 ghost use Rattle.pt_desk.specs.DeskState.{GoesOn, HasSameEnds};
@@ -15,7 +15,7 @@ ghost use Rattle.pt_runner.specs.declared.calls.Progress.{Progress};
 ghost use Rattle.pt_runner.specs.Acting as spec;
 ghost use Rattle.pt_runner.specs.Acting.{Performs, came_of};
 
-use pt_node::{Body, Desk, Fault, Pick, Pid, Reason, Ref};
+use pt_node::{Body, Desk, Fault, Item, Pick, Pid, Reason, Ref};
 use pt_script::{Operation, Pattern};
 
 /// What an operation did.
@@ -23,6 +23,8 @@ use pt_script::{Operation, Pattern};
 pub(crate) enum Progress {
     /// It is done, or skipped.
     Done,
+    /// It is done, and took this item.
+    Took(Item),
     /// No item matches: it is tried again once one may.
     Waits,
     /// It failed for want of memory or at the clock's limit, and is to be tried again.
@@ -46,8 +48,19 @@ pub(crate) fn progress_of<T: Drop>(answer: Result<T, Fault>) -> Progress
     }
 }
 
+/// What a receive did, by the answer to its call; without an item it did that.
+pub(crate) fn taken_of(without: Progress, answer: Result<Option<Item>, Fault>) -> Progress
+    ensures { result ≡ spec.taken_of without answer }
+{
+    match answer {
+        Ok(None) => without,
+        Ok(Some(item)) => Progress::Took(item),
+        Err(fault) => progress_of::<()>(Err(fault)),
+    }
+}
+
 /// The pid of a process of the script, by its number.
-fn pid_of(pids: &[Option<Pid>], process: u32) -> Option<Pid>
+pub(crate) fn pid_of(pids: &[Option<Pid>], process: u32) -> Option<Pid>
     ensures { result ≡ spec.pid_numbered pids.now process }
 {
     match pids.get(process as usize) {
@@ -120,16 +133,24 @@ pub(crate) fn call(
 {
     match operation {
         Operation::Send { to, kind, num, who } => send(desk, pids, p, to, kind, num, who),
-        Operation::Check(pattern) => check(desk, pids, references, p, pattern),
+        Operation::Check(pattern) => take(desk, pids, references, p, pattern, Progress::Done),
+        Operation::ReceiveAfter { pattern, tries: _ } => {
+            take(desk, pids, references, p, pattern, Progress::Stays)
+        }
         Operation::Link(to) => link(desk, pids, p, to),
         Operation::Unlink(to) => unlink(desk, pids, p, to),
-        Operation::Monitor { to, tag: _ } => monitor(desk, pids, references, p, to),
+        Operation::Monitor { to, tag } => monitor(desk, pids, references, p, to, tag),
         Operation::Demonitor { tag, flush } => demonitor(desk, references, p, tag, flush),
-        Operation::Alive { to, tag: _ } => ask_alive(desk, pids, references, p, to),
+        Operation::Alive { to, tag } => ask_alive(desk, pids, references, p, to, tag),
         Operation::Trap(on) => progress_of(desk.trap(p, on)),
         Operation::Exit(reason) => progress_of(desk.exit(p, reason)),
         Operation::Signal { to, reason } => exit_signal(desk, pids, p, to, reason),
-        Operation::Pass => Progress::Done,
+        Operation::Pass
+        | Operation::If(_)
+        | Operation::Else
+        | Operation::End
+        | Operation::Repeat(_)
+        | Operation::Again => Progress::Done,
         Operation::Receive(_) => unreachable!(),
         Operation::Spawn {
             process: _,
@@ -158,15 +179,16 @@ fn send(
     progress_of(desk.send(p, to, Body { kind, num, who }))
 }
 
-/// Takes a matching item, if there is one.
-fn check(
+/// Takes a matching item. If there is none, it did that.
+fn take(
     desk: &mut Desk,
     pids: &[Option<Pid>],
     references: &References,
     p: Pid,
     pattern: Pattern,
+    without: Progress,
 ) -> Progress
-    ensures does { spec.Takes (spec.pick_meant pids.now references.now.items pattern) p Progress.Done desk.old.shard result
+    ensures does { spec.Takes (spec.pick_meant pids.now references.now.items pattern) p without desk.old.shard result
         desk.new.shard }
     ensures ends { HasSameEnds desk.old desk.new }
     ensures goes_on { GoesOn desk.old desk.new }
@@ -174,7 +196,7 @@ fn check(
     let Some(pick) = pick_of(pids, references, pattern) else {
         return Progress::Done;
     };
-    progress_of(desk.receive(p, pick))
+    taken_of(without, desk.receive(p, pick))
 }
 
 fn link(desk: &mut Desk, pids: &[Option<Pid>], p: Pid, to: u32) -> Progress
@@ -213,16 +235,36 @@ fn exit_signal(desk: &mut Desk, pids: &[Option<Pid>], p: Pid, to: u32, reason: R
     }
 }
 
-/// Notes the next tag by the answer: a reference, or nothing if the operation is skipped.
-fn note(references: &mut References, answer: Result<Ref, Fault>)
-    requires { vec_len references.old < vec_capacity references.old }
-    ensures { references.new.items ≡ references.old.items ++ spec.ref_got answer }
+/// How many places there have to be more for the references up to this tag.
+fn places_for(references: &References, tag: u32) -> usize
+    ensures { result ≡ (tag - vec_len references.now) + 1 }
 {
-    match answer {
-        Ok(reference) => references.push_reserved(Some(reference)),
-        Err(Fault::NoProc) => references.push_reserved(None),
-        Err(_) => {}
+    (tag as usize).saturating_sub(references.len()) + 1
+}
+
+/// Notes that the tags before this one have no reference, if nothing was noted of them.
+fn pad(references: &mut References, tag: u32)
+    requires { vec_len references.old + (tag - vec_len references.old) < vec_capacity references.old }
+    ensures padded { references.new.items ≡ spec.padded_to tag references.old.items }
+    ensures room { vec_len references.new < vec_capacity references.new }
+{
+    while references.len() < tag as usize {
+        references.push_reserved(None);
     }
+}
+
+/// Notes the tag by the answer: a reference, or nothing if the operation is skipped.
+fn note(references: &mut References, tag: u32, answer: Result<Ref, Fault>)
+    requires { vec_len references.old + (tag - vec_len references.old) < vec_capacity references.old }
+    ensures { references.new.items ≡ spec.with_answer tag references.old.items answer }
+{
+    let noted = match answer {
+        Ok(reference) => Some(reference),
+        Err(Fault::NoProc) => None,
+        Err(_) => return,
+    };
+    pad(references, tag);
+    references.push_reserved(noted);
 }
 
 fn monitor(
@@ -231,22 +273,23 @@ fn monitor(
     references: &mut References,
     p: Pid,
     to: u32,
+    tag: u32,
 ) -> Progress
     ensures does { spec.MonitorsAt p
-        (spec.target_of desk.old.shard pids.now to) desk.old.shard references.old.items result desk.new.shard
+        (spec.target_of desk.old.shard pids.now to) tag desk.old.shard references.old.items result desk.new.shard
         references.new.items }
     ensures ends { HasSameEnds desk.old desk.new }
     ensures goes_on { GoesOn desk.old desk.new }
 {
-    if references.reserve(1).is_err() {
+    if references.reserve(places_for(references, tag)).is_err() {
         return Progress::Stays;
     }
     let Some(to) = target(desk, pids, to) else {
-        references.push_reserved(None);
+        note(references, tag, Err(Fault::NoProc));
         return Progress::Done;
     };
     let answer = desk.monitor(p, to);
-    note(references, answer);
+    note(references, tag, answer);
     progress_of(answer)
 }
 
@@ -268,21 +311,22 @@ fn ask_alive(
     references: &mut References,
     p: Pid,
     to: u32,
+    tag: u32,
 ) -> Progress
     ensures does { spec.AsksAt p
-        (spec.target_of desk.old.shard pids.now to) desk.old.shard references.old.items result desk.new.shard
+        (spec.target_of desk.old.shard pids.now to) tag desk.old.shard references.old.items result desk.new.shard
         references.new.items }
     ensures ends { HasSameEnds desk.old desk.new }
     ensures goes_on { GoesOn desk.old desk.new }
 {
-    if references.reserve(1).is_err() {
+    if references.reserve(places_for(references, tag)).is_err() {
         return Progress::Stays;
     }
     let Some(to) = target(desk, pids, to) else {
-        references.push_reserved(None);
+        note(references, tag, Err(Fault::NoProc));
         return Progress::Done;
     };
     let answer = desk.ask_alive(p, to);
-    note(references, answer);
+    note(references, tag, answer);
     progress_of(answer)
 }

@@ -1,6 +1,6 @@
 //! The work of a script on one desk.
 
-ghost use Rattle.std.specs.Prelude.{◌≡◌, ◌≢◌, ◌⊎◌, ℕ, Bool, false, ◌<◌, ◌≤◌, ◌+◌, ◌++◌, ◌∷◌, ◌||◌, [], List, None, Some, Ok};
+ghost use Rattle.std.specs.Prelude.{◌≡◌, ◌≢◌, ◌⊎◌, ℕ, Bool, false, ◌<◌, ◌≤◌, ◌+◌, ◌++◌, ◌∷◌, ◌||◌, [], List, None, Option, Some, Ok};
 ghost use Rattle.std.specs.Prelude.{count_by, map, not, position, slice_index_or, slice_set, true, vec_capacity, vec_len};
 ghost use Rattle.std.specs.List.{All, list_all, list_any};
 ghost use Rattle.pt_signal.specs.Values.{fits, same_pid};
@@ -11,12 +11,13 @@ ghost use Rattle.pt_script.specs.declared.values.Operation.{Operation};
 ghost use Rattle.pt_script.specs.declared.values.Pattern.{Pattern};
 ghost use Rattle.pt_runner.specs.declared.runner.Actor.{Actor};
 ghost use Rattle.pt_runner.specs.Acting.{Plays, GoesBehind, ActsAt, acting, table, newborn_actor, next_of};
-ghost use Rattle.pt_runner.specs.Acting.{advanced, living, place_among, place_listed, put_off, with_born, RunnerSpawns};
+ghost use Rattle.pt_runner.specs.Acting.{advanced, fits_if_taken, in_time, living, pid_numbered, place_among, place_listed, plan_at, put_off, with_born, RunnerSpawns, RunnerSpawnsNew};
 ghost use Rattle.pt_runner.specs.Stepping.{ProcessSteps, ProcessesStep, processes_here};
 ghost use Rattle.pt_runner.specs.Waiting.{RunnerAttends, HasSameRest, IsAbreast, IsFresh, IsTrueOf, IsUnmarked, RunnerKnows, RunnerSteps, RunnerStepsOne};
 ghost use Rattle.pt_runner.specs.Waiting.{AllRest, idle_runner, is_out_of_work, marked, none_fits, rests, sleeps, takes_none};
 
-use crate::calls::{Progress, References, call, pick_of, progress_of};
+use crate::calls::{Progress, References, call, pick_of, pid_of, progress_of, taken_of};
+use crate::reading::Branching;
 use pt_node::{Desk, Event, Fault, Item, Pick, Pid, Reason, Turned, Work};
 use pt_script::{Operation, Pattern, Script};
 use std::alloc::Global;
@@ -108,6 +109,16 @@ impl Actor {
         }
     }
 
+    /// Its list of operations.
+    fn operations<'a>(&self, script: &'a Script) -> &'a [Operation]
+        ensures { result.now ≡ (plan_at script.now.processes self.now.process).operations }
+    {
+        match script.processes().get(self.process as usize) {
+            Some(plan) => plan.operations(),
+            None => &[],
+        }
+    }
+
     /// Its next operation. After the last one this is its exit.
     fn next(&self, script: &Script) -> Operation
         ensures { result ≡ next_of script.now.processes (acting self.now) }
@@ -115,26 +126,42 @@ impl Actor {
         if self.begins {
             return Operation::Trap(true);
         }
-        let Some(plan) = script.processes().get(self.process as usize) else {
-            return Operation::Exit(Reason::Normal);
-        };
-        match plan.operations().get(self.done) {
-            Some(operation) => *operation,
+        match self.operations(script).get(self.done) {
+            Some(operation) => self.in_time(*operation),
             None => Operation::Exit(Reason::Normal),
         }
     }
 
-    /// Moves on from its next operation, which is done.
-    fn advance(&mut self)
-        ensures acting { acting self.new ≡ advanced (acting self.old) }
+    /// This operation, if it was not tried as often as it waits. Else it waits no longer.
+    fn in_time(&self, operation: Operation) -> Operation
+        ensures { result ≡ in_time self.now.refused operation }
+    {
+        match operation {
+            Operation::ReceiveAfter { pattern, tries } if u64::from(tries) <= self.refused => {
+                Operation::Check(pattern)
+            }
+            _ => operation,
+        }
+    }
+
+    /// Moves on from its next operation, which is done and took that item or none.
+    fn advance(&mut self, script: &Script, pids: &[Option<Pid>], taken: Option<Item>)
+        ensures acting { acting self.new
+            ≡ advanced script.now.processes (fits_if_taken pids.now self.old.references.items taken) (acting self.old) }
         ensures waits { self.new.waits ≡ self.old.waits }
     {
         self.refused = 0;
         if self.begins {
             self.begins = false;
-        } else {
-            self.done = self.done.saturating_add(1);
+            return;
         }
+        let branching = Branching {
+            pids,
+            references: &self.references,
+            taken,
+        };
+        let place = self.done.saturating_add(1);
+        self.done = branching.next_place(self.operations(script), place);
     }
 
     /// Notes that its next operation failed once more, and is to be tried again.
@@ -146,48 +173,62 @@ impl Actor {
     }
 
     /// Does a receive: if no item matches, it waits.
-    fn receive(&mut self, pids: &[Option<Pid>], pattern: Pattern, desk: &mut Desk)
-        ensures plays { Plays pids.now (Operation.Receive pattern) (acting self.old) desk.old.shard (acting self.new)
-            desk.new.shard }
+    fn receive(&mut self, script: &Script, pids: &[Option<Pid>], pattern: Pattern, desk: &mut Desk)
+        ensures plays { Plays script.now.processes pids.now (Operation.Receive pattern) (acting self.old) desk.old.shard
+            (acting self.new) desk.new.shard }
         ensures waits { (plans : List Plan) → next_of plans (acting self.old) ≡ Operation.Receive pattern
             → IsTrueOf plans pids.now desk.new.shard self.new }
         ensures ends { HasSameEnds desk.old desk.new }
         ensures goes_on { GoesOn desk.old desk.new }
     {
         let Some(pick) = pick_of(pids, &self.references, pattern) else {
-            self.conclude(Progress::Done, desk);
+            self.conclude(script, pids, Progress::Done, desk);
             return;
         };
         match desk.receive(self.pid, pick) {
             Ok(None) => self.waits = Some(desk.journal().events().len()),
-            Ok(Some(_)) => self.conclude(Progress::Done, desk),
-            Err(fault) => self.conclude(progress_of::<()>(Err(fault)), desk),
+            answer => self.conclude(script, pids, taken_of(Progress::Waits, answer), desk),
         }
     }
 
     /// Does an operation that spawns nothing and is no receive.
-    fn perform(&mut self, pids: &[Option<Pid>], operation: Operation, desk: &mut Desk)
+    fn perform(
+        &mut self,
+        script: &Script,
+        pids: &[Option<Pid>],
+        operation: Operation,
+        desk: &mut Desk,
+    )
         requires spawns { (process : ℕ) (linked : Bool) → operation ≢ Operation.Spawn process linked }
         requires takes { (pattern : Pattern) → operation ≢ Operation.Receive pattern }
-        ensures plays { Plays pids.now operation (acting self.old) desk.old.shard (acting self.new) desk.new.shard }
+        ensures plays { Plays script.now.processes pids.now operation (acting self.old) desk.old.shard (acting self.new)
+            desk.new.shard }
         ensures waits { self.new.waits ≡ None }
         ensures ends { HasSameEnds desk.old desk.new }
         ensures goes_on { GoesOn desk.old desk.new }
     {
         let progress = call(desk, pids, &mut self.references, self.pid, operation);
-        self.conclude(progress, desk);
+        self.conclude(script, pids, progress, desk);
     }
 
     /// Moves on from an operation, or exits since it failed.
-    fn conclude(&mut self, progress: Progress, desk: &mut Desk)
-        ensures behind { GoesBehind progress (acting self.old) desk.old.shard (acting self.new) desk.new.shard }
+    fn conclude(
+        &mut self,
+        script: &Script,
+        pids: &[Option<Pid>],
+        progress: Progress,
+        desk: &mut Desk,
+    )
+        ensures behind { GoesBehind script.now.processes pids.now progress (acting self.old) desk.old.shard (acting self.new)
+            desk.new.shard }
         ensures waits { self.new.waits ≡ None }
         ensures ends { HasSameEnds desk.old desk.new }
         ensures goes_on { GoesOn desk.old desk.new }
     {
         self.waits = None;
         match progress {
-            Progress::Done => self.advance(),
+            Progress::Done => self.advance(script, pids, None),
+            Progress::Took(item) => self.advance(script, pids, Some(item)),
             Progress::Waits => {}
             Progress::Stays => self.put_off(),
             Progress::Ends(reason) => self.end(reason, desk),
@@ -196,8 +237,8 @@ impl Actor {
 
     /// Exits since its operation failed, or tries that again if its exit fails.
     fn end(&mut self, reason: Reason, desk: &mut Desk)
-        ensures behind { GoesBehind (Progress.Ends reason) (acting self.old) desk.old.shard (acting self.new)
-            desk.new.shard }
+        ensures behind { (plans : List Plan) (pids : List (Option Pid))
+            → GoesBehind plans pids (Progress.Ends reason) (acting self.old) desk.old.shard (acting self.new) desk.new.shard }
         ensures waits { self.new.waits ≡ self.old.waits }
         ensures ends { HasSameEnds desk.old desk.new }
         ensures goes_on { GoesOn desk.old desk.new }
@@ -232,8 +273,9 @@ pub struct Place {
     pub begins: bool,
     /// The number of operations of its list that are done.
     pub done: usize,
-    /// How often its next operation failed for want of memory or at the clock's limit, and is tried again. It is 0 if
-    /// it did not fail, or waits for an item. It stays at `u64::MAX`.
+    /// How often its next operation failed for want of memory or at the clock's limit, or how often it is a receive that
+    /// waits for some tries and found nothing, and is tried again. It is 0 if it did not fail, or waits for an item without
+    /// end. It stays at `u64::MAX`.
     pub refused: u64,
 }
 
@@ -491,13 +533,15 @@ impl<'a> Runner<'a> {
         match operation {
             Operation::Spawn { process, linked } => self.spawn(index, process, linked, desk),
             Operation::Receive(pattern) => {
-                self.actors[index].receive(self.pids.as_slice(), pattern, desk);
+                self.actors[index].receive(self.script, self.pids.as_slice(), pattern, desk);
             }
-            _ => self.actors[index].perform(self.pids.as_slice(), operation, desk),
+            _ => {
+                self.actors[index].perform(self.script, self.pids.as_slice(), operation, desk);
+            }
         }
     }
 
-    /// Spawns a process. Its first operation comes in the next step.
+    /// Spawns a process, unless it was spawned before. Its first operation comes in the next step.
     fn spawn(&mut self, index: usize, process: u32, linked: bool, desk: &mut Desk)
         requires { index < vec_len self.old.actors }
         ensures spawns { RunnerSpawns process linked index (table self.old) desk.old.shard (table self.new) desk.new.shard }
@@ -506,43 +550,51 @@ impl<'a> Runner<'a> {
         ensures ends { HasSameEnds desk.old desk.new }
         ensures goes_on { GoesOn desk.old desk.new }
     {
+        match pid_of(self.pids.as_slice(), process) {
+            Some(_born) => {
+                self.actors[index].conclude(
+                    self.script,
+                    self.pids.as_slice(),
+                    Progress::Done,
+                    desk,
+                );
+            }
+            None => self.spawn_new(index, process, linked, desk),
+        }
+    }
+
+    /// Spawns a process that was not spawned before.
+    fn spawn_new(&mut self, index: usize, process: u32, linked: bool, desk: &mut Desk)
+        requires within { index < vec_len self.old.actors }
+        requires free { pid_numbered self.old.pids.items process ≡ None }
+        ensures spawns { RunnerSpawnsNew process linked index (table self.old) desk.old.shard (table self.new)
+            desk.new.shard }
+        ensures knows { RunnerKnows self.old desk.old.shard → RunnerKnows self.new desk.new.shard }
+        ensures len { vec_len self.old.actors ≤ vec_len self.new.actors }
+        ensures ends { HasSameEnds desk.old desk.new }
+        ensures goes_on { GoesOn desk.old desk.new }
+    {
         if self.actors.reserve(1).is_err() {
-            self.actors[index].conclude(Progress::Stays, desk);
+            self.actors[index].conclude(self.script, self.pids.as_slice(), Progress::Stays, desk);
             return;
         }
         let pid = self.actors[index].pid;
         let answer = desk.spawn_child(pid, linked);
         self.enter(process, answer);
-        self.actors[index].conclude(progress_of(answer), desk);
+        self.actors[index].conclude(self.script, self.pids.as_slice(), progress_of(answer), desk);
     }
 
-    /// Lists the process that was spawned, if one was.
+    /// Lists the process that was spawned, if one was. Its number has no pid yet.
     fn enter(&mut self, process: u32, answer: Result<Pid, Fault>)
-        requires { vec_len self.old.actors < vec_capacity self.old.actors }
+        requires free { pid_numbered self.old.pids.items process ≡ None }
+        requires room { vec_len self.old.actors < vec_capacity self.old.actors }
         ensures table { table self.new ≡ with_born process answer (table self.old) }
         ensures knows { (d : ShardState) → RunnerKnows self.old d → RunnerKnows self.new d }
         ensures len { vec_len self.old.actors ≤ vec_len self.new.actors }
     {
         match answer {
-            Ok(child) => {
-                self.free(process);
-                self.list(process, child);
-            }
+            Ok(child) => self.list(process, child),
             Err(_refused) => {}
-        }
-    }
-
-    /// Lets every waiting process try its receive again, if this number has a pid already: a receive may name it.
-    fn free(&mut self, process: u32)
-        ensures table { table self.new ≡ table self.old }
-        ensures free { (slice_index_or self.old.pids.items process None ≡ None) × (self.new ≡ self.old)
-            ⊎ All IsUnmarked self.new.actors.items }
-        ensures len { vec_len self.new.actors ≡ vec_len self.old.actors }
-        ensures room { vec_capacity self.new.actors ≡ vec_capacity self.old.actors }
-        ensures rest { HasSameRest self.old self.new }
-    {
-        if let Some(Some(_)) = self.pids.get(process as usize) {
-            self.wake_all();
         }
     }
 

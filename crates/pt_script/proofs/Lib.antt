@@ -9,9 +9,14 @@ pub mod HeadFacts
 pub mod SoundSteps
 pub mod SoundLists
 pub mod SoundScripts
+pub mod UnrolledSound
+pub mod UnrolledScripts
+pub mod UnrollingFacts
+pub mod Hurrying
 pub mod ReasonFacts
 pub mod Standing
 pub mod Numbering
+pub mod AsRun
 pub mod Writing
 pub mod SightFacts
 pub mod ReadBack
@@ -20,6 +25,7 @@ pub mod ReadValues
 pub mod SeesSteps
 pub mod SeesLists
 pub mod SeesScripts
+pub mod NoRepeats
 pub mod CalledFacts
 pub mod FindingFacts
 pub mod WalkFacts

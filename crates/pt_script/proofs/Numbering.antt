@@ -19,7 +19,7 @@ use Rattle.pt_script.specs.Members.{known_members, whole_number, required, optio
 use Rattle.pt_script.specs.Operations.{is_spawn, new_name}
 use Rattle.pt_script.specs.Scopes.{Naming, Scope, is_own_name}
 use Rattle.pt_script.specs.Lists.{Part, placed, at_script, at_process, fresh_scope, list_from}
-use Rattle.pt_script.specs.Scripts.{Heads, Head, Pending, Lists, settings, head, with_head, next_head, no_heads, next_list, no_lists, few, room, begun_in, spawned_by, loose, script, script_of, reading}
+use Rattle.pt_script.specs.Scripts.{Heads, Head, Pending, Lists, settings, head, with_head, next_head, no_heads, next_list, no_lists, few, room, begun_in, spawned_by, loose, script, script_of, as_written}
 use Rattle.pt_script.specs.Standing.{ops_of, spawns_in, processes_in, processes_of, all_processes, OperationStands, HasPlaceIn, AreOperationsOf, ArePlansOf, AreTopsOf, AreNamesOf, IsNumbered}
 use Rattle.pt_script.proofs.SoundSteps.{bind, skip, where_ok, either}
 use Rattle.pt_script.proofs.SoundLists.{sum_cons}
@@ -259,7 +259,7 @@ as_a_whole : (o : Option Data) → HasPlaceIn o at_script
 as_a_whole None = refl
 as_a_whole (Some d) = tt
 
-abbrev Read : Option Data → Whole → Type 0
+abbrev pub Read : Option Data → Whole → Type 0
 Read o w = (d : Data) × (o ≡ Some d) × IsNumbered d w
 
 lifted : (d : Data) (r : Result Whole ScriptError) → Told (In (all_processes d)) (IsNumbered d) r → Told (HasPlaceIn (Some d)) (Read (Some d)) r
@@ -271,18 +271,15 @@ script_of_told : (o : Option Data) → Told (HasPlaceIn o) (Read o) (script_of o
 script_of_told None = refl
 script_of_told (Some d) = lifted d (script d) (script_told d)
 
-reading_told : (bytes : List ℕ) → Told (HasPlaceIn (read bytes)) (Read (read bytes)) (reading bytes)
-unfolding reading
-reading_told bytes =
+pub as_written_told : (bytes : List ℕ) → Told (HasPlaceIn (read bytes)) (Read (read bytes)) (as_written bytes)
+unfolding as_written
+as_written_told bytes =
     let P : Result Whole ScriptError → Type 0 = Told (HasPlaceIn (read bytes)) (Read (read bytes)) in
     let of_text : Result Whole ScriptError = if is_utf8 bytes then script_of (read bytes) else Err (Refused Syntax at_script) in
     either P (nat_lt 1048576 (length bytes)) (Err (Refused Bounds at_script)) of_text (as_a_whole (read bytes)) (either P (is_utf8 bytes) (script_of (read bytes)) (Err (Refused Syntax at_script)) (script_of_told (read bytes)) (as_a_whole (read bytes)))
 
-pub faults_have_places : (bytes : List ℕ) (fault : Fault) (place : Place) → reading bytes ≡ Err (Refused fault place) → HasPlaceIn (read bytes) place
-faults_have_places bytes fault place e = rw e at (reading_told bytes)
-
-pub numbers_are_places : (bytes : List ℕ) (w : Whole) → reading bytes ≡ Ok w → (d : Data) × (read bytes ≡ Some d) × IsNumbered d w
-numbers_are_places bytes w e = rw e at (reading_told bytes)
+pub numbers_are_places : (bytes : List ℕ) (w : Whole) → as_written bytes ≡ Ok w → (d : Data) × (read bytes ≡ Some d) × IsNumbered d w
+numbers_are_places bytes w e = rw e at (as_written_told bytes)
 
 pub names_are_places : (s : Settings) (ds : List Data) (heads : Heads) → each (next_head s) no_heads ds ≡ Ok heads → AreNamesOf (processes_of ds) heads.names
 names_are_places s ds heads e = (settled ds heads (each (next_head s) no_heads ds) (all_heads s ds) e).names

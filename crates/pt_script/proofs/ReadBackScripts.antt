@@ -16,7 +16,7 @@ use Rattle.pt_script.specs.Steps.{◌>>=◌, each}
 use Rattle.pt_script.specs.Members.{required, list}
 use Rattle.pt_script.specs.Scopes.{Naming, Scope}
 use Rattle.pt_script.specs.Lists.{Part, fresh_scope, list_from}
-use Rattle.pt_script.specs.Scripts.{Heads, Head, Pending, Lists, settings, head, with_head, next_head, no_heads, next_list, no_lists, few, begun_in, spawned_by, script, reading}
+use Rattle.pt_script.specs.Scripts.{Heads, Head, Pending, Lists, settings, head, with_head, next_head, no_heads, next_list, no_lists, few, begun_in, spawned_by, script, as_written}
 use Rattle.pt_script.specs.Sound.{InRange, operations_of}
 use Rattle.pt_script.specs.Sights.{among, first_sight, BeginsIn, TopsBegin, number_of, IsWellFormed}
 use Rattle.pt_script.specs.WritingScripts.{process_name, no_plan, plan_of, list_written, top_written, script_written}
@@ -35,7 +35,7 @@ settings_back : (w : Whole) → InRange w.settings → settings (script_written 
 unfolding settings
 settings_back w h =
     let s : Settings = w.settings in
-    let a = within 1 2 s.format h.format.0 h.format.1 in
+    let a = within 1 3 s.format h.format.0 h.format.1 in
     let b = within 1 64 s.desks h.desks.0 h.desks.1 in
     let c = within 1 65536 s.slots h.slots.0 h.slots.1 in
     let d = within 1 4294967295 s.top_version h.top_version.0 h.top_version.1 in
@@ -336,11 +336,11 @@ scripts_back w h =
     script_ok (script_written w) s (map (top_written all) w.tops) heads.0 lists.0 (settings_back w h.settings) (values_back w) heads.1 read
     ∙ same_whole s heads.0.tops w.tops lists.0.processes all heads.2 lists.2
 
-text_back : (bytes : List ℕ) (d : Data) (w : Whole) → length bytes ≤ 1048576 → is_utf8 bytes ≡ true → read bytes ≡ Some d → script d ≡ Ok w → reading bytes ≡ Ok w
-unfolding reading
+text_back : (bytes : List ℕ) (d : Data) (w : Whole) → length bytes ≤ 1048576 → is_utf8 bytes ≡ true → read bytes ≡ Some d → script d ≡ Ok w → as_written bytes ≡ Ok w
+unfolding as_written
 text_back bytes d w short text is back =
     let a : nat_lt 1048576 (length bytes) ≡ false = grind (arith, short) in
     rw (a, text, is, back) refl
 
-pub read_back : (w : Whole) → IsWellFormed w → (script (script_written w) ≡ Ok w) × ((bytes : List ℕ) → length bytes ≤ 1048576 → is_utf8 bytes ≡ true → read bytes ≡ Some (script_written w) → reading bytes ≡ Ok w)
+pub read_back : (w : Whole) → IsWellFormed w → (script (script_written w) ≡ Ok w) × ((bytes : List ℕ) → length bytes ≤ 1048576 → is_utf8 bytes ≡ true → read bytes ≡ Some (script_written w) → as_written bytes ≡ Ok w)
 read_back w h = (scripts_back w h, λ bytes short text is. text_back bytes (script_written w) w short text is (scripts_back w h))

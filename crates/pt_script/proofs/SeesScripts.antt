@@ -19,7 +19,7 @@ use Rattle.pt_script.specs.Members.{known_members, whole_number, required, optio
 use Rattle.pt_script.specs.Operations.{new_name}
 use Rattle.pt_script.specs.Scopes.{Naming, Scope}
 use Rattle.pt_script.specs.Lists.{Part, placed, at_script, at_process, fresh_scope, list_from}
-use Rattle.pt_script.specs.Scripts.{Heads, Head, Pending, Lists, settings, head, with_head, next_head, no_heads, next_list, no_lists, few, room, number_behind, begun_in, script, script_of, reading}
+use Rattle.pt_script.specs.Scripts.{Heads, Head, Pending, Lists, settings, head, with_head, next_head, no_heads, next_list, no_lists, few, room, number_behind, begun_in, script, script_of, as_written}
 use Rattle.pt_script.specs.Sound.{InRange, IsSoundScript}
 use Rattle.pt_script.specs.Sights.{NameSight, first_sight, BeginsIn, TopsBegin, number_of, IsWellFormed}
 use Rattle.pt_script.specs.WritingScripts.{script_written}
@@ -216,14 +216,14 @@ script_of_accepted : (o : Option Data) → IfAny IsRead o → IfOk (script_of o)
 script_of_accepted None is = tt
 script_of_accepted (Some d) is = script_accepted d is
 
-reading_accepted : (bytes : List ℕ) → IfOk (reading bytes) IsWellFormed
-unfolding reading
-reading_accepted bytes =
+as_written_accepted : (bytes : List ℕ) → IfOk (as_written bytes) IsWellFormed
+unfolding as_written
+as_written_accepted bytes =
     let P : Result Whole ScriptError → Type 0 = λ r. IfOk r IsWellFormed in
     let of_text : Result Whole ScriptError = if is_utf8 bytes then script_of (read bytes) else Err (Refused Syntax at_script) in
     either P (nat_lt 1048576 (length bytes)) (Err (Refused Bounds at_script)) of_text tt (either P (is_utf8 bytes) (script_of (read bytes)) (Err (Refused Syntax at_script)) (script_of_accepted (read bytes) (is_read bytes)) tt)
 
-pub accepted_back : (bytes : List ℕ) (w : Whole) → reading bytes ≡ Ok w → IsWellFormed w × (script (script_written w) ≡ Ok w)
+pub accepted_back : (bytes : List ℕ) (w : Whole) → as_written bytes ≡ Ok w → IsWellFormed w × (script (script_written w) ≡ Ok w)
 accepted_back bytes w e =
-    let formed : IsWellFormed w = if_ok IsWellFormed (reading bytes) w (reading_accepted bytes) e in
+    let formed : IsWellFormed w = if_ok IsWellFormed (as_written bytes) w (as_written_accepted bytes) e in
     (formed, scripts_back w formed)

@@ -12,17 +12,19 @@ use Rattle.pt_script.specs.declared.fault.Fault.{Fault}
 use Rattle.pt_script.specs.declared.fault.Fault.TheVariants.{Name, Field, Bounds}
 use Rattle.pt_script.specs.declared.values.Operation.{Operation}
 use Rattle.pt_script.specs.declared.values.Operation.TheVariants as operation
+use Rattle.pt_script.specs.declared.values.Pattern.{Pattern}
 use Rattle.pt_script.specs.declared.values.Pattern.TheVariants as pattern
 use Rattle.pt_script.specs.Steps.{◌>>=◌}
-use Rattle.pt_script.specs.Members.{known_members, required, optional_member, text, signed, flag}
-use Rattle.pt_script.specs.Operations.{process, maybe_process, monitor_tag, ask_tag, new_tag, is_decimal, number_read, other_reason, reason_written, reason, kind, one_pick, pick, pick_members, send, receive, check, link, unlink, demonitor, trap, exit, signal, pass, tagged, plain}
-use Rattle.pt_script.specs.Scopes.{Scope, can_ask, process_in, or_number}
+use Rattle.pt_script.specs.Members.{known_members, whole_number, required, optional_member, text, signed, flag}
+use Rattle.pt_script.specs.Operations.{process, maybe_process, monitor_tag, ask_tag, new_tag, is_decimal, number_read, other_reason, reason_written, reason, kind, one_pick, pick, pick_members, send, receive_members, tries, received, receive, check, link, unlink, demonitor, trap, exit, signal, pass, branch, otherwise, branch_end, repeat, again, block_mark, tagged, plain}
+use Rattle.pt_script.specs.Scopes.{Scope, can_ask, has_blocks, process_in, or_number}
 use Rattle.pt_script.specs.Lists.{simple, named_operation, with_monitor, with_ask}
 use Rattle.pt_script.specs.Sights.{NameSight, among, is_parent, sees, SeesIfAny, SeesAllOf, CanDo, sight_behind}
 use Rattle.pt_script.specs.Writing.{WritesReason, FitsSigned}
 use Rattle.pt_script.proofs.ReadValues.{IsRead, signed_at_fits, whether}
-use Rattle.pt_script.proofs.SoundSteps.{bind, skip, either, required_ok, optional_ok}
-use Rattle.pt_script.proofs.SoundScripts.{Between, whole_in, imply}
+use Rattle.pt_script.proofs.ObjectFacts.{known_missing}
+use Rattle.pt_script.proofs.SoundSteps.{bind, skip, where_ok, either, required_ok, optional_ok}
+use Rattle.pt_script.proofs.SoundScripts.{Between, whole_in, needed_in, imply}
 
 -- numbers in their ranges ----------------------------------------------------------
 
@@ -152,6 +154,15 @@ monitor_seen v s h d = skip (IsMonitor v) (text d) (λ q. ok_or (s.monitors q) N
 ask_seen : (v : NameSight) (s : Scope) → ScopeSees v s → (d : Data) → IfOk (ask_tag s d) (IsAsk v)
 ask_seen v s h d = skip (IsAsk v) (text d) (λ q. ok_or (s.asks q) Name) (λ q. in_found v.asks (s.asks q) Name (h.asks q))
 
+-- formats --------------------------------------------------------------------------------
+
+format_two : (v : NameSight) (s : Scope) (b : Bool) → s.format ≡ v.format → (b && can_ask s) ≡ true → 2 ≤ v.format
+format_two v s true e h = subst (λ n. 2 ≤ n) e (grind (arith, h))
+format_two v s false e h = absurd (let f : false ≡ true = h in cc)
+
+format_three : (v : NameSight) (s : Scope) → s.format ≡ v.format → has_blocks s ≡ true → 3 ≤ v.format
+format_three v s e h = subst (λ n. 3 ≤ n) e (grind (arith, h))
+
 -- operations --------------------------------------------------------------------------
 
 -- it can be done, and what is in sight stays
@@ -185,11 +196,27 @@ send_sees v s h d is = skip (Plain v) (known_members (codes "op" ∷ codes "to" 
     (λ num num_in. bind (SeesIfAny v) (Plain v) (optional_member None (maybe_process s) (get (codes "who") d)) (λ who. Ok (operation.Send to k num who)) (optional_ok (SeesIfAny v) None (maybe_process s) (get (codes "who") d) tt (maybe_seen v s h))
     (λ who who_in. ((to_in, k_in, num_in, who_in), refl))))))
 
+-- how many tries a receive has at most, where it says so: format 3 knows it
+abbrev Tries : NameSight → Option ℕ → Type 0
+Tries v None = Unit {0}
+Tries v (Some n) = (3 ≤ v.format) × (n ≤ 65536)
+
+tries_fit : (v : NameSight) (s : Scope) → s.format ≡ v.format → (d : Data) (b : Bool) → has_blocks s ≡ b → known_members (receive_members b) d ≡ Ok tt → IfOk (optional_member None tries (get (codes "after") d)) (Tries v)
+tries_fit v s e d true is known = optional_ok (Tries v) None tries (get (codes "after") d) tt (λ a. bind (Between 0 65536) (Tries v) (whole_number 0 65536 a) (λ n. Ok (Some n)) (whole_in 0 65536 a) (λ n i. (format_three v s e is, i.1)))
+tries_fit v s e d false is known = rw (known_missing (codes "op" ∷ codes "pick" ∷ []) (codes "after") d refl known) tt
+
+received_sees : (v : NameSight) (p : Pattern) → SeesAllOf v p → (after : Option ℕ) → Tries v after → Plain v (received p after)
+received_sees v p p_in None few = (p_in, refl)
+received_sees v p p_in (Some n) few = ((few.0, p_in, few.1), refl)
+
 receive_sees : (v : NameSight) (s : Scope) → ScopeSees v s → (d : Data) → IfOk (receive s d) (Plain v)
 unfolding receive
-receive_sees v s h d = skip (Plain v) (known_members (codes "op" ∷ codes "pick" ∷ []) d) (λ u. (optional_member pattern.Any (pick s) (get (codes "pick") d) >>= λ p. Ok (operation.Receive p)))
-    (λ u. bind (SeesAllOf v) (Plain v) (optional_member pattern.Any (pick s) (get (codes "pick") d)) (λ p. Ok (operation.Receive p)) (optional_ok (SeesAllOf v) pattern.Any (pick s) (get (codes "pick") d) tt (pick_sees v s h))
-    (λ p p_in. (p_in, refl)))
+receive_sees v s h d =
+    let Known : Unit {0} → Type 0 = λ u. known_members (receive_members (has_blocks s)) d ≡ Ok u in
+    bind Known (Plain v) (known_members (receive_members (has_blocks s)) d) (λ u. (optional_member pattern.Any (pick s) (get (codes "pick") d) >>= λ p. (optional_member None tries (get (codes "after") d) >>= λ after. Ok (received p after)))) (where_ok Known (known_members (receive_members (has_blocks s)) d) (λ u e. e))
+    (λ u known. bind (SeesAllOf v) (Plain v) (optional_member pattern.Any (pick s) (get (codes "pick") d)) (λ p. (optional_member None tries (get (codes "after") d) >>= λ after. Ok (received p after))) (optional_ok (SeesAllOf v) pattern.Any (pick s) (get (codes "pick") d) tt (pick_sees v s h))
+    (λ p p_in. bind (Tries v) (Plain v) (optional_member None tries (get (codes "after") d)) (λ after. Ok (received p after)) (tries_fit v s h.format d (has_blocks s) refl known)
+    (λ after few. received_sees v p p_in after few)))
 
 check_sees : (v : NameSight) (s : Scope) → ScopeSees v s → (d : Data) → IfOk (check s d) (Plain v)
 unfolding check
@@ -240,6 +267,43 @@ unfolding pass
 pass_sees v s d = skip (Plain v) (known_members (codes "op" ∷ []) d) (λ u. Ok (operation.Pass))
     (λ u. (tt, refl))
 
+branch_sees : (v : NameSight) (s : Scope) → ScopeSees v s → 3 ≤ v.format → (d : Data) → IfOk (branch s d) (Plain v)
+unfolding branch
+branch_sees v s h some d = skip (Plain v) (known_members (codes "op" ∷ codes "pick" ∷ []) d) (λ u. (optional_member pattern.Any (pick s) (get (codes "pick") d) >>= λ p. Ok (operation.If p)))
+    (λ u. bind (SeesAllOf v) (Plain v) (optional_member pattern.Any (pick s) (get (codes "pick") d)) (λ p. Ok (operation.If p)) (optional_ok (SeesAllOf v) pattern.Any (pick s) (get (codes "pick") d) tt (pick_sees v s h))
+    (λ p p_in. ((some, p_in), refl)))
+
+otherwise_sees : (v : NameSight) (s : Scope) → 3 ≤ v.format → (d : Data) → IfOk (otherwise d) (Plain v)
+unfolding otherwise
+otherwise_sees v s some d = skip (Plain v) (known_members (codes "op" ∷ []) d) (λ u. Ok (operation.Else))
+    (λ u. (some, refl))
+
+end_sees : (v : NameSight) (s : Scope) → 3 ≤ v.format → (d : Data) → IfOk (branch_end d) (Plain v)
+unfolding branch_end
+end_sees v s some d = skip (Plain v) (known_members (codes "op" ∷ []) d) (λ u. Ok (operation.End))
+    (λ u. (some, refl))
+
+repeat_sees : (v : NameSight) (s : Scope) → 3 ≤ v.format → (d : Data) → IfOk (repeat d) (Plain v)
+unfolding repeat
+repeat_sees v s some d = skip (Plain v) (known_members (codes "op" ∷ codes "times" ∷ []) d) (λ u. (required (whole_number 1 65536) (get (codes "times") d) >>= λ times. Ok (operation.Repeat times)))
+    (λ u. bind (Between 1 65536) (Plain v) (required (whole_number 1 65536) (get (codes "times") d)) (λ times. Ok (operation.Repeat times)) (needed_in 1 65536 (get (codes "times") d))
+    (λ times i. ((some, i.0, i.1), refl)))
+
+again_sees : (v : NameSight) (s : Scope) → 3 ≤ v.format → (d : Data) → IfOk (again d) (Plain v)
+unfolding again
+again_sees v s some d = skip (Plain v) (known_members (codes "op" ∷ []) d) (λ u. Ok (operation.Again))
+    (λ u. (some, refl))
+
+block_sees : (v : NameSight) (s : Scope) → ScopeSees v s → 3 ≤ v.format → (op : List ℕ) (d : Data) → IfOk (block_mark s op d) (Plain v)
+unfolding block_mark
+block_sees v s h some op d =
+    let P : Result Operation Fault → Type 0 = λ r. IfOk r (Plain v) in
+    either P (bytes_eq op (codes "if")) (branch s d) ((if bytes_eq op (codes "else") then otherwise d else (if bytes_eq op (codes "end") then branch_end d else (if bytes_eq op (codes "repeat") then repeat d else (if bytes_eq op (codes "again") then again d else Err Field))))) (branch_sees v s h some d)
+    (either P (bytes_eq op (codes "else")) (otherwise d) ((if bytes_eq op (codes "end") then branch_end d else (if bytes_eq op (codes "repeat") then repeat d else (if bytes_eq op (codes "again") then again d else Err Field)))) (otherwise_sees v s some d)
+    (either P (bytes_eq op (codes "end")) (branch_end d) ((if bytes_eq op (codes "repeat") then repeat d else (if bytes_eq op (codes "again") then again d else Err Field))) (end_sees v s some d)
+    (either P (bytes_eq op (codes "repeat")) (repeat d) ((if bytes_eq op (codes "again") then again d else Err Field)) (repeat_sees v s some d)
+    (either P (bytes_eq op (codes "again")) (again d) (Err Field) (again_sees v s some d) tt))))
+
 tagged_sees : (v : NameSight) (s : Scope) → ScopeSees v s → (d : Data) → IfOk (tagged s d) (ToSeen v)
 unfolding tagged
 tagged_sees v s h d = skip (ToSeen v) (known_members (codes "op" ∷ codes "to" ∷ codes "tag" ∷ []) d) (λ u. (required (process s) (get (codes "to") d) >>= λ to. (required (new_tag s) (get (codes "tag") d) >>= λ name. Ok (to, name))))
@@ -251,16 +315,17 @@ plain_sees : (v : NameSight) (s : Scope) → ScopeSees v s → (op : List ℕ) (
 unfolding plain
 plain_sees v s h op d is =
     let P : Result Operation Fault → Type 0 = λ r. IfOk r (Plain v) in
-    either P (bytes_eq op (codes "send")) (send s d) ((if bytes_eq op (codes "receive") then receive s d else (if bytes_eq op (codes "check") then check s d else (if bytes_eq op (codes "link") then link s d else (if bytes_eq op (codes "unlink") then unlink s d else (if bytes_eq op (codes "demonitor") then demonitor s d else (if bytes_eq op (codes "trap") then trap d else (if bytes_eq op (codes "exit") then exit d else (if bytes_eq op (codes "signal") then signal s d else (if bytes_eq op (codes "pass") then pass d else Err Field)))))))))) (send_sees v s h d is)
-    (either P (bytes_eq op (codes "receive")) (receive s d) ((if bytes_eq op (codes "check") then check s d else (if bytes_eq op (codes "link") then link s d else (if bytes_eq op (codes "unlink") then unlink s d else (if bytes_eq op (codes "demonitor") then demonitor s d else (if bytes_eq op (codes "trap") then trap d else (if bytes_eq op (codes "exit") then exit d else (if bytes_eq op (codes "signal") then signal s d else (if bytes_eq op (codes "pass") then pass d else Err Field))))))))) (receive_sees v s h d)
-    (either P (bytes_eq op (codes "check")) (check s d) ((if bytes_eq op (codes "link") then link s d else (if bytes_eq op (codes "unlink") then unlink s d else (if bytes_eq op (codes "demonitor") then demonitor s d else (if bytes_eq op (codes "trap") then trap d else (if bytes_eq op (codes "exit") then exit d else (if bytes_eq op (codes "signal") then signal s d else (if bytes_eq op (codes "pass") then pass d else Err Field)))))))) (check_sees v s h d)
-    (either P (bytes_eq op (codes "link")) (link s d) ((if bytes_eq op (codes "unlink") then unlink s d else (if bytes_eq op (codes "demonitor") then demonitor s d else (if bytes_eq op (codes "trap") then trap d else (if bytes_eq op (codes "exit") then exit d else (if bytes_eq op (codes "signal") then signal s d else (if bytes_eq op (codes "pass") then pass d else Err Field))))))) (link_sees v s h d)
-    (either P (bytes_eq op (codes "unlink")) (unlink s d) ((if bytes_eq op (codes "demonitor") then demonitor s d else (if bytes_eq op (codes "trap") then trap d else (if bytes_eq op (codes "exit") then exit d else (if bytes_eq op (codes "signal") then signal s d else (if bytes_eq op (codes "pass") then pass d else Err Field)))))) (unlink_sees v s h d)
-    (either P (bytes_eq op (codes "demonitor")) (demonitor s d) ((if bytes_eq op (codes "trap") then trap d else (if bytes_eq op (codes "exit") then exit d else (if bytes_eq op (codes "signal") then signal s d else (if bytes_eq op (codes "pass") then pass d else Err Field))))) (demonitor_sees v s h d)
-    (either P (bytes_eq op (codes "trap")) (trap d) ((if bytes_eq op (codes "exit") then exit d else (if bytes_eq op (codes "signal") then signal s d else (if bytes_eq op (codes "pass") then pass d else Err Field)))) (trap_sees v s d)
-    (either P (bytes_eq op (codes "exit")) (exit d) ((if bytes_eq op (codes "signal") then signal s d else (if bytes_eq op (codes "pass") then pass d else Err Field))) (exit_sees v s d)
-    (either P (bytes_eq op (codes "signal")) (signal s d) ((if bytes_eq op (codes "pass") then pass d else Err Field)) (signal_sees v s h d)
-    (either P (bytes_eq op (codes "pass")) (pass d) (Err Field) (pass_sees v s d) tt)))))))))
+    either P (bytes_eq op (codes "send")) (send s d) ((if bytes_eq op (codes "receive") then receive s d else (if bytes_eq op (codes "check") then check s d else (if bytes_eq op (codes "link") then link s d else (if bytes_eq op (codes "unlink") then unlink s d else (if bytes_eq op (codes "demonitor") then demonitor s d else (if bytes_eq op (codes "trap") then trap d else (if bytes_eq op (codes "exit") then exit d else (if bytes_eq op (codes "signal") then signal s d else (if bytes_eq op (codes "pass") then pass d else (if has_blocks s then block_mark s op d else Err Field))))))))))) (send_sees v s h d is)
+    (either P (bytes_eq op (codes "receive")) (receive s d) ((if bytes_eq op (codes "check") then check s d else (if bytes_eq op (codes "link") then link s d else (if bytes_eq op (codes "unlink") then unlink s d else (if bytes_eq op (codes "demonitor") then demonitor s d else (if bytes_eq op (codes "trap") then trap d else (if bytes_eq op (codes "exit") then exit d else (if bytes_eq op (codes "signal") then signal s d else (if bytes_eq op (codes "pass") then pass d else (if has_blocks s then block_mark s op d else Err Field)))))))))) (receive_sees v s h d)
+    (either P (bytes_eq op (codes "check")) (check s d) ((if bytes_eq op (codes "link") then link s d else (if bytes_eq op (codes "unlink") then unlink s d else (if bytes_eq op (codes "demonitor") then demonitor s d else (if bytes_eq op (codes "trap") then trap d else (if bytes_eq op (codes "exit") then exit d else (if bytes_eq op (codes "signal") then signal s d else (if bytes_eq op (codes "pass") then pass d else (if has_blocks s then block_mark s op d else Err Field))))))))) (check_sees v s h d)
+    (either P (bytes_eq op (codes "link")) (link s d) ((if bytes_eq op (codes "unlink") then unlink s d else (if bytes_eq op (codes "demonitor") then demonitor s d else (if bytes_eq op (codes "trap") then trap d else (if bytes_eq op (codes "exit") then exit d else (if bytes_eq op (codes "signal") then signal s d else (if bytes_eq op (codes "pass") then pass d else (if has_blocks s then block_mark s op d else Err Field)))))))) (link_sees v s h d)
+    (either P (bytes_eq op (codes "unlink")) (unlink s d) ((if bytes_eq op (codes "demonitor") then demonitor s d else (if bytes_eq op (codes "trap") then trap d else (if bytes_eq op (codes "exit") then exit d else (if bytes_eq op (codes "signal") then signal s d else (if bytes_eq op (codes "pass") then pass d else (if has_blocks s then block_mark s op d else Err Field))))))) (unlink_sees v s h d)
+    (either P (bytes_eq op (codes "demonitor")) (demonitor s d) ((if bytes_eq op (codes "trap") then trap d else (if bytes_eq op (codes "exit") then exit d else (if bytes_eq op (codes "signal") then signal s d else (if bytes_eq op (codes "pass") then pass d else (if has_blocks s then block_mark s op d else Err Field)))))) (demonitor_sees v s h d)
+    (either P (bytes_eq op (codes "trap")) (trap d) ((if bytes_eq op (codes "exit") then exit d else (if bytes_eq op (codes "signal") then signal s d else (if bytes_eq op (codes "pass") then pass d else (if has_blocks s then block_mark s op d else Err Field))))) (trap_sees v s d)
+    (either P (bytes_eq op (codes "exit")) (exit d) ((if bytes_eq op (codes "signal") then signal s d else (if bytes_eq op (codes "pass") then pass d else (if has_blocks s then block_mark s op d else Err Field)))) (exit_sees v s d)
+    (either P (bytes_eq op (codes "signal")) (signal s d) ((if bytes_eq op (codes "pass") then pass d else (if has_blocks s then block_mark s op d else Err Field))) (signal_sees v s h d)
+    (either P (bytes_eq op (codes "pass")) (pass d) (if has_blocks s then block_mark s op d else Err Field) (pass_sees v s d)
+    (whether P (has_blocks s) (block_mark s op d) (Err Field) (λ some. block_sees v s h (format_three v s h.format some) op d) (λ none. tt)))))))))))
 
 -- behind an operation ---------------------------------------------------------------------
 
@@ -301,10 +366,6 @@ ask_goes v s h to name asks to_in = record {
 
 plain_goes : (v : NameSight) (s : Scope) → ScopeSees v s → (o : Operation) → Plain v o → Goes v o s
 plain_goes v s h o p = record { can = p.0; scope = subst (λ u. ScopeSees u s) (sym p.1) h }
-
-format_two : (v : NameSight) (s : Scope) (b : Bool) → s.format ≡ v.format → (b && can_ask s) ≡ true → 2 ≤ v.format
-format_two v s true e h = subst (λ n. 2 ≤ n) e (grind (arith, h))
-format_two v s false e h = absurd (let f : false ≡ true = h in cc)
 
 named_goes : (v : NameSight) (s : Scope) → ScopeSees v s → (op : List ℕ) (d : Data) → IsRead d → IfOk (named_operation s op d) (λ o. Goes v o.0 o.1)
 named_goes v s h op d is =

@@ -12,7 +12,7 @@ use Rattle.pt_script.specs.declared.values.Pattern.{Pattern}
 use Rattle.pt_script.specs.declared.values.Pattern.TheVariants as pattern
 use Rattle.pt_script.specs.declared.values.Operation.{Operation}
 use Rattle.pt_script.specs.declared.values.Operation.TheVariants as operation
-use Rattle.pt_script.specs.Scopes.{Naming, Scope, can_ask, process_in, or_number, is_script_name, is_own_name, begins_well, is_script_letter, is_script_digit, is_name_byte}
+use Rattle.pt_script.specs.Scopes.{Naming, Scope, can_ask, has_blocks, process_in, or_number, is_script_name, is_own_name, begins_well, is_script_letter, is_script_digit, is_name_byte}
 use Rattle.pt_script.specs.Lists.{fresh_scope, with_child, with_monitor, with_ask}
 use Rattle.pt_script.specs.Sights.{NameSight, among, is_parent, sees, SeesIfAny, SeesAllOf, CanDo, sight_behind, first_sight}
 use Rattle.pt_script.specs.Writing.{IsCalled, IsCalledIfAny, CanPick, IsNewTag, CanSay, scope_behind}
@@ -144,6 +144,9 @@ ask_of from to next seen s v h low tag e = h.asks tag (omega (arith, h.asks_low 
 asking : (from to next seen : ℕ) (s : Scope) (v : NameSight) → Agrees from to next seen s v → 2 ≤ v.format → can_ask s ≡ true
 asking from to next seen s v h e = rw h.format (grind (arith, e))
 
+with_blocks : (from to next seen : ℕ) (s : Scope) (v : NameSight) → Agrees from to next seen s v → 3 ≤ v.format → has_blocks s ≡ true
+with_blocks from to next seen s v h e = rw h.format (grind (arith, e))
+
 pick_of : (from to next seen : ℕ) (s : Scope) (v : NameSight) → Agrees from to next seen s v → next ≤ 4096 → seen ≤ 65536 → (p : Pattern) → SeesAllOf v p → CanPick s (calls v.own v.parent) p
 pick_of from to next seen s v h low few pattern.Any e = tt
 pick_of from to next seen s v h low few (pattern.Kind kind) e = e
@@ -173,6 +176,12 @@ can_say from to next seen s v h low few (operation.Exit reason) e = e
 can_say from to next seen s v h low few (operation.Signal n reason) e = (name_of from to next seen s v h low n e.0, e.1)
 can_say from to next seen s v h low few (operation.Spawn process linked) e = absurd e
 can_say from to next seen s v h low few operation.Pass e = tt
+can_say from to next seen s v h low few (operation.ReceiveAfter p tries) e = (with_blocks from to next seen s v h e.0, pick_of from to next seen s v h low few p e.1, e.2)
+can_say from to next seen s v h low few (operation.If p) e = (with_blocks from to next seen s v h e.0, pick_of from to next seen s v h low few p e.1)
+can_say from to next seen s v h low few operation.Else e = with_blocks from to next seen s v h e
+can_say from to next seen s v h low few operation.End e = with_blocks from to next seen s v h e
+can_say from to next seen s v h low few (operation.Repeat times) e = (with_blocks from to next seen s v h e.0, e.1, e.2)
+can_say from to next seen s v h low few operation.Again e = with_blocks from to next seen s v h e
 
 -- what is in sight behind an operation -----------------------------------------------
 

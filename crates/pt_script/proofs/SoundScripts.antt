@@ -19,7 +19,7 @@ use Rattle.pt_script.specs.Members.{known_members, whole_number, required, optio
 use Rattle.pt_script.specs.Operations.{new_name}
 use Rattle.pt_script.specs.Scopes.{Naming, Scope}
 use Rattle.pt_script.specs.Lists.{Part, placed, at_script, at_process, fresh_scope, list_from}
-use Rattle.pt_script.specs.Scripts.{Heads, Head, Pending, Lists, settings, head, with_head, next_head, no_heads, next_list, no_lists, few, room, number_behind, begun_in, spawned_by, script, script_of, reading}
+use Rattle.pt_script.specs.Scripts.{Heads, Head, Pending, Lists, settings, head, with_head, next_head, no_heads, next_list, no_lists, few, room, number_behind, begun_in, spawned_by, script, script_of, as_written}
 use Rattle.pt_script.specs.Sound.{IsBelow, TopFits, ListFits, PlansFit, InRange, IsSoundScript, operations_of}
 use Rattle.pt_script.proofs.SoundSteps.{bind, skip, where_ok, either, placed_ok, required_ok, optional_ok}
 use Rattle.pt_script.proofs.SoundLists.{PartFits, list_from_fits, sum_cons}
@@ -51,14 +51,14 @@ needed_in least most m = required_ok (Between least most) (whole_number least mo
 given_in : (missing least most : ℕ) (m : Option Data) → Between least most missing → IfOk (optional_member missing (whole_number least most) m) (Between least most)
 given_in missing least most m h = optional_ok (Between least most) missing (whole_number least most) m h (whole_in least most)
 
-ranges : (format desks slots top lane budget : ℕ) → Between 1 2 format → Between 1 64 desks → Between 1 65536 slots → Between 1 4294967295 top → Between 1 65536 lane → Between 1 65536 budget → InRange (record { format = format; desks = desks; slots = slots; top_version = top; lane = lane; budget = budget })
+ranges : (format desks slots top lane budget : ℕ) → Between 1 3 format → Between 1 64 desks → Between 1 65536 slots → Between 1 4294967295 top → Between 1 65536 lane → Between 1 65536 budget → InRange (record { format = format; desks = desks; slots = slots; top_version = top; lane = lane; budget = budget })
 ranges format desks slots top lane budget a b c d e f = record { format = a; desks = b; slots = c; top_version = d; lane = e; budget = f }
 
 pub settings_in : (d : Data) → IfOk (settings d) InRange
 unfolding settings
 settings_in d =
-    skip InRange (known_members (codes "format" ∷ codes "desks" ∷ codes "slots" ∷ codes "top" ∷ codes "lane" ∷ codes "budget" ∷ codes "processes" ∷ []) d) (λ u. (required (whole_number 1 2) (get (codes "format") d) >>= λ format. (required (whole_number 1 64) (get (codes "desks") d) >>= λ desks. (optional_member 1024 (whole_number 1 65536) (get (codes "slots") d) >>= λ slots. (optional_member 4294967295 (whole_number 1 4294967295) (get (codes "top") d) >>= λ top. (optional_member 64 (whole_number 1 65536) (get (codes "lane") d) >>= λ lane. (optional_member 16 (whole_number 1 65536) (get (codes "budget") d) >>= λ budget. Ok (record { format = format; desks = desks; slots = slots; top_version = top; lane = lane; budget = budget })))))))) (λ u.
-    bind (Between 1 2) InRange (required (whole_number 1 2) (get (codes "format") d)) (λ format. (required (whole_number 1 64) (get (codes "desks") d) >>= λ desks. (optional_member 1024 (whole_number 1 65536) (get (codes "slots") d) >>= λ slots. (optional_member 4294967295 (whole_number 1 4294967295) (get (codes "top") d) >>= λ top. (optional_member 64 (whole_number 1 65536) (get (codes "lane") d) >>= λ lane. (optional_member 16 (whole_number 1 65536) (get (codes "budget") d) >>= λ budget. Ok (record { format = format; desks = desks; slots = slots; top_version = top; lane = lane; budget = budget }))))))) (needed_in 1 2 (get (codes "format") d)) (λ format format_in.
+    skip InRange (known_members (codes "format" ∷ codes "desks" ∷ codes "slots" ∷ codes "top" ∷ codes "lane" ∷ codes "budget" ∷ codes "processes" ∷ []) d) (λ u. (required (whole_number 1 3) (get (codes "format") d) >>= λ format. (required (whole_number 1 64) (get (codes "desks") d) >>= λ desks. (optional_member 1024 (whole_number 1 65536) (get (codes "slots") d) >>= λ slots. (optional_member 4294967295 (whole_number 1 4294967295) (get (codes "top") d) >>= λ top. (optional_member 64 (whole_number 1 65536) (get (codes "lane") d) >>= λ lane. (optional_member 16 (whole_number 1 65536) (get (codes "budget") d) >>= λ budget. Ok (record { format = format; desks = desks; slots = slots; top_version = top; lane = lane; budget = budget })))))))) (λ u.
+    bind (Between 1 3) InRange (required (whole_number 1 3) (get (codes "format") d)) (λ format. (required (whole_number 1 64) (get (codes "desks") d) >>= λ desks. (optional_member 1024 (whole_number 1 65536) (get (codes "slots") d) >>= λ slots. (optional_member 4294967295 (whole_number 1 4294967295) (get (codes "top") d) >>= λ top. (optional_member 64 (whole_number 1 65536) (get (codes "lane") d) >>= λ lane. (optional_member 16 (whole_number 1 65536) (get (codes "budget") d) >>= λ budget. Ok (record { format = format; desks = desks; slots = slots; top_version = top; lane = lane; budget = budget }))))))) (needed_in 1 3 (get (codes "format") d)) (λ format format_in.
     bind (Between 1 64) InRange (required (whole_number 1 64) (get (codes "desks") d)) (λ desks. (optional_member 1024 (whole_number 1 65536) (get (codes "slots") d) >>= λ slots. (optional_member 4294967295 (whole_number 1 4294967295) (get (codes "top") d) >>= λ top. (optional_member 64 (whole_number 1 65536) (get (codes "lane") d) >>= λ lane. (optional_member 16 (whole_number 1 65536) (get (codes "budget") d) >>= λ budget. Ok (record { format = format; desks = desks; slots = slots; top_version = top; lane = lane; budget = budget })))))) (needed_in 1 64 (get (codes "desks") d)) (λ desks desks_in.
     bind (Between 1 65536) InRange (optional_member 1024 (whole_number 1 65536) (get (codes "slots") d)) (λ slots. (optional_member 4294967295 (whole_number 1 4294967295) (get (codes "top") d) >>= λ top. (optional_member 64 (whole_number 1 65536) (get (codes "lane") d) >>= λ lane. (optional_member 16 (whole_number 1 65536) (get (codes "budget") d) >>= λ budget. Ok (record { format = format; desks = desks; slots = slots; top_version = top; lane = lane; budget = budget }))))) (given_in 1024 1 65536 (get (codes "slots") d) (omega arith, omega arith)) (λ slots slots_in.
     bind (Between 1 4294967295) InRange (optional_member 4294967295 (whole_number 1 4294967295) (get (codes "top") d)) (λ top. (optional_member 64 (whole_number 1 65536) (get (codes "lane") d) >>= λ lane. (optional_member 16 (whole_number 1 65536) (get (codes "budget") d) >>= λ budget. Ok (record { format = format; desks = desks; slots = slots; top_version = top; lane = lane; budget = budget })))) (given_in 4294967295 1 4294967295 (get (codes "top") d) (omega arith, omega arith)) (λ top top_in.
@@ -272,15 +272,9 @@ script_of_sound : (read : Option Data) → IfOk (script_of read) IsSoundScript
 script_of_sound None = tt
 script_of_sound (Some d) = script_sound d
 
-reading_sound : (bytes : List ℕ) → IfOk (reading bytes) IsSoundScript
-unfolding reading
-reading_sound bytes =
+pub as_written_sound : (bytes : List ℕ) → IfOk (as_written bytes) IsSoundScript
+unfolding as_written
+as_written_sound bytes =
     let P : Result Whole ScriptError → Type 0 = λ r. IfOk r IsSoundScript in
     let of_text : Result Whole ScriptError = if is_utf8 bytes then script_of (read bytes) else Err (Refused Syntax at_script) in
     either P (nat_lt 1048576 (length bytes)) (Err (Refused Bounds at_script)) of_text tt (either P (is_utf8 bytes) (script_of (read bytes)) (Err (Refused Syntax at_script)) (script_of_sound (read bytes)) tt)
-
-if_ok : {A E : Type 0} (P : A → Type 0) (r : Result A E) (x : A) → IfOk r P → r ≡ Ok x → P x
-if_ok P r x h e = rw e at h
-
-pub accepted_sound : (bytes : List ℕ) (w : Whole) → reading bytes ≡ Ok w → IsSoundScript w
-accepted_sound bytes w e = if_ok IsSoundScript (reading bytes) w (reading_sound bytes) e

@@ -9,11 +9,12 @@ use Rattle.pt_script.specs.declared.fault.Fault.TheVariants.{Name, Field}
 use Rattle.pt_script.specs.declared.fault.Place.{Place}
 use Rattle.pt_script.specs.declared.values.Operation.{Operation}
 use Rattle.pt_script.specs.declared.values.Operation.TheVariants as operation
+use Rattle.pt_script.specs.declared.values.Pattern.{Pattern}
 use Rattle.pt_script.specs.declared.values.Pattern.TheVariants as pattern
 use Rattle.pt_script.specs.Steps.{◌>>=◌}
-use Rattle.pt_script.specs.Members.{known_members, required, optional_member, text, signed, flag}
-use Rattle.pt_script.specs.Operations.{process, maybe_process, monitor_tag, ask_tag, new_tag, reason, kind, one_pick, pick, pick_members, send, receive, check, link, unlink, demonitor, trap, exit, signal, pass, tagged, plain}
-use Rattle.pt_script.specs.Scopes.{Scope, can_ask, process_in, or_number}
+use Rattle.pt_script.specs.Members.{known_members, whole_number, required, optional_member, text, signed, flag}
+use Rattle.pt_script.specs.Operations.{process, maybe_process, monitor_tag, ask_tag, new_tag, reason, kind, one_pick, pick, pick_members, send, receive_members, tries, received, receive, check, link, unlink, demonitor, trap, exit, signal, pass, branch, otherwise, branch_end, repeat, again, block_mark, tagged, plain}
+use Rattle.pt_script.specs.Scopes.{Scope, can_ask, has_blocks, process_in, or_number}
 use Rattle.pt_script.specs.Lists.{placed, simple, named_operation, with_monitor, with_ask}
 use Rattle.pt_script.specs.Sound.{IsBelow, PatternFits, Fits, tags_made}
 
@@ -122,11 +123,16 @@ send_fits n s h d = skip (Plain n s) (known_members (codes "op" ∷ codes "to" �
     (λ num. bind (IsBelow n) (Plain n s) (optional_member None (maybe_process s) (get (codes "who") d)) (λ who. Ok (operation.Send to k num who)) (optional_ok (IsBelow n) None (maybe_process s) (get (codes "who") d) tt (maybe_below n s h))
     (λ who who_in. done n s (operation.Send to k num who) (to_in, who_in) refl)))))
 
+received_fits : (n : ℕ) (s : Scope) (p : Pattern) → PatternFits n s.made p → (after : Option ℕ) → Plain n s (received p after)
+received_fits n s p p_in None = done n s (operation.Receive p) p_in refl
+received_fits n s p p_in (Some k) = done n s (operation.ReceiveAfter p k) p_in refl
+
 receive_fits : (n : ℕ) (s : Scope) → ScopeFits n s → (d : Data) → IfOk (receive s d) (Plain n s)
 unfolding receive
-receive_fits n s h d = skip (Plain n s) (known_members (codes "op" ∷ codes "pick" ∷ []) d) (λ u. (optional_member pattern.Any (pick s) (get (codes "pick") d) >>= λ p. Ok (operation.Receive p)))
-    (λ u. bind (PatternFits n s.made) (Plain n s) (optional_member pattern.Any (pick s) (get (codes "pick") d)) (λ p. Ok (operation.Receive p)) (optional_ok (PatternFits n s.made) pattern.Any (pick s) (get (codes "pick") d) tt (pick_fits n s h))
-    (λ p p_in. done n s (operation.Receive p) p_in refl))
+receive_fits n s h d = skip (Plain n s) (known_members (receive_members (has_blocks s)) d) (λ u. (optional_member pattern.Any (pick s) (get (codes "pick") d) >>= λ p. (optional_member None tries (get (codes "after") d) >>= λ after. Ok (received p after))))
+    (λ u. bind (PatternFits n s.made) (Plain n s) (optional_member pattern.Any (pick s) (get (codes "pick") d)) (λ p. (optional_member None tries (get (codes "after") d) >>= λ after. Ok (received p after))) (optional_ok (PatternFits n s.made) pattern.Any (pick s) (get (codes "pick") d) tt (pick_fits n s h))
+    (λ p p_in. skip (Plain n s) (optional_member None tries (get (codes "after") d)) (λ after. Ok (received p after))
+    (λ after. received_fits n s p p_in after)))
 
 check_fits : (n : ℕ) (s : Scope) → ScopeFits n s → (d : Data) → IfOk (check s d) (Plain n s)
 unfolding check
@@ -177,6 +183,43 @@ unfolding pass
 pass_fits n s d = skip (Plain n s) (known_members (codes "op" ∷ []) d) (λ u. Ok (operation.Pass))
     (λ u. done n s (operation.Pass) tt refl)
 
+branch_fits : (n : ℕ) (s : Scope) → ScopeFits n s → (d : Data) → IfOk (branch s d) (Plain n s)
+unfolding branch
+branch_fits n s h d = skip (Plain n s) (known_members (codes "op" ∷ codes "pick" ∷ []) d) (λ u. (optional_member pattern.Any (pick s) (get (codes "pick") d) >>= λ p. Ok (operation.If p)))
+    (λ u. bind (PatternFits n s.made) (Plain n s) (optional_member pattern.Any (pick s) (get (codes "pick") d)) (λ p. Ok (operation.If p)) (optional_ok (PatternFits n s.made) pattern.Any (pick s) (get (codes "pick") d) tt (pick_fits n s h))
+    (λ p p_in. done n s (operation.If p) p_in refl))
+
+otherwise_fits : (n : ℕ) (s : Scope) → (d : Data) → IfOk (otherwise d) (Plain n s)
+unfolding otherwise
+otherwise_fits n s d = skip (Plain n s) (known_members (codes "op" ∷ []) d) (λ u. Ok (operation.Else))
+    (λ u. done n s (operation.Else) tt refl)
+
+end_fits : (n : ℕ) (s : Scope) → (d : Data) → IfOk (branch_end d) (Plain n s)
+unfolding branch_end
+end_fits n s d = skip (Plain n s) (known_members (codes "op" ∷ []) d) (λ u. Ok (operation.End))
+    (λ u. done n s (operation.End) tt refl)
+
+repeat_fits : (n : ℕ) (s : Scope) → (d : Data) → IfOk (repeat d) (Plain n s)
+unfolding repeat
+repeat_fits n s d = skip (Plain n s) (known_members (codes "op" ∷ codes "times" ∷ []) d) (λ u. (required (whole_number 1 65536) (get (codes "times") d) >>= λ times. Ok (operation.Repeat times)))
+    (λ u. skip (Plain n s) (required (whole_number 1 65536) (get (codes "times") d)) (λ times. Ok (operation.Repeat times))
+    (λ times. done n s (operation.Repeat times) tt refl))
+
+again_fits : (n : ℕ) (s : Scope) → (d : Data) → IfOk (again d) (Plain n s)
+unfolding again
+again_fits n s d = skip (Plain n s) (known_members (codes "op" ∷ []) d) (λ u. Ok (operation.Again))
+    (λ u. done n s (operation.Again) tt refl)
+
+block_fits : (n : ℕ) (s : Scope) → ScopeFits n s → (op : List ℕ) (d : Data) → IfOk (block_mark s op d) (Plain n s)
+unfolding block_mark
+block_fits n s h op d =
+    let P : Result Operation Fault → Type 0 = λ r. IfOk r (Plain n s) in
+    either P (bytes_eq op (codes "if")) (branch s d) ((if bytes_eq op (codes "else") then otherwise d else (if bytes_eq op (codes "end") then branch_end d else (if bytes_eq op (codes "repeat") then repeat d else (if bytes_eq op (codes "again") then again d else Err Field))))) (branch_fits n s h d)
+    (either P (bytes_eq op (codes "else")) (otherwise d) ((if bytes_eq op (codes "end") then branch_end d else (if bytes_eq op (codes "repeat") then repeat d else (if bytes_eq op (codes "again") then again d else Err Field)))) (otherwise_fits n s d)
+    (either P (bytes_eq op (codes "end")) (branch_end d) ((if bytes_eq op (codes "repeat") then repeat d else (if bytes_eq op (codes "again") then again d else Err Field))) (end_fits n s d)
+    (either P (bytes_eq op (codes "repeat")) (repeat d) ((if bytes_eq op (codes "again") then again d else Err Field)) (repeat_fits n s d)
+    (either P (bytes_eq op (codes "again")) (again d) (Err Field) (again_fits n s d) tt))))
+
 tagged_fits : (n : ℕ) (s : Scope) → ScopeFits n s → (d : Data) → IfOk (tagged s d) (ToBelow n)
 unfolding tagged
 tagged_fits n s h d = skip (ToBelow n) (known_members (codes "op" ∷ codes "to" ∷ codes "tag" ∷ []) d) (λ u. (required (process s) (get (codes "to") d) >>= λ to. (required (new_tag s) (get (codes "tag") d) >>= λ name. Ok (to, name))))
@@ -188,16 +231,17 @@ plain_fits : (n : ℕ) (s : Scope) → ScopeFits n s → (op : List ℕ) (d : Da
 unfolding plain
 plain_fits n s h op d =
     let P : Result Operation Fault → Type 0 = λ r. IfOk r (Plain n s) in
-    either P (bytes_eq op (codes "send")) (send s d) ((if bytes_eq op (codes "receive") then receive s d else (if bytes_eq op (codes "check") then check s d else (if bytes_eq op (codes "link") then link s d else (if bytes_eq op (codes "unlink") then unlink s d else (if bytes_eq op (codes "demonitor") then demonitor s d else (if bytes_eq op (codes "trap") then trap d else (if bytes_eq op (codes "exit") then exit d else (if bytes_eq op (codes "signal") then signal s d else (if bytes_eq op (codes "pass") then pass d else Err Field)))))))))) (send_fits n s h d)
-    (either P (bytes_eq op (codes "receive")) (receive s d) ((if bytes_eq op (codes "check") then check s d else (if bytes_eq op (codes "link") then link s d else (if bytes_eq op (codes "unlink") then unlink s d else (if bytes_eq op (codes "demonitor") then demonitor s d else (if bytes_eq op (codes "trap") then trap d else (if bytes_eq op (codes "exit") then exit d else (if bytes_eq op (codes "signal") then signal s d else (if bytes_eq op (codes "pass") then pass d else Err Field))))))))) (receive_fits n s h d)
-    (either P (bytes_eq op (codes "check")) (check s d) ((if bytes_eq op (codes "link") then link s d else (if bytes_eq op (codes "unlink") then unlink s d else (if bytes_eq op (codes "demonitor") then demonitor s d else (if bytes_eq op (codes "trap") then trap d else (if bytes_eq op (codes "exit") then exit d else (if bytes_eq op (codes "signal") then signal s d else (if bytes_eq op (codes "pass") then pass d else Err Field)))))))) (check_fits n s h d)
-    (either P (bytes_eq op (codes "link")) (link s d) ((if bytes_eq op (codes "unlink") then unlink s d else (if bytes_eq op (codes "demonitor") then demonitor s d else (if bytes_eq op (codes "trap") then trap d else (if bytes_eq op (codes "exit") then exit d else (if bytes_eq op (codes "signal") then signal s d else (if bytes_eq op (codes "pass") then pass d else Err Field))))))) (link_fits n s h d)
-    (either P (bytes_eq op (codes "unlink")) (unlink s d) ((if bytes_eq op (codes "demonitor") then demonitor s d else (if bytes_eq op (codes "trap") then trap d else (if bytes_eq op (codes "exit") then exit d else (if bytes_eq op (codes "signal") then signal s d else (if bytes_eq op (codes "pass") then pass d else Err Field)))))) (unlink_fits n s h d)
-    (either P (bytes_eq op (codes "demonitor")) (demonitor s d) ((if bytes_eq op (codes "trap") then trap d else (if bytes_eq op (codes "exit") then exit d else (if bytes_eq op (codes "signal") then signal s d else (if bytes_eq op (codes "pass") then pass d else Err Field))))) (demonitor_fits n s h d)
-    (either P (bytes_eq op (codes "trap")) (trap d) ((if bytes_eq op (codes "exit") then exit d else (if bytes_eq op (codes "signal") then signal s d else (if bytes_eq op (codes "pass") then pass d else Err Field)))) (trap_fits n s d)
-    (either P (bytes_eq op (codes "exit")) (exit d) ((if bytes_eq op (codes "signal") then signal s d else (if bytes_eq op (codes "pass") then pass d else Err Field))) (exit_fits n s d)
-    (either P (bytes_eq op (codes "signal")) (signal s d) ((if bytes_eq op (codes "pass") then pass d else Err Field)) (signal_fits n s h d)
-    (either P (bytes_eq op (codes "pass")) (pass d) (Err Field) (pass_fits n s d) tt)))))))))
+    either P (bytes_eq op (codes "send")) (send s d) ((if bytes_eq op (codes "receive") then receive s d else (if bytes_eq op (codes "check") then check s d else (if bytes_eq op (codes "link") then link s d else (if bytes_eq op (codes "unlink") then unlink s d else (if bytes_eq op (codes "demonitor") then demonitor s d else (if bytes_eq op (codes "trap") then trap d else (if bytes_eq op (codes "exit") then exit d else (if bytes_eq op (codes "signal") then signal s d else (if bytes_eq op (codes "pass") then pass d else (if has_blocks s then block_mark s op d else Err Field))))))))))) (send_fits n s h d)
+    (either P (bytes_eq op (codes "receive")) (receive s d) ((if bytes_eq op (codes "check") then check s d else (if bytes_eq op (codes "link") then link s d else (if bytes_eq op (codes "unlink") then unlink s d else (if bytes_eq op (codes "demonitor") then demonitor s d else (if bytes_eq op (codes "trap") then trap d else (if bytes_eq op (codes "exit") then exit d else (if bytes_eq op (codes "signal") then signal s d else (if bytes_eq op (codes "pass") then pass d else (if has_blocks s then block_mark s op d else Err Field)))))))))) (receive_fits n s h d)
+    (either P (bytes_eq op (codes "check")) (check s d) ((if bytes_eq op (codes "link") then link s d else (if bytes_eq op (codes "unlink") then unlink s d else (if bytes_eq op (codes "demonitor") then demonitor s d else (if bytes_eq op (codes "trap") then trap d else (if bytes_eq op (codes "exit") then exit d else (if bytes_eq op (codes "signal") then signal s d else (if bytes_eq op (codes "pass") then pass d else (if has_blocks s then block_mark s op d else Err Field))))))))) (check_fits n s h d)
+    (either P (bytes_eq op (codes "link")) (link s d) ((if bytes_eq op (codes "unlink") then unlink s d else (if bytes_eq op (codes "demonitor") then demonitor s d else (if bytes_eq op (codes "trap") then trap d else (if bytes_eq op (codes "exit") then exit d else (if bytes_eq op (codes "signal") then signal s d else (if bytes_eq op (codes "pass") then pass d else (if has_blocks s then block_mark s op d else Err Field)))))))) (link_fits n s h d)
+    (either P (bytes_eq op (codes "unlink")) (unlink s d) ((if bytes_eq op (codes "demonitor") then demonitor s d else (if bytes_eq op (codes "trap") then trap d else (if bytes_eq op (codes "exit") then exit d else (if bytes_eq op (codes "signal") then signal s d else (if bytes_eq op (codes "pass") then pass d else (if has_blocks s then block_mark s op d else Err Field))))))) (unlink_fits n s h d)
+    (either P (bytes_eq op (codes "demonitor")) (demonitor s d) ((if bytes_eq op (codes "trap") then trap d else (if bytes_eq op (codes "exit") then exit d else (if bytes_eq op (codes "signal") then signal s d else (if bytes_eq op (codes "pass") then pass d else (if has_blocks s then block_mark s op d else Err Field)))))) (demonitor_fits n s h d)
+    (either P (bytes_eq op (codes "trap")) (trap d) ((if bytes_eq op (codes "exit") then exit d else (if bytes_eq op (codes "signal") then signal s d else (if bytes_eq op (codes "pass") then pass d else (if has_blocks s then block_mark s op d else Err Field))))) (trap_fits n s d)
+    (either P (bytes_eq op (codes "exit")) (exit d) ((if bytes_eq op (codes "signal") then signal s d else (if bytes_eq op (codes "pass") then pass d else (if has_blocks s then block_mark s op d else Err Field)))) (exit_fits n s d)
+    (either P (bytes_eq op (codes "signal")) (signal s d) ((if bytes_eq op (codes "pass") then pass d else (if has_blocks s then block_mark s op d else Err Field))) (signal_fits n s h d)
+    (either P (bytes_eq op (codes "pass")) (pass d) (if has_blocks s then block_mark s op d else Err Field) (pass_fits n s d)
+    (either P (has_blocks s) (block_mark s op d) (Err Field) (block_fits n s h op d) tt))))))))))
 
 -- the scope behind an operation ---------------------------------------------------------
 

@@ -5,6 +5,7 @@ pub mod Plans
 pub mod Scopes
 pub mod Operations
 pub mod Lists
+pub mod Unrolling
 pub mod Scripts
 pub mod Sound
 pub mod Nodes

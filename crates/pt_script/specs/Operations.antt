@@ -15,9 +15,10 @@ use Rattle.pt_script.specs.declared.values.Pattern.{Pattern}
 use Rattle.pt_script.specs.declared.values.Pattern.TheVariants as pattern
 use Rattle.pt_script.specs.declared.values.Operation.{Operation}
 use Rattle.pt_script.specs.declared.values.Operation.TheVariants as operation
+use Rattle.pt_script.specs.declared.limits.TheConstants.{MAX_TIMES}
 use Rattle.pt_script.specs.Steps.{◌>>=◌}
 use Rattle.pt_script.specs.Members.{known_members, whole_number, signed, flag, text, list, required, optional_member}
-use Rattle.pt_script.specs.Scopes.{Scope, can_ask, process_in, tag_in, is_script_name, is_own_name, is_script_digit}
+use Rattle.pt_script.specs.Scopes.{Scope, can_ask, has_blocks, process_in, tag_in, is_script_name, is_own_name, is_script_digit}
 
 abbrev pub is_text : List ℕ → Option (List ℕ) → Bool
 is_text t None = false
@@ -121,11 +122,26 @@ send s d = do
   who ← optional_member None (maybe_process s) (get (codes "who") d)
   Ok (operation.Send to kind num who)
 
+-- the members of a receive; format 3 knows how often it tries
+abbrev pub receive_members : Bool → List (List ℕ)
+receive_members true = codes "op" ∷ codes "pick" ∷ codes "after" ∷ []
+receive_members false = codes "op" ∷ codes "pick" ∷ []
+
+abbrev pub tries : Data → Result (Option ℕ) Fault
+tries d = do
+  n ← whole_number 0 MAX_TIMES d
+  Ok (Some n)
+
+abbrev pub received : Pattern → Option ℕ → Operation
+received p None = operation.Receive p
+received p (Some n) = operation.ReceiveAfter p n
+
 unfoldable pub receive : Scope → Data → Result Operation Fault
 receive s d = do
-  _ ← known_members (codes "op" ∷ codes "pick" ∷ []) d
+  _ ← known_members (receive_members (has_blocks s)) d
   p ← optional_member pattern.Any (pick s) (get (codes "pick") d)
-  Ok (operation.Receive p)
+  after ← optional_member None tries (get (codes "after") d)
+  Ok (received p after)
 
 unfoldable pub check : Scope → Data → Result Operation Fault
 check s d = do
@@ -176,6 +192,42 @@ pass d = do
   _ ← known_members (codes "op" ∷ []) d
   Ok operation.Pass
 
+unfoldable pub branch : Scope → Data → Result Operation Fault
+branch s d = do
+  _ ← known_members (codes "op" ∷ codes "pick" ∷ []) d
+  p ← optional_member pattern.Any (pick s) (get (codes "pick") d)
+  Ok (operation.If p)
+
+unfoldable pub otherwise : Data → Result Operation Fault
+otherwise d = do
+  _ ← known_members (codes "op" ∷ []) d
+  Ok operation.Else
+
+unfoldable pub branch_end : Data → Result Operation Fault
+branch_end d = do
+  _ ← known_members (codes "op" ∷ []) d
+  Ok operation.End
+
+unfoldable pub repeat : Data → Result Operation Fault
+repeat d = do
+  _ ← known_members (codes "op" ∷ codes "times" ∷ []) d
+  times ← required (whole_number 1 MAX_TIMES) (get (codes "times") d)
+  Ok (operation.Repeat times)
+
+unfoldable pub again : Data → Result Operation Fault
+again d = do
+  _ ← known_members (codes "op" ∷ []) d
+  Ok operation.Again
+
+-- what begins or ends a block
+unfoldable pub block_mark : Scope → List ℕ → Data → Result Operation Fault
+block_mark s op d = if bytes_eq op (codes "if") then branch s d
+    else (if bytes_eq op (codes "else") then otherwise d
+    else (if bytes_eq op (codes "end") then branch_end d
+    else (if bytes_eq op (codes "repeat") then repeat d
+    else (if bytes_eq op (codes "again") then again d
+    else Err Field))))
+
 -- a monitor or an ask: of whom, and its tag
 unfoldable pub tagged : Scope → Data → Result (ℕ × List ℕ) Fault
 tagged s d = do
@@ -212,4 +264,5 @@ plain s op d = if bytes_eq op (codes "send") then send s d
     else (if bytes_eq op (codes "exit") then exit d
     else (if bytes_eq op (codes "signal") then signal s d
     else (if bytes_eq op (codes "pass") then pass d
-    else Err Field)))))))))
+    else (if has_blocks s then block_mark s op d
+    else Err Field))))))))))

@@ -17,7 +17,7 @@ naming names text = get_by (λ k. bytes_eq text k.now) names.numbers
 
 -- what an operation can name
 pub record Scope : Type 0 where
-  -- the script's format, 1 or 2
+  -- the script's format, 1 to 3
   pub format : ℕ
   -- the process that does it
   pub own : ℕ
@@ -49,6 +49,10 @@ scope_view s = record {
 -- from format 2 on a process can ask whether another is alive
 abbrev pub can_ask : Scope → Bool
 can_ask s = nat_le 2 s.format
+
+-- from format 3 on a list has branches and repeats, and a receive can end after some tries
+abbrev pub has_blocks : Scope → Bool
+has_blocks s = nat_le 3 s.format
 
 abbrev pub or_number : Option ℕ → Option ℕ → Option ℕ
 or_number (Some n) other = Some n

@@ -22,6 +22,7 @@ use Rattle.pt_script.specs.Steps.{◌>>=◌, each}
 use Rattle.pt_script.specs.Members.{known_members, whole_number, flag, list, required, optional_member}
 use Rattle.pt_script.specs.Operations.{is_spawn, new_name}
 use Rattle.pt_script.specs.Scopes.{Naming, naming}
+use Rattle.pt_script.specs.Unrolling.{unrolled}
 use Rattle.serde_json.specs.View.{view}
 use Rattle.pt_script.specs.declared.heads.Heads.{Heads as HeadsRead}
 use Rattle.pt_script.specs.declared.heads.Pending.{Pending as Unread}
@@ -145,10 +146,18 @@ abbrev pub script_of : Option Data → Result Whole ScriptError
 script_of None = Err (Refused Syntax at_script)
 script_of (Some d) = script d
 
--- what bytes say as a script: their number first, then their syntax, then the rest
-unfoldable pub reading : List ℕ → Result Whole ScriptError
-reading bytes = if nat_lt MAX_BYTES (length bytes) then Err (Refused Bounds at_script)
+-- what bytes say as a script, as it is written: their number first, then their syntax, then the rest
+unfoldable pub as_written : List ℕ → Result Whole ScriptError
+as_written bytes = if nat_lt MAX_BYTES (length bytes) then Err (Refused Bounds at_script)
     else (if is_utf8 bytes then script_of (read bytes) else Err (Refused Syntax at_script))
+
+-- what is said, as it is run: repeats are written out
+abbrev pub as_run : Result Whole ScriptError → Result Whole ScriptError
+as_run written = written >>= unrolled
+
+-- the script that bytes say, as it is run
+unfoldable pub reading : List ℕ → Result Whole ScriptError
+reading bytes = as_run (as_written bytes)
 
 -- what was returned is what the bytes say, where there was memory
 abbrev pub Reads : {A : Type 0} → Result A ScriptError → Result A ScriptError → Type 0

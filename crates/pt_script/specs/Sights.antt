@@ -9,13 +9,13 @@ use Rattle.pt_script.specs.declared.values.Pattern.TheVariants as pattern
 use Rattle.pt_script.specs.declared.values.Operation.{Operation}
 use Rattle.pt_script.specs.declared.values.Operation.TheVariants as operation
 use Rattle.pt_script.specs.Plans.{Plan, Whole}
-use Rattle.pt_script.specs.declared.limits.TheConstants.{MAX_DEPTH, MAX_OPERATIONS, MAX_PROCESSES}
+use Rattle.pt_script.specs.declared.limits.TheConstants.{MAX_DEPTH, MAX_OPERATIONS, MAX_PROCESSES, MAX_TIMES}
 use Rattle.pt_script.specs.Sound.{InRange, operations_of}
 use Rattle.pt_script.specs.Writing.{WritesReason, FitsSigned}
 
 -- what an operation can name, by number
 pub record NameSight : Type 0 where
-  -- the script's format, 1 or 2
+  -- the script's format, 1 to 3
   pub format : ℕ
   -- the process that does it
   pub own : ℕ
@@ -72,6 +72,12 @@ CanDo v (operation.Exit reason) = WritesReason reason
 CanDo v (operation.Signal to reason) = (sees v to ≡ true) × WritesReason reason
 CanDo v (operation.Spawn process linked) = ⊥
 CanDo v operation.Pass = ⊤
+CanDo v (operation.ReceiveAfter p tries) = (3 ≤ v.format) × SeesAllOf v p × (tries ≤ MAX_TIMES)
+CanDo v (operation.If p) = (3 ≤ v.format) × SeesAllOf v p
+CanDo v operation.Else = 3 ≤ v.format
+CanDo v operation.End = 3 ≤ v.format
+CanDo v (operation.Repeat times) = (3 ≤ v.format) × (1 ≤ times) × (times ≤ MAX_TIMES)
+CanDo v operation.Again = 3 ≤ v.format
 
 -- what is in sight behind an operation
 abbrev pub sight_behind : NameSight → Operation → NameSight

@@ -7,7 +7,7 @@ use Rattle.pt_script.specs.declared.values.Pattern.{Pattern}
 use Rattle.pt_script.specs.declared.values.Pattern.TheVariants.{From, ExitOf, DownOf, AliveOf}
 use Rattle.pt_script.specs.declared.values.Operation.{Operation}
 use Rattle.pt_script.specs.declared.values.Operation.TheVariants.{Send, Receive, Check, Link, Unlink, Monitor}
-use Rattle.pt_script.specs.declared.values.Operation.TheVariants.{Demonitor, Alive, Signal, Spawn}
+use Rattle.pt_script.specs.declared.values.Operation.TheVariants.{Demonitor, Alive, Signal, Spawn, ReceiveAfter, If}
 use Rattle.pt_script.specs.Plans.{Plan, Whole}
 use Rattle.pt_script.specs.declared.limits.TheConstants.{MAX_BUDGET, MAX_DESKS, MAX_FORMAT, MAX_LANE, MAX_OPERATIONS}
 use Rattle.pt_script.specs.declared.limits.TheConstants.{MAX_PROCESSES, MAX_SLOTS}
@@ -30,6 +30,8 @@ abbrev pub Fits : ℕ → ℕ → Operation → Type 0
 Fits n made (Send to kind num who) = (to < n) × IsBelow n who
 Fits n made (Receive p) = PatternFits n made p
 Fits n made (Check p) = PatternFits n made p
+Fits n made (ReceiveAfter p tries) = PatternFits n made p
+Fits n made (If p) = PatternFits n made p
 Fits n made (Link to) = to < n
 Fits n made (Unlink to) = to < n
 Fits n made (Monitor to tag) = (to < n) × (tag ≡ made)

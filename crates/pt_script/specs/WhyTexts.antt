@@ -8,10 +8,12 @@ use Rattle.pt_script.specs.declared.explanation.why.Scene.TheVariants as scene
 use Rattle.pt_script.specs.declared.explanation.why.Spot.{Spot}
 use Rattle.pt_script.specs.declared.explanation.why.Why.{Why}
 use Rattle.pt_script.specs.declared.explanation.why.Limit.{Limit}
-use Rattle.pt_script.specs.declared.explanation.why.Limit.TheVariants.{Bytes, Signed, Reasons, Slots, Processes, Operations, Depth}
+use Rattle.pt_script.specs.declared.explanation.why.Limit.TheVariants.{Bytes, Signed, Reasons, Slots, Processes, Operations, Rounds, Depth}
+use Rattle.pt_script.specs.declared.explanation.why.Stray.{Stray}
+use Rattle.pt_script.specs.declared.explanation.why.Stray.TheVariants.{NoItem, NoIf, NoFirstElse, NoRepeat, Open}
 use Rattle.pt_script.specs.declared.explanation.why.Wrong.{Wrong}
 use Rattle.pt_script.specs.declared.explanation.why.Wrong.TheVariants as wrong
-use Rattle.pt_script.specs.declared.limits.TheConstants.{MAX_BYTES, MAX_DEPTH, MAX_FORMAT, MAX_OPERATIONS, MAX_PROCESSES}
+use Rattle.pt_script.specs.declared.limits.TheConstants.{MAX_BYTES, MAX_DEPTH, MAX_OPERATIONS, MAX_PROCESSES}
 use Rattle.pt_script.specs.declared.explanation.why.TheConstants.{OPERATIONS, PICKS, REASONS}
 
 -- a name, or an index where there is none
@@ -33,7 +35,16 @@ limit_text Reasons = codes "has a number above 4294967295"
 limit_text Slots = codes "is one process more than its desk has slots"
 limit_text Processes = codes "is one process more than " ++ decimal MAX_PROCESSES
 limit_text Operations = codes "is one operation more than " ++ decimal MAX_OPERATIONS
+limit_text Rounds = codes "is one operation more than " ++ decimal MAX_OPERATIONS ++ codes ", with those of each round of a repeat"
 limit_text Depth = codes "is inside " ++ decimal MAX_DEPTH ++ codes " other spawns"
+
+-- what is wrong with an operation that begins or ends a block
+unfoldable pub stray_text : Stray → List ℕ
+stray_text NoItem = codes "is not directly behind a receive, a check, an if or an else"
+stray_text NoIf = codes "is not directly inside an if"
+stray_text NoFirstElse = codes "is not the first else directly inside an if"
+stray_text NoRepeat = codes "is not directly inside a repeat"
+stray_text Open = codes "begins a block that does not end"
 
 unfoldable pub wrong_text : Wrong → List ℕ
 wrong_text wrong.NoUtf8 = codes "is no UTF-8"
@@ -51,11 +62,12 @@ wrong_text wrong.NoName = codes "has not the form of a name"
 wrong_text wrong.NoReason = codes "is no reason: there are " ++ REASONS.now
 wrong_text wrong.NoPick = codes "is no object with one of the members of a pick: there are " ++ PICKS.now
 wrong_text wrong.NoOperation = codes "is no operation: there are " ++ OPERATIONS.now
-wrong_text wrong.Later = codes "wants format " ++ decimal MAX_FORMAT
+wrong_text (wrong.Later format) = codes "needs format " ++ decimal format
 wrong_text (wrong.OutOfRange least most) = codes "is not from " ++ decimal least ++ codes " to " ++ decimal most
 wrong_text (wrong.Over limit) = limit_text limit
 wrong_text wrong.OutOfScope = codes "names nothing in scope"
 wrong_text wrong.Taken = codes "is taken already"
+wrong_text (wrong.Block stray) = stray_text stray
 wrong_text wrong.Refused = codes "is not as scripts are"
 
 -- the member that is wrong, and the word that it is, or all that is there

@@ -1,5 +1,5 @@
 -- How an operation is written as a value.
-use Rattle.std.specs.Prelude.{◌≡◌, ℕ, ◌^◌, ◌<◌, ℤ, pos, negsuc, true, List, codes, Option, Some, None, ⊤}
+use Rattle.std.specs.Prelude.{◌≡◌, ℕ, ◌^◌, ◌<◌, ◌≤◌, ℤ, pos, negsuc, true, List, codes, Option, Some, None, ⊤}
 use Rattle.serde_json.specs.Data.{Data, unsigned, boolean, number, string, object, Members, no_members, member}
 use Rattle.serde_json.specs.Find.{of_integer}
 use Rattle.pt_signal.specs.declared.reason.Reason.{Reason}
@@ -9,7 +9,8 @@ use Rattle.pt_script.specs.declared.values.Pattern.{Pattern}
 use Rattle.pt_script.specs.declared.values.Pattern.TheVariants as pattern
 use Rattle.pt_script.specs.declared.values.Operation.{Operation}
 use Rattle.pt_script.specs.declared.values.Operation.TheVariants as operation
-use Rattle.pt_script.specs.Scopes.{Scope, can_ask, process_in, tag_in, is_script_name}
+use Rattle.pt_script.specs.declared.limits.TheConstants.{MAX_TIMES}
+use Rattle.pt_script.specs.Scopes.{Scope, can_ask, has_blocks, process_in, tag_in, is_script_name}
 use Rattle.pt_script.specs.Lists.{with_monitor, with_ask}
 
 -- what processes and tags are called, by their numbers
@@ -73,6 +74,16 @@ written_operation c (operation.Signal to reason) =
     (with (codes "reason") (string (reason_text reason)) (with (codes "to") (string (c.process to)) no_members)))
 written_operation c (operation.Spawn process linked) = object no_members
 written_operation c operation.Pass = object (with (codes "op") (string (codes "pass")) no_members)
+written_operation c (operation.ReceiveAfter p tries) =
+    object
+    (with (codes "after") (number (unsigned tries))
+    (with (codes "op") (string (codes "receive")) (pick_written c p no_members)))
+written_operation c (operation.If p) = object (with (codes "op") (string (codes "if")) (pick_written c p no_members))
+written_operation c operation.Else = object (with (codes "op") (string (codes "else")) no_members)
+written_operation c operation.End = object (with (codes "op") (string (codes "end")) no_members)
+written_operation c (operation.Repeat times) =
+    object (with (codes "op") (string (codes "repeat")) (with (codes "times") (number (unsigned times)) no_members))
+written_operation c operation.Again = object (with (codes "op") (string (codes "again")) no_members)
 
 -- in this scope the process is called so
 abbrev pub IsCalled : Scope → Called → ℕ → Type 0
@@ -117,6 +128,12 @@ CanSay s c (operation.Exit reason) = WritesReason reason
 CanSay s c (operation.Signal to reason) = IsCalled s c to × WritesReason reason
 CanSay s c (operation.Spawn process linked) = ⊥
 CanSay s c operation.Pass = ⊤
+CanSay s c (operation.ReceiveAfter p tries) = (has_blocks s ≡ true) × CanPick s c p × (tries ≤ MAX_TIMES)
+CanSay s c (operation.If p) = (has_blocks s ≡ true) × CanPick s c p
+CanSay s c operation.Else = has_blocks s ≡ true
+CanSay s c operation.End = has_blocks s ≡ true
+CanSay s c (operation.Repeat times) = (has_blocks s ≡ true) × (1 ≤ times) × (times ≤ MAX_TIMES)
+CanSay s c operation.Again = has_blocks s ≡ true
 
 -- the scope behind it
 abbrev pub scope_behind : Scope → Called → Operation → Scope

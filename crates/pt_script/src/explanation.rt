@@ -1,5 +1,6 @@
 //! Why a text is no script, in words. The texts are those of `docs/SCRIPTS.md`.
 
+mod blocks;
 mod explaining;
 mod finding;
 mod looking;

@@ -2,16 +2,18 @@
 
 ghost use Rattle.std.specs.Prelude.{◌≡◌};
 ghost use Rattle.pt_script.specs.Laws.{AcceptedAreSound, ReasonsAsPrinted, FaultsHavePlaces, NumbersArePlaces};
-ghost use Rattle.pt_script.specs.Laws.{NamesArePlaces, OperationsReadBack, ScriptsReadBack, AcceptedReadBack};
+ghost use Rattle.pt_script.specs.Laws.{NamesArePlaces, OperationsReadBack, ScriptsReadBack, AcceptedReadBack, OldFormatsAsWritten};
+ghost use Rattle.pt_script.specs.Laws.{AcceptedHaveNoRepeats};
 
 use crate::limits::{
     DEFAULT_BUDGET, DEFAULT_LANE, DEFAULT_SLOTS, MAX_BUDGET, MAX_BYTES, MAX_DEPTH, MAX_DESKS,
     MAX_FORMAT, MAX_LANE, MAX_NAME, MAX_NESTING, MAX_OPERATIONS, MAX_PROCESSES, MAX_SLOTS,
+    MAX_TIMES,
 };
 
-/// The limits of formats 1 and 2, as numbers. The format's definition cites them by name only.
+/// The limits of formats 1 to 3, as numbers. The format's definition cites them by name only.
 pub fn limits_stand()
-    ensures format { MAX_FORMAT ≡ 2 }
+    ensures format { MAX_FORMAT ≡ 3 }
     ensures desks { MAX_DESKS ≡ 64 }
     ensures slots { MAX_SLOTS ≡ 65536 }
     ensures lane { MAX_LANE ≡ 65536 }
@@ -19,12 +21,13 @@ pub fn limits_stand()
     ensures bytes { MAX_BYTES ≡ 1048576 }
     ensures processes { MAX_PROCESSES ≡ 4096 }
     ensures operations { MAX_OPERATIONS ≡ 65536 }
+    ensures times { MAX_TIMES ≡ 65536 }
     ensures depth { MAX_DEPTH ≡ 8 }
     ensures nesting { MAX_NESTING ≡ 63 }
     ensures name { MAX_NAME ≡ 32 }
 {}
 
-/// The defaults of both formats: 1,024 slots, lanes of 64 letters, and turns of 16. The default of the top version,
+/// The defaults of all formats: 1,024 slots, lanes of 64 letters, and turns of 16. The default of the top version,
 /// 4,294,967,295, is a number in the format's definition.
 pub fn defaults_stand()
     ensures slots { DEFAULT_SLOTS ≡ 1024 }
@@ -50,9 +53,9 @@ pub fn faults_have_places()
     ensures { FaultsHavePlaces }
 {}
 
-/// In every script that is accepted, the number of a process is its place in the text. The script has one process for
-/// each of the text, with as many operations. Each spawn has the number of the process that it spawns, and each process
-/// of the script's list has its own.
+/// In every script that is accepted, as it is written, the number of a process is its place in the text. The script has
+/// one process for each of the text, with as many operations. Each spawn has the number of the process that it spawns, and
+/// each process of the script's list has its own.
 pub fn numbers_are_places()
     ensures { NumbersArePlaces }
 {}
@@ -68,15 +71,25 @@ pub fn operations_read_back()
     ensures { OperationsReadBack }
 {}
 
-/// Every well-formed script is read back from the value that is written of it, and from each text of that value of at
-/// most 1,048,576 bytes. A well-formed script keeps the limits, and each operation names what is in its scope. Its
+/// Every well-formed script is read back, as it is written, from the value that is written of it, and from each text of
+/// that value of at most 1,048,576 bytes. A well-formed script keeps the limits, and each operation names what is in its scope. Its
 /// processes are numbered in the order in which they begin, however deep their spawns nest.
 pub fn scripts_read_back()
     ensures { ScriptsReadBack }
 {}
 
-/// Every script that is accepted is well formed, and is read back from the value that is written of it. So a
-/// well-formed script meets no more conditions than the format has.
+/// Every script that is accepted as it is written is well formed, and is read back from the value that is written of it. So
+/// a well-formed script meets no more conditions than the format has for what is written.
 pub fn accepted_scripts_read_back()
     ensures { AcceptedReadBack }
+{}
+
+/// A script of format 1 or 2 is run as it is written: nothing is written out, and nothing more is refused.
+pub fn old_formats_are_as_written()
+    ensures { OldFormatsAsWritten }
+{}
+
+/// No script that was read has a `Repeat` or an `Again`, in any format: its repeats are written out.
+pub fn accepted_scripts_have_no_repeats()
+    ensures { AcceptedHaveNoRepeats }
 {}

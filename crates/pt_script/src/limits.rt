@@ -7,7 +7,16 @@
 pub const MAX_BYTES: usize = 1_048_576;
 
 /// The last format.
-pub const MAX_FORMAT: u64 = 2;
+pub const MAX_FORMAT: u64 = 3;
+
+/// The format from which on a process can ask whether another is alive.
+pub const ASKING_FORMAT: u8 = 2;
+
+/// The format from which on lists have branches and repeats.
+pub const BLOCKS_FORMAT: u8 = 3;
+
+/// The most rounds of a repeat, and the most tries of a receive.
+pub const MAX_TIMES: u64 = 65_536;
 
 /// The most desks of a script's node.
 pub const MAX_DESKS: usize = 64;

@@ -6,10 +6,11 @@ ghost use Rattle.serde_json.specs.Find.{get};
 ghost use Rattle.serde_json.specs.View.{view};
 ghost use Rattle.pt_script.specs.Members as members;
 ghost use Rattle.pt_script.specs.Operations as spec;
-ghost use Rattle.pt_script.specs.Scopes.{scope_view, can_ask, process_in, tag_in, is_script_digit};
+ghost use Rattle.pt_script.specs.Scopes.{scope_view, can_ask, has_blocks, process_in, tag_in, is_script_digit};
 ghost use Rattle.pt_script.specs.Steps.{ReadingGives};
 
 use crate::fault::Fault;
+use crate::limits::{ASKING_FORMAT, BLOCKS_FORMAT, MAX_TIMES};
 use crate::members::{flag_at, flag_or_false, known, list, signed_at, text, whole_at};
 use crate::names::{Names, is_digit, is_name, is_own_name};
 use crate::values::{Operation, Pattern};
@@ -42,7 +43,14 @@ impl Scope<'_, '_> {
     pub(crate) fn can_ask(&self) -> bool
         ensures { result ≡ can_ask (scope_view self.now) }
     {
-        2 <= self.format
+        ASKING_FORMAT <= self.format
+    }
+
+    /// Whether a list has branches and repeats, and a receive can end after some tries.
+    fn has_blocks(&self) -> bool
+        ensures { result ≡ has_blocks (scope_view self.now) }
+    {
+        BLOCKS_FORMAT <= self.format
     }
 
     /// The number of the tag with this name.
@@ -285,12 +293,37 @@ fn send(scope: &Scope<'_, '_>, value: &Value) -> Result<Operation, Fault>
     Ok(Operation::Send { to, kind, num, who })
 }
 
+/// Fails if the value has a member that no `receive` has. Format 3 knows `after`.
+fn known_receive(scope: &Scope<'_, '_>, value: &Value) -> Result<(), Fault>
+    ensures { result ≡ members.known_members (spec.receive_members (has_blocks (scope_view scope.now))) (view value.now) }
+{
+    if scope.has_blocks() {
+        known(value, &["op", "pick", "after"])
+    } else {
+        known(value, &["op", "pick"])
+    }
+}
+
+/// After how many tries a `receive` waits no longer, if it says so.
+fn tries(member: Option<&Value>) -> Result<Option<u32>, Fault>
+    ensures { result ≡ members.optional_member None spec.tries (option_map (λ v. view v.now) member.entry) }
+{
+    match member {
+        Some(_) => Ok(Some(whole_at(member, 0, MAX_TIMES)? as u32)),
+        None => Ok(None),
+    }
+}
+
 #[tactic(auto, unfolding(crate::specs::Operations::receive))]
 fn receive(scope: &Scope<'_, '_>, value: &Value) -> Result<Operation, Fault>
     ensures { result ≡ spec.receive (scope_view scope.now) (view value.now) }
 {
-    known(value, &["op", "pick"])?;
-    Ok(Operation::Receive(pattern(scope, value.get("pick"))?))
+    known_receive(scope, value)?;
+    let pattern = pattern(scope, value.get("pick"))?;
+    match tries(value.get("after"))? {
+        Some(tries) => Ok(Operation::ReceiveAfter { pattern, tries }),
+        None => Ok(Operation::Receive(pattern)),
+    }
 }
 
 #[tactic(auto, unfolding(crate::specs::Operations::check))]
@@ -361,6 +394,61 @@ fn pass(value: &Value) -> Result<Operation, Fault>
     Ok(Operation::Pass)
 }
 
+#[tactic(auto, unfolding(crate::specs::Operations::branch))]
+fn branch(scope: &Scope<'_, '_>, value: &Value) -> Result<Operation, Fault>
+    ensures { result ≡ spec.branch (scope_view scope.now) (view value.now) }
+{
+    known(value, &["op", "pick"])?;
+    Ok(Operation::If(pattern(scope, value.get("pick"))?))
+}
+
+#[tactic(auto, unfolding(crate::specs::Operations::otherwise))]
+fn otherwise(value: &Value) -> Result<Operation, Fault>
+    ensures { result ≡ spec.otherwise (view value.now) }
+{
+    known(value, &["op"])?;
+    Ok(Operation::Else)
+}
+
+#[tactic(auto, unfolding(crate::specs::Operations::branch_end))]
+fn end(value: &Value) -> Result<Operation, Fault>
+    ensures { result ≡ spec.branch_end (view value.now) }
+{
+    known(value, &["op"])?;
+    Ok(Operation::End)
+}
+
+#[tactic(auto, unfolding(crate::specs::Operations::repeat))]
+fn repeat(value: &Value) -> Result<Operation, Fault>
+    ensures { result ≡ spec.repeat (view value.now) }
+{
+    known(value, &["op", "times"])?;
+    Ok(Operation::Repeat(whole_at(value.get("times"), 1, MAX_TIMES)? as u32))
+}
+
+#[tactic(auto, unfolding(crate::specs::Operations::again))]
+fn again(value: &Value) -> Result<Operation, Fault>
+    ensures { result ≡ spec.again (view value.now) }
+{
+    known(value, &["op"])?;
+    Ok(Operation::Again)
+}
+
+/// An operation that begins or ends a block.
+#[tactic(auto, unfolding(crate::specs::Operations::block_mark))]
+fn block(scope: &Scope<'_, '_>, op: &str, value: &Value) -> Result<Operation, Fault>
+    ensures { result ≡ spec.block_mark (scope_view scope.now) op.now (view value.now) }
+{
+    match op {
+        "if" => branch(scope, value),
+        "else" => otherwise(value),
+        "end" => end(value),
+        "repeat" => repeat(value),
+        "again" => again(value),
+        _ => Err(Fault::Field),
+    }
+}
+
 /// The process that a monitor or an ask is about, and its tag.
 #[tactic(auto, unfolding(crate::specs::Operations::tagged))]
 pub(crate) fn tagged<'a>(scope: &Scope<'_, '_>, value: &'a Value) -> Result<(u32, &'a str), Fault>
@@ -418,6 +506,7 @@ pub(crate) fn plain(scope: &Scope<'_, '_>, op: &str, value: &Value) -> Result<Op
         "exit" => exit(value),
         "signal" => signal(scope, value),
         "pass" => pass(value),
+        _ if scope.has_blocks() => block(scope, op, value),
         _ => Err(Fault::Field),
     }
 }

@@ -131,8 +131,15 @@ fn script_of(alloc: Global, value: &Value) -> Result<Script, ScriptError>
     Ok(Script::new(settings, heads.tops.into_tops(), processes))
 }
 
+/// Reads a script, and writes its repeats out.
+fn unrolled_of(alloc: Global, value: &Value) -> Result<Script, ScriptError>
+    ensures { spec.Reads result (spec.as_run (spec.script (view value.now))) }
+{
+    script_of(alloc, value)?.unrolled(alloc)
+}
+
 impl Script {
-    /// Reads a script from its text. Fails with the first fault in it and its place, or with `Memory` if memory ran out
+    /// Reads a script from its text, and writes its repeats out. Fails with the first fault in it and its place, or with `Memory` if memory ran out
     /// before either was known. The fault is `Bounds` if the text has more than 1,048,576 bytes.
     #[tactic(auto, unfolding(crate::specs::Scripts::reading))]
     pub fn read(alloc: Global, text: &str) -> Result<Script, ScriptError>
@@ -142,7 +149,7 @@ impl Script {
     }
 
     /// Reads a script from bytes, as `read` does. The fault is `Syntax` if the bytes are no UTF-8.
-    #[tactic(auto, unfolding(crate::specs::Scripts::reading))]
+    #[tactic(auto, unfolding(crate::specs::Scripts::as_written, crate::specs::Scripts::reading))]
     pub fn from_bytes(alloc: Global, bytes: &[u8]) -> Result<Script, ScriptError>
         ensures { spec.Reads result (spec.reading bytes.now) }
     {
@@ -150,7 +157,7 @@ impl Script {
             return Err(of_script(Fault::Bounds));
         }
         match Value::from_slice(alloc, bytes) {
-            Ok(value) => script_of(alloc, &value),
+            Ok(value) => unrolled_of(alloc, &value),
             Err(error) => {
                 if error.is_memory() {
                     Err(ScriptError::Memory)

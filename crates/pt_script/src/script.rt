@@ -1,14 +1,19 @@
 //! What a script says.
 
-ghost use Rattle.std.specs.Prelude.{◌≡◌, ◌+◌, ◌≤◌, length};
+ghost use Rattle.std.specs.Prelude.{◌≡◌, ◌+◌, ◌≤◌, length, map};
 ghost use Rattle.pt_signal.specs.Settings.{IsInRange};
 ghost use Rattle.pt_script.specs.Nodes.{config_of};
 ghost use Rattle.pt_script.specs.Sound.{IsSoundScript};
 ghost use Rattle.pt_script.specs.Spreading.{placed, spread};
+ghost use Rattle.pt_script.specs.Scripts.{Reads};
+ghost use Rattle.pt_script.specs.Unrolling.{hurried, hurried_operation, hurried_plan, unrolled};
 
-use crate::limits::MAX_DESKS;
+use crate::fault::ScriptError;
+use crate::limits::{BLOCKS_FORMAT, MAX_DESKS};
+use crate::unrolling::unrolled as write_out;
 use crate::values::{Operation, Settings, Top};
 use pt_signal::Config;
+use std::alloc::Global;
 use std::marker::Model;
 
 /// What a process of a script does.
@@ -46,6 +51,13 @@ impl Process {
         ensures { result.now ≡ self.now.operations }
     {
         self.operations.as_slice()
+    }
+
+    /// Lets it wait for no item for some tries.
+    fn hurry(&mut self)
+        ensures { self.new ≡ hurried_plan self.old }
+    {
+        hurry(self.operations.as_mut_slice());
     }
 }
 
@@ -143,6 +155,54 @@ impl Script {
         place(self.tops.as_mut_slice());
         self.settings.desks = count.max(1) as u8;
         Some(self)
+    }
+
+    /// The script as it is run: each round of a repeat has operations of its own. Formats 1 and 2 have no repeats.
+    pub(crate) fn unrolled(mut self, alloc: Global) -> Result<Script, ScriptError>
+        ensures { Reads result (unrolled self) }
+    {
+        if self.settings.format < BLOCKS_FORMAT {
+            return Ok(self);
+        }
+        self.processes = write_out(alloc, self.processes.as_slice())?;
+        Ok(self)
+    }
+
+    /// The script in which no process waits for some tries: each such receive takes an item, or goes on at once. All else
+    /// is as it was.
+    pub fn hurried(mut self) -> Script
+        ensures { result ≡ hurried self }
+    {
+        hurry_all(self.processes.as_mut_slice());
+        self
+    }
+}
+
+/// Lets no process wait for some tries.
+fn hurry_all(processes: &mut [Process])
+    ensures { processes.new ≡ map hurried_plan processes.old }
+{
+    for number in 0..processes.len() {
+        processes[number].hurry();
+    }
+}
+
+/// Lets no operation wait for some tries.
+fn hurry(operations: &mut [Operation])
+    ensures { operations.new ≡ map hurried_operation operations.old }
+{
+    for place in 0..operations.len() {
+        operations[place] = at_once(operations[place]);
+    }
+}
+
+/// An operation that takes an item or goes on at once, where it waits for some tries.
+fn at_once(operation: Operation) -> Operation
+    ensures { result ≡ hurried_operation operation }
+{
+    match operation {
+        Operation::ReceiveAfter { pattern, .. } => Operation::Check(pattern),
+        other => other,
     }
 }
 

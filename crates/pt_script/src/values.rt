@@ -5,7 +5,8 @@ use pt_signal::Reason;
 /// The settings of a script's node.
 #[derive(Clone, Copy, Debug, PartialEq, Eq)]
 pub struct Settings {
-    /// The script's format, 1 or 2. From 2 on a process can ask whether another is alive.
+    /// The script's format, 1 to 3. From 2 on a process can ask whether another is alive. From 3 on a list can branch and
+    /// repeat, and a receive can end after some tries.
     pub format: u8,
     /// The number of desks of the node, 1 to 64.
     pub desks: u8,
@@ -52,6 +53,21 @@ pub enum Operation {
     Receive(Pattern),
     /// Take an item if there is one.
     Check(Pattern),
+    /// Take an item, and wait for one no longer than so many tries.
+    ReceiveAfter {
+        pattern: Pattern,
+        tries: u32,
+    },
+    /// Do what follows, up to `Else` or `End`, if the item that was taken just before fits. Else go on behind that.
+    If(Pattern),
+    /// Here the operations end that are done if the item fits, and those begin that are done if it does not.
+    Else,
+    /// Here what an `If` began ends.
+    End,
+    /// Do what follows, up to `Again`, so many times. No script that was read has it: its operations are written out.
+    Repeat(u32),
+    /// Here what a `Repeat` began ends. No script that was read has it.
+    Again,
     /// Link with a process.
     Link(u32),
     /// Unlink from a process.

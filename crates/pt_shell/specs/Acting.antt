@@ -16,7 +16,7 @@ use Rattle.pt_node.specs.declared.node_fault.NodeFault.{NodeFault}
 use Rattle.pt_workers.specs.declared.stillness.Rested.{Rested}
 use Rattle.pt_node.specs.Node.{CallsAt, CallsTo, Inside, TurnsAll, TurnsAt}
 use Rattle.pt_workers.specs.Stillness.{AreStill, RunsRounds, StoppedAt}
-use Rattle.pt_lines.specs.declared.call.Act.{Act}
+use Rattle.pt_shell.specs.declared.lines.call.Act.{Act}
 use Rattle.pt_shell.specs.declared.answer.Answer.{Answer}
 
 -- the answer is of this kind, and what it holds is so

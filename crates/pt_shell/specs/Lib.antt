@@ -1,3 +1,12 @@
+pub mod Words
+pub mod Names
+pub mod Numbers
+pub mod Values
+pub mod Settings
+pub mod Arguments
+pub mod Calls
+pub mod Commands
+pub mod Mistakes
 pub mod Text
 pub mod Acting
 pub mod Looking

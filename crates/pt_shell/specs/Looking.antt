@@ -21,7 +21,7 @@ use Rattle.pt_desk.specs.DeskState.{DeskState}
 use Rattle.pt_signal.specs.declared.letter.LeftOver.{LeftOver}
 use Rattle.pt_node.specs.Node.{ReadsAt}
 use Rattle.pt_workers.specs.Stillness.{count_events}
-use Rattle.pt_lines.specs.declared.call.Look.{Look}
+use Rattle.pt_shell.specs.declared.lines.call.Look.{Look}
 use Rattle.pt_shell.specs.declared.answer.Answer.{Answer}
 
 -- the answer is of this kind, and what it holds is so

@@ -15,7 +15,7 @@ use Rattle.pt_accounts.specs.LivesState.{InEveryMerge, AreAllPids, account_in, e
 use Rattle.pt_gathered.specs.Gathered.{GatheredState, begins, journals}
 use Rattle.pt_gathered.specs.LeftOvers.{all_left}
 use Rattle.pt_gathered.specs.Quiet.{QuietState}
-use Rattle.pt_lines.specs.declared.call.Look.{Look}
+use Rattle.pt_shell.specs.declared.lines.call.Look.{Look}
 use Rattle.pt_shell.specs.declared.answer.Answer.{Answer}
 use Rattle.pt_shell.specs.Looking.{IfNumber, IfEvent, IfEvents, IfLetters, IfPids, IfAccount, IfReason, IfTrue, IfIds}
 use Rattle.pt_shell.specs.Looking.{IfItems, IsNotNow, event_in}

@@ -6,13 +6,13 @@ use Rattle.std.specs.Str.{bytes_eq}
 use Rattle.pt_events.specs.declared.event.Event.{Event}
 use Rattle.pt_signal.specs.declared.config.Config.{Config}
 use Rattle.pt_desk.specs.DeskState.{DeskState}
-use Rattle.pt_lines.specs.Names.{Named}
-use Rattle.pt_lines.specs.Words.{Told, joined_words, words_in}
-use Rattle.pt_lines.specs.Commands.{Asked, Nothing, Help, Expect, Makes, asked}
-use Rattle.pt_lines.specs.declared.names.Value.{Value}
-use Rattle.pt_lines.specs.declared.mistake.Mistake.{Mistake}
-use Rattle.pt_lines.specs.declared.call.Call.{Call}
-use Rattle.pt_lines.specs.declared.call.Look.{Look}
+use Rattle.pt_shell.specs.Names.{Named}
+use Rattle.pt_shell.specs.Words.{Told, joined_words, words_in}
+use Rattle.pt_shell.specs.Commands.{Asked, Nothing, Help, Expect, Makes, asked}
+use Rattle.pt_shell.specs.declared.lines.names.Value.{Value}
+use Rattle.pt_shell.specs.declared.lines.mistake.Mistake.{Mistake}
+use Rattle.pt_shell.specs.declared.lines.call.Call.{Call}
+use Rattle.pt_shell.specs.declared.lines.call.Look.{Look}
 use Rattle.pt_shell.specs.declared.answer.Answer.{Answer}
 use Rattle.pt_shell.specs.declared.phase.Phase.{Phase}
 use Rattle.pt_shell.specs.declared.complaint.Complaint.{Complaint}

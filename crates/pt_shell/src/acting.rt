@@ -3,7 +3,7 @@
 ghost use Rattle.pt_shell.specs.Acting.{DoesAct};
 
 use crate::answer::Answer;
-use pt_lines::Act;
+use crate::lines::Act;
 use pt_node::Node;
 
 /// Makes the call.

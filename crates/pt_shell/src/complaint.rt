@@ -1,6 +1,6 @@
 //! Why a line failed.
 
-use pt_lines::Mistake;
+use crate::lines::Mistake;
 
 /// Why a line failed. The session is then as it was.
 #[derive(Clone, Copy, Debug, PartialEq, Eq)]

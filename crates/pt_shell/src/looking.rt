@@ -10,8 +10,8 @@ ghost use Rattle.pt_shell.specs.declared.answer.Answer.TheVariants as answer;
 ghost use Rattle.pt_shell.specs.Looking as spec;
 
 use crate::answer::Answer;
+use crate::lines::Look;
 use pt_events::Stamped;
-use pt_lines::Look;
 use pt_node::Node;
 use pt_signal::{Item, Pid, Ref};
 use std::alloc::Global;

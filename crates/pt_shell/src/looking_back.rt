@@ -7,12 +7,12 @@ ghost use Rattle.pt_shell.specs.LookingBack as spec;
 ghost use Rattle.pt_shell.specs.Stepping.{without_stamps};
 
 use crate::answer::Answer;
+use crate::lines::Look;
 use crate::looking::{find_event, items};
 use pt_accounts::Account;
 use pt_events::{Event, Stamped};
 use pt_gathered::{Gathered, Quiet};
 use pt_judge::{replay, replay_from};
-use pt_lines::Look;
 use pt_signal::{Pid, Reason};
 use std::alloc::{AllocError, Global};
 

@@ -13,13 +13,17 @@
 //! line. Else it ends there, with the status 1. The status is 2 where the words are refused, and 3 where memory or a
 //! file was wanting. `--help` and `--version` print on standard output, with the status 0.
 //!
-//! `pt_lines` says what a line may be. A session (`session`) has at most one node, which is running, gathered, or settled, and
-//! each call is the node's call of that name. `running` reads the lines of a reader and writes each answer.
+//! The module `lines` says what a line may be. A session (`session`) has at most one node, which is running, gathered, or
+//! settled, and each call is the node's call of that name. `running` reads the lines of a reader and writes each answer.
 //!
 //! Tests: `checks/shell` and `checks/rows`.
 //!
 //! # What is proved
 //!
+//! - **Lines.** A line asks for what its definition says: nothing, help, an expectation, or one call with its
+//!   arguments. (`command_of`)
+//! - **Mistakes.** Otherwise the column and the kind of the first mistake are returned.
+//! - **Names.** `Names` finds the value that was last given a name.
 //! - **Answers.** Each call that a line asks for is the node's call, and the text kept is that of its answer. (`hear`)
 //! - **Texts.** The text of each answer is the one that the definitions give. A value has the text that it has everywhere
 //!   else: in histories, in scripts, and in the bindings. (`text_of`)
@@ -34,6 +38,7 @@ mod answer;
 mod bounded;
 mod complaint;
 mod expecting;
+mod lines;
 mod looking;
 mod looking_back;
 mod parts;

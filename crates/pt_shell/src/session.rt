@@ -2,8 +2,8 @@
 
 ghost use Rattle.std.specs.Prelude.{◌≡◌, ◌≢◌, [], map, Err, OnOk};
 ghost use Rattle.std.specs.Option.{option_map};
-ghost use Rattle.pt_lines.specs.Commands.{asked_by};
-ghost use Rattle.pt_lines.specs.Words.{told_word};
+ghost use Rattle.pt_shell.specs.Commands.{asked_by};
+ghost use Rattle.pt_shell.specs.Words.{told_word};
 ghost use Rattle.pt_shell.specs.Acting.{DoesAct};
 ghost use Rattle.pt_shell.specs.Sessions as spec;
 ghost use Rattle.pt_shell.specs.Sessions.{seen_session};
@@ -14,13 +14,13 @@ use crate::acting::act;
 use crate::answer::Answer;
 use crate::complaint::{Complaint, State};
 use crate::expecting::line_at;
+use crate::lines::{Act, Call, Command, Look, Names, Value, Word, command_of, joined, words_of};
 use crate::looking::look_at_node;
 use crate::looking_back::{look_at_gathered, look_at_quiet};
 use crate::phase::Phase;
 use crate::stepping::{gather, open, resume, settle};
 use crate::text::{help_text, text_of};
 use pt_events::Event;
-use pt_lines::{Act, Call, Command, Look, Names, Value, Word, command_of, joined, words_of};
 use pt_shard::Config;
 use std::alloc::{AllocError, Global};
 

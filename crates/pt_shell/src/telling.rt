@@ -1,8 +1,8 @@
 //! The message about a line that failed.
 
 use crate::complaint::{Complaint, State};
+use crate::lines::{Mistake, Why};
 use crate::session::{Session, next_line};
-use pt_lines::{Mistake, Why};
 use std::io;
 use std::io::Write;
 

@@ -7,13 +7,13 @@ ghost use Rattle.pt_shell.specs.Text as spec;
 ghost use Rattle.pt_signal.specs.Text.{true_or_false_text};
 
 use crate::answer::Answer;
+use crate::lines::CALLS;
 use crate::parts::{Contradiction, Count, Counts, Then, ThenAt, Turns, word_of_stop};
 use pt_accounts::Account;
 use pt_desk::Turned;
 use pt_events::Stamped;
 use pt_gathered::LeftOver;
 use pt_judge::Cause;
-use pt_lines::CALLS;
 use pt_node::{NodeFault, Stopped};
 use pt_shard::{Fault, OpenError, Setting, Stop};
 use pt_signal::{Ids, Item, Pid, Reason, Ref};

@@ -4,8 +4,8 @@ ghost use Rattle.pt_desk.specs.DeskState.{GoesOn};
 
 use crate::board::DESKS;
 use pt_behaviour::send;
+use pt_epochs::{Bells, Door, Porter, Post, RestGate, RestingWork, Rests, way_in};
 use pt_node::{Body, Config, Desk, Item, Node, Pick, Pid, Turned, Work};
-use pt_resting::{Bells, Door, Porter, Post, RestGate, RestingWork, Rests, way_in};
 use std::alloc::Global;
 use std::process::Abort;
 use std::sync::Wait;

@@ -2,9 +2,10 @@
 //! takes it. The values of messages stay with the others that the process has not taken.
 
 use super::behaviour::Event;
-use super::payloads::Values;
+use super::payloads::{Values, drop_quietly};
 use super::selection::Wanted;
 use super::{ANSWER, OVER};
+use crate::crew::Crew;
 use crate::{Body, Item, Pid, Ref};
 use std::collections::VecDeque;
 use std::sync::Arc;
@@ -25,11 +26,28 @@ pub(crate) struct Held<M> {
 /// The item that a handler is told now.
 #[derive(Clone, Copy)]
 pub(crate) struct Told<'a> {
-    pub(crate) item: &'a Item,
+    pub(crate) item: Telling<'a>,
     /// Its number, if it has one already.
     pub(crate) age: Option<u64>,
     /// Whether the library has picked it out of what waits, so that older items may wait.
     pub(crate) is_picked: bool,
+}
+
+/// Where the item is that a handler is told now.
+#[derive(Clone, Copy)]
+pub(crate) enum Telling<'a> {
+    Item(&'a Item),
+    /// In the job in this place of those that the crew has handed out last.
+    Job(usize),
+}
+
+impl Told<'_> {
+    pub(crate) fn item(&self, crew: &Crew) -> Item {
+        match self.item {
+            Telling::Item(item) => *item,
+            Telling::Job(place) => crew.item_of(place),
+        }
+    }
 }
 
 /// Who has sent an item, or of whom it tells.
@@ -115,8 +133,8 @@ impl<M> Aside<M> {
     }
 
     /// Keeps what the handler is told now, in its place, until the process retries it.
-    pub(crate) fn postpone(&mut self, told: Told<'_>, event: Event<M>, values: &Values<M>) {
-        self.row().postpone(told, event, values);
+    pub(crate) fn postpone(&mut self, age: Option<u64>, item: Item, event: Event<M>, values: &Values<M>) {
+        self.row().postpone(age, item, event, values);
     }
 
     /// All that was postponed may be taken.
@@ -144,6 +162,13 @@ impl<M> Aside<M> {
     }
 }
 
+impl<M> Drop for Row<M> {
+    /// The process has exited: what it had postponed is dropped, one by one, as some of it may panic by that.
+    fn drop(&mut self) {
+        self.held.drain(..).for_each(drop_quietly);
+    }
+}
+
 impl<M> Row<M> {
     /// The number of the item that the library has just handed out.
     fn count(&mut self) -> u64 {
@@ -162,8 +187,8 @@ impl<M> Row<M> {
         found.is_some()
     }
 
-    fn postpone(&mut self, Told { age, item, .. }: Told<'_>, event: Event<M>, values: &Values<M>) {
-        let (age, item) = (age.unwrap_or_else(|| self.count()), *item);
+    fn postpone(&mut self, age: Option<u64>, item: Item, event: Event<M>, values: &Values<M>) {
+        let age = age.unwrap_or_else(|| self.count());
         let event = match (event, item) {
             (Event::Message(message), Item::User(_, Body { num, .. })) => {
                 values.put_back(num, message);

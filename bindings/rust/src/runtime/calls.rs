@@ -8,6 +8,7 @@ use super::payloads::{Given, Slot};
 use super::timing::Key;
 use crate::{Fault, Pid, Reason, Ref};
 use std::any::Any;
+use std::cell::Cell;
 use std::fmt;
 use std::marker::PhantomData;
 use std::sync::Arc;
@@ -82,6 +83,31 @@ impl<R> fmt::Debug for Call<R> {
     }
 }
 
+thread_local! {
+    /// The empty box of an answer that was taken on this thread, for the next one. (most are of the type of the one before)
+    static SPARE: Cell<Option<Box<dyn Any + Send>>> = const { Cell::new(None) };
+}
+
+/// How many bytes such a box has at most.
+const MOST_SPARE: usize = 256;
+
+/// An answer, as a value whose type is not known.
+fn boxed<R: Send + 'static>(answer: R) -> Box<dyn Any + Send> {
+    let mut spare = SPARE.try_with(Cell::take).ok().flatten();
+    match spare.as_mut().and_then(|spare| spare.downcast_mut::<Option<R>>()) {
+        Some(place) => *place = Some(answer),
+        None => return Box::new(Some(answer)),
+    }
+    spare.expect("the box")
+}
+
+/// Keeps the box of an answer that was taken out of it.
+fn keep_spare(spare: Box<dyn Any + Send>) {
+    if size_of_val(&*spare) <= MOST_SPARE {
+        let _ = SPARE.try_with(|kept| kept.set(Some(spare)));
+    }
+}
+
 /// How a call ended.
 #[derive(Debug)]
 pub struct Answer {
@@ -107,10 +133,13 @@ impl Answer {
             return Err(Answer { number, given });
         }
         match given {
-            Ok(value) => match value.downcast() {
-                Ok(value) => Ok(Ok(*value)),
+            Ok(mut value) => match value.downcast_mut().and_then(Option::take) {
+                Some(answer) => {
+                    keep_spare(value);
+                    Ok(Ok(answer))
+                }
                 // (the number of a call of another process)
-                Err(value) => Err(Answer { number, given: Ok(value) }),
+                None => Err(Answer { number, given: Ok(value) }),
             },
             Err(fault) => Ok(Err(fault)),
         }
@@ -147,10 +176,7 @@ impl<R: Send + 'static> Reply<R> {
     /// Puts the value where the client finds it, and returns whom to tell, if that is a process that has not exited.
     pub(crate) fn put(&mut self, value: R) -> Option<(Arc<dyn Slot>, Arc<Hub>, i64)> {
         match self.to.take()? {
-            To::Process { slot, hub, call } => {
-                let value: Box<dyn Any + Send> = Box::new(value);
-                slot.put_answer(call, Ok(value)).then_some((slot, hub, call))
-            }
+            To::Process { slot, hub, call } => slot.put_answer(call, Ok(boxed(value))).then_some((slot, hub, call)),
             To::Outside(asked) => {
                 asked.end(Ok(value));
                 None

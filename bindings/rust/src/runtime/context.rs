@@ -82,11 +82,11 @@ impl<M: Send + 'static> Context<'_, M> {
     /// Sends a message when so much time has gone by: Erlang's `send_after`. The desk sends it, not this process, so it
     /// comes also if this one has exited.
     pub fn send_after<N: Send + 'static>(&mut self, time: Duration, to: &Address<N>, message: N) -> Timer {
-        let (at, to) = (self.worker.after(time), to.clone());
+        let to = to.clone();
         let alarm = move |worker: &mut Worker| {
             worker.send(worker.porter, &to, message);
         };
-        let key = self.worker.set_alarm(at, Alarm::Do(Box::new(alarm))).ok();
+        let key = self.worker.set_alarm(time, Alarm::Do(Box::new(alarm))).ok();
         Timer { run: self.worker.hub.run, desk: self.worker.number, key }
     }
 
@@ -261,8 +261,8 @@ impl<M: Send + 'static> Context<'_, M> {
         let server = Target::from(to).pid_in(&self.worker.hub)?;
         let monitor = if to.mailbox.is_open() { self.monitor_living(server)? } else { None };
         let Some(monitor) = monitor else { return self.call_gone(server.shard) };
-        let (at, number) = (self.worker.after(limit), number_of(monitor));
-        let alarm = self.worker.set_alarm(at, Alarm::Over(self.own.me.pid(), number));
+        let number = number_of(monitor);
+        let alarm = self.worker.set_alarm(limit, Alarm::Over(self.own.me.pid(), number));
         let alarm = alarm.inspect_err(|_| demonitor(self.worker, &self.own.me, monitor))?;
         let (call, reply) = self.open(number, to.pid().shard, Some(monitor), Some(alarm));
         self.send(to, ask(reply));
@@ -277,10 +277,11 @@ impl<M: Send + 'static> Context<'_, M> {
     /// before.
     pub fn postpone(&mut self, event: Event<M>) -> bool {
         let Some(told) = self.told.take() else { return false };
+        let item = told.item(&self.worker.crew);
         if told.is_picked {
-            keep_older(self.worker, self.own, told.item);
+            keep_older(self.worker, self.own, &item);
         }
-        self.own.aside.postpone(told, event, &self.own.me.mailbox);
+        self.own.aside.postpone(told.age, item, event, &self.own.me.mailbox);
         self.own.me.look_at_bound();
         true
     }

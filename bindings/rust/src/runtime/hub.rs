@@ -137,8 +137,9 @@ impl Hub {
         self.next_desk.fetch_add(1, SeqCst) % self.places.len()
     }
 
+    /// Has each thread look for what is seldom there: an order, a meeting. (one that is at work would look at its steps alone)
     pub(crate) fn ring_all(&self) {
-        self.places.iter().for_each(|place| place.ring());
+        self.places.iter().for_each(|place| place.ring_surely());
     }
 
     /// Wakes the desks to which one has posted, a bit for each, and those that wait for room in a lane, if one has made some.

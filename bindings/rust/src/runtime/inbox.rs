@@ -170,8 +170,9 @@ impl Place {
         }
     }
 
+    /// The same, and it looks for all that is seldom there.
     #[cold]
-    fn ring_surely(&self) {
+    pub(crate) fn ring_surely(&self) {
         self.rung.store(true, SeqCst);
         if self.resting.load(SeqCst) {
             // (so the thread waits for the bell, or does not rest any more)
@@ -328,15 +329,15 @@ impl Place {
     }
 
     pub(crate) fn runs(&self, pid: Option<Pid>) {
-        // (a slot has 16 bits)
-        let word = pid.map_or(0, |pid| u64::from(pid.slot) << 32 | u64::from(pid.version));
+        // (no process has the version 0)
+        let word = pid.map_or(0, |pid| u64::from(pid.version) << 32 | u64::from(pid.slot));
         // (what is told of it need not be in the order of anything else)
         self.running.store(word, Release);
     }
 
     pub(crate) fn running(&self, shard: u8) -> Option<Pid> {
         let word = self.running.load(Acquire);
-        (word != 0).then_some(Pid { shard, slot: (word >> 32) as u32, version: word as u32 })
+        (word != 0).then_some(Pid { shard, slot: word as u32, version: (word >> 32) as u32 })
     }
 }
 

@@ -143,7 +143,7 @@ impl Paces {
         let worker = &mut self.worker;
         match pace {
             Pace::Task => !self.taken.is_empty() || worker.place().tasks() > 0,
-            Pace::Alarm => worker.alarms.next().is_some_and(|at| at <= worker.hub.now()) || is_told(worker),
+            Pace::Alarm => worker.next_alarm().is_some_and(|at| at <= worker.hub.now()) || is_told(worker),
             // (a desk in which no letter waits is asked no more)
             Pace::Post => !self.is_short && worker.desk().pending() != 0 && worker.desk().letters_out() != 0,
             Pace::Letter(_) => {
@@ -213,7 +213,7 @@ impl Paces {
 
     /// The earliest time at which something is to be done.
     pub(crate) fn next_time(&mut self) -> Option<u64> {
-        [self.worker.crew.next_time(), self.worker.alarms.next()].into_iter().flatten().min()
+        [self.worker.crew.next_time(), self.worker.next_alarm()].into_iter().flatten().min()
     }
 
     /// Takes a pace.

@@ -24,7 +24,7 @@ use std::sync::{Arc, Mutex, MutexGuard, PoisonError};
 /// The texts of panics, each with the epoch in which it was put.
 type Panics = HashMap<News, (u64, Arc<str>)>;
 
-/// What a call was answered, whatever its type.
+/// What a call was answered, whatever its type: an option of that is in the box.
 pub(crate) type Given = Result<Box<dyn Any + Send>, CallFault>;
 
 /// The news of an exit, by which the text of a panic is found.
@@ -130,6 +130,8 @@ pub(crate) trait Slot: Send + Sync {
     fn put_answer(&self, call: i64, given: Given) -> bool;
     /// Puts the text of a panic in this epoch beside the news of it.
     fn put_panic(&self, news: News, text: Arc<str>, epoch: u64);
+    /// Whether there is the text of a panic beside some news.
+    fn has_panics(&self) -> bool;
     /// Drops the texts that were put before this epoch, beside all other news than these.
     fn keep_panics(&self, epoch: u64, of: &dyn Fn(&News) -> bool);
     /// How many messages it has not taken.
@@ -328,6 +330,11 @@ impl<M: Send + 'static> Slot for Values<M> {
             kept.beside().panics.insert(news, (epoch, text));
             self.has_panics.store(true, SeqCst);
         }
+    }
+
+    fn has_panics(&self) -> bool {
+        let has = |kept: &Kept<M>| kept.beside.as_ref().is_some_and(|beside| !beside.panics.is_empty());
+        self.has_panics.load(SeqCst) && self.lock().as_ref().is_some_and(has)
     }
 
     fn keep_panics(&self, epoch: u64, of: &dyn Fn(&News) -> bool) {

@@ -1,7 +1,7 @@
 //! A process with its behaviour, whatever the type of that is.
 
 use super::address::Address;
-use super::aside::{Aside, Held, Told, older};
+use super::aside::{Aside, Held, Telling, Told, older};
 use super::behaviour::{self, Behaviour, Bound, Down, Event, Exit};
 use super::calls::{Answer, CallFault, Calls, number_of};
 use super::context::{Context, demonitor};
@@ -25,8 +25,10 @@ pub(crate) trait Actor: Send {
     fn told(&mut self, worker: &mut Worker, what: &What) -> Option<Next>;
     /// The same of one that begins.
     fn starts(&mut self, worker: &mut Worker) -> Option<Next>;
-    /// The same of this item, which is a letter mostly.
-    fn letter(&mut self, worker: &mut Worker, item: &Item) -> Option<Next>;
+    /// The same of the letter of the job in this place, which has this kind and this number.
+    fn letter(&mut self, worker: &mut Worker, place: usize, kind: u32, num: i64) -> Option<Next>;
+    /// The same of this item.
+    fn item(&mut self, worker: &mut Worker, item: &Item) -> Option<Next>;
     /// It has exited.
     fn ended(self: Box<Self>, worker: &mut Worker, why: Reason);
     /// Whether it is a supervisor.
@@ -89,22 +91,37 @@ impl<B: Behaviour> Process<B> {
         self.does(next)
     }
 
+    /// Is told the answer of a call, by the letter of the job in this place. (what waits for whatever comes needs no more)
+    #[inline(never)]
+    fn answered(&mut self, worker: &mut Worker, place: usize, number: i64) -> Option<Next> {
+        let Some(answer) = self.answer_of(worker, number) else { return Some(self.next) };
+        let told = Some(Told { item: Telling::Job(place), age: None, is_picked: false });
+        self.run(worker, told, |behaviour, cx| behaviour.handle(cx, Event::Answer(answer)))
+    }
+
+    /// The answer of a call, which ends with that. `None` if it had ended.
+    #[inline(always)]
+    fn answer_of(&mut self, worker: &mut Worker, number: i64) -> Option<Answer> {
+        let given = self.own.me.mailbox.take_answer(number)?;
+        self.close(worker, number).then_some(Answer { number, given })
+    }
+
     /// Is told a letter, which may be an answer. (what waits for whatever comes needs no more than what the item is to it)
     #[inline(never)]
     fn letter_of_others(&mut self, worker: &mut Worker, item: &Item) -> Option<Next> {
         if !self.waits {
-            return self.item(worker, item);
+            return self.item_told(worker, item);
         }
         let Some(event) = self.event_of(worker, item, None) else { return Some(self.next) };
-        let told = Some(Told { item, age: None, is_picked: false });
+        let told = Some(Told { item: Telling::Item(item), age: None, is_picked: false });
         self.run(worker, told, |behaviour, cx| behaviour.handle(cx, event))
     }
 
     /// Is told an item that the library has handed out.
-    fn item(&mut self, worker: &mut Worker, item: &Item) -> Option<Next> {
+    fn item_told(&mut self, worker: &mut Worker, item: &Item) -> Option<Next> {
         let panic = news_of(item).and_then(|news| self.own.me.mailbox.take_panic(news));
         let Some(item) = self.own.gone.name(worker.porter, item) else { return Some(self.next) };
-        let told = Some(Told { item: &item, age: None, is_picked: self.picks() });
+        let told = Some(Told { item: Telling::Item(&item), age: None, is_picked: self.picks() });
         match self.event_from_table(worker, &item, panic) {
             Some(event) => self.run(worker, told, |behaviour, cx| behaviour.handle(cx, event)),
             None => Some(self.next),
@@ -158,10 +175,7 @@ impl<B: Behaviour> Process<B> {
     /// an answer that comes too late.
     fn event_of(&mut self, worker: &mut Worker, item: &Item, panic: Option<Arc<str>>) -> Option<Event<B::Message>> {
         match *item {
-            Item::User(_, Body { kind: ANSWER, num: number, .. }) => {
-                let given = self.own.me.mailbox.take_answer(number)?;
-                self.close(worker, number).then_some(Event::Answer(Answer { number, given }))
-            }
+            Item::User(_, Body { kind: ANSWER, num: number, .. }) => self.answer_of(worker, number).map(Event::Answer),
             Item::User(_, Body { kind: OVER, num: number, .. }) => {
                 let given = Err(CallFault::Timeout(self.holder(worker, number)));
                 self.close(worker, number).then_some(Event::Answer(Answer { number, given }))
@@ -256,11 +270,11 @@ impl<B: Behaviour> Actor for Process<B> {
         let (held, told, event);
         match what {
             What::Start(_) | What::Exit(..) => return self.starts(worker),
-            What::Item(item) => return self.item(worker, item),
+            What::Item(item) => return self.item_told(worker, item),
             What::Proceed if mem::take(&mut self.takes_aside) => {
                 let Some((of, item, age)) = self.event_from_aside(worker) else { return Some(self.next) };
                 held = item;
-                (told, event) = (Some(Told { item: &held, age: Some(age), is_picked: false }), of);
+                (told, event) = (Some(Told { item: Telling::Item(&held), age: Some(age), is_picked: false }), of);
             }
             What::Proceed => (told, event) = (None, Event::Proceed),
             What::Timeout => (told, event) = (None, Event::Timeout),
@@ -272,15 +286,22 @@ impl<B: Behaviour> Actor for Process<B> {
         self.run(worker, None, Behaviour::started)
     }
 
-    fn letter(&mut self, worker: &mut Worker, item: &Item) -> Option<Next> {
-        let Item::User(_, Body { kind, num, .. }) = *item else { return self.item(worker, item) };
+    fn letter(&mut self, worker: &mut Worker, place: usize, kind: u32, num: i64) -> Option<Next> {
         if self.waits && is_message(kind) {
             if let Some(message) = self.own.me.mailbox.take_here(num) {
-                let told = Some(Told { item, age: None, is_picked: false });
+                let told = Some(Told { item: Telling::Job(place), age: None, is_picked: false });
                 return self.run(worker, told, |behaviour, cx| behaviour.handle(cx, Event::Message(message)));
             }
         }
-        self.letter_of_others(worker, item)
+        if self.waits && kind == ANSWER {
+            return self.answered(worker, place, num);
+        }
+        let item = worker.crew.item_of(place);
+        self.letter_of_others(worker, &item)
+    }
+
+    fn item(&mut self, worker: &mut Worker, item: &Item) -> Option<Next> {
+        if matches!(item, Item::User(..)) { self.letter_of_others(worker, item) } else { self.item_told(worker, item) }
     }
 
     fn ended(self: Box<Self>, worker: &mut Worker, why: Reason) {

@@ -167,6 +167,7 @@ impl Worker {
         let pid = self.noted(spawned)?;
         self.hub.alive.fetch_add(1, SeqCst);
         self.supervisions.insert(pid, Supervision::new(front, spec.strategy, mem::take(children)));
+        (self.looks, self.is_timed) = (true, true);
         self.may_want(pid);
         Ok(pid)
     }
@@ -211,7 +212,7 @@ impl Worker {
     /// A supervisor has exited, and with it the process in front.
     pub(crate) fn supervisor_left(&mut self, pid: Pid, why: Reason) {
         let Some(mut supervision) = self.supervisions.remove(&pid) else { return };
-        self.hub.alive.fetch_sub(1, SeqCst);
+        self.one_less();
         self.lose_children(&supervision);
         supervision.children.values_mut().for_each(|child| child.gone(why));
         self.exit_front(supervision.front, why);

@@ -2,10 +2,11 @@
 //! beside them.
 
 use super::OVER;
-use super::payloads::quietly;
+use super::hub::micros;
+use super::payloads::{drop_quietly, quietly};
 use super::worker::Worker;
 use crate::{Fault, Fired, Pid, Timers, tools};
-use std::mem;
+use std::time::Duration;
 
 /// A message that is to be sent later: what [`Context::cancel`](super::Context::cancel) takes.
 #[derive(Clone, Copy, Debug, PartialEq, Eq, Hash)]
@@ -50,6 +51,8 @@ pub(crate) struct Alarms {
     /// Those that the library does not have yet, with their times, in the order in which they were set. It gets them before it
     /// is asked for anything. (most are those of calls, which are cancelled before)
     new: Vec<(u64, Key)>,
+    /// How many of these have a time. The others have how long it is from when the clock is read next: so none is early.
+    dated: usize,
     /// The number of the last one.
     last: u64,
     /// None is due before this time. (it is asked in each step, and a timer of a call is mostly cancelled)
@@ -59,14 +62,11 @@ pub(crate) struct Alarms {
 impl Alarms {
     pub(crate) fn new() -> Result<Alarms, Fault> {
         let (timers, waiting, free, new) = (Timers::new()?, Vec::new(), Vec::new(), Vec::new());
-        Ok(Alarms { timers, waiting, free, new, last: 0, none_before: u64::MAX })
+        Ok(Alarms { timers, waiting, free, new, dated: 0, last: 0, none_before: u64::MAX })
     }
 
-    /// Sets an alarm. It fails if there is no memory for those that were set before.
-    fn set(&mut self, at: u64, what: Alarm) -> Result<Key, Fault> {
-        if self.new.len() >= MOST_NEW {
-            self.enter()?;
-        }
+    /// Sets an alarm, which is so long after the clock is read next.
+    fn set(&mut self, after: u64, what: Alarm) -> Key {
         self.last += 1;
         let (number, place) = (self.last, self.free.pop().unwrap_or(self.waiting.len()));
         let (waiting, key) = (Some(Waiting { number, what, timer: None }), Key { number, place });
@@ -74,27 +74,43 @@ impl Alarms {
             Some(free) => *free = waiting,
             None => self.waiting.push(waiting),
         }
-        self.new.push((at, key));
-        self.none_before = self.none_before.min(at);
-        Ok(key)
+        self.new.push((after, key));
+        key
     }
 
-    /// Gives the library those that it does not have.
+    /// Whether some have no time yet.
+    #[inline]
+    pub(crate) fn has_undated(&self) -> bool {
+        self.dated < self.new.len()
+    }
+
+    /// The clock was read: those that have no time get one.
+    pub(crate) fn date(&mut self, now: u64) {
+        for (time, _) in &mut self.new[self.dated..] {
+            *time = now.saturating_add(*time).saturating_add(1);
+            self.none_before = self.none_before.min(*time);
+        }
+        self.dated = self.new.len();
+    }
+
+    /// Gives the library those that it does not have and that have a time.
     fn enter(&mut self) -> Result<(), Fault> {
-        let new = mem::take(&mut self.new);
-        for (count, &(at, Key { number, place })) in new.iter().enumerate() {
-            let Some(waiting) = self.waiting[place].as_mut().filter(|it| it.number == number) else { continue };
-            match self.timers.start(at, place as u64) {
-                Ok(timer) => waiting.timer = Some(timer),
-                Err(fault) => {
-                    self.new = new[count..].to_vec();
-                    return Err(fault);
+        let (mut count, mut entered) = (0, Ok(()));
+        for &(at, Key { number, place }) in &self.new[..self.dated] {
+            if let Some(waiting) = self.waiting[place].as_mut().filter(|it| it.number == number) {
+                match self.timers.start(at, place as u64) {
+                    Ok(timer) => waiting.timer = Some(timer),
+                    Err(fault) => {
+                        entered = Err(fault);
+                        break;
+                    }
                 }
             }
+            count += 1;
         }
-        self.new = new;
-        self.new.clear();
-        Ok(())
+        self.new.drain(..count);
+        self.dated -= count;
+        entered
     }
 
     fn take(&mut self, place: usize) -> Option<Waiting> {
@@ -119,20 +135,22 @@ impl Alarms {
             self.new.clear();
             self.none_before = u64::MAX;
         }
+        self.dated = self.dated.min(self.new.len());
         true
     }
 
     /// Whether there may be one. (else the clock need not be read)
+    #[inline]
     pub(crate) fn any(&self) -> bool {
-        self.none_before != u64::MAX
+        self.none_before != u64::MAX || self.has_undated()
     }
 
-    /// The time of the earliest.
+    /// The time of the earliest that has one.
     pub(crate) fn next(&mut self) -> Option<u64> {
         match self.enter() {
             Ok(()) => self.timers.next(),
             // (without memory those that the library does not have are looked through)
-            Err(_) => self.timers.next().into_iter().chain(self.new.iter().map(|&(at, _)| at)).min(),
+            Err(_) => self.timers.next().into_iter().chain(self.new[..self.dated].iter().map(|&(at, _)| at)).min(),
         }
     }
 
@@ -153,14 +171,29 @@ impl Alarms {
     }
 }
 
+impl Drop for Alarms {
+    /// The run is over: what was to be sent is dropped, value by value, as some may panic by that.
+    fn drop(&mut self) {
+        self.waiting.drain(..).for_each(drop_quietly);
+    }
+}
+
 impl Worker {
-    /// Sets an alarm. If there is no memory for it, the run halts.
-    pub(crate) fn set_alarm(&mut self, at: u64, alarm: Alarm) -> Result<Key, Fault> {
-        let set = self.alarms.set(at, alarm);
-        self.noted(set)
+    /// Sets an alarm, which goes off when so much has gone by, at the earliest. If there is no memory for those that were set
+    /// before, the run halts.
+    pub(crate) fn set_alarm(&mut self, time: Duration, alarm: Alarm) -> Result<Key, Fault> {
+        if self.alarms.new.len() >= MOST_NEW {
+            self.read_clock();
+            let entered = self.alarms.enter();
+            self.noted(entered)?;
+        }
+        let key = self.alarms.set(micros(time), alarm);
+        self.alarm_set();
+        Ok(key)
     }
 
     /// Does what was to be done by this time.
+    #[inline(always)]
     pub(crate) fn go_off(&mut self, now: u64) -> bool {
         let mut some = false;
         while self.go_off_one(now) {
@@ -190,21 +223,35 @@ mod tests {
     #[test]
     fn alarms_go_off_as_those_of_a_list() {
         let (mut alarms, mut list, mut seed, mut now) = (Alarms::new().expect("memory"), Vec::new(), 7_u64, 0);
+        // (those that were set since the clock was read)
+        let mut undated = Vec::new();
         for step in 0_i64..20_000 {
             seed = seed.wrapping_mul(6_364_136_223_846_793_005).wrapping_add(1);
             let number = (seed >> 33) as usize;
             match seed >> 60 {
                 0..=6 => {
-                    let at = now + (number % 50) as u64;
-                    let key = alarms.set(at, Alarm::Over(Pid::default(), step)).expect("memory");
-                    list.push((at, step, key));
+                    if alarms.new.len() >= MOST_NEW {
+                        alarms.date(now);
+                        list.append(&mut undated);
+                        alarms.enter().expect("memory");
+                    }
+                    let after = (number % 50) as u64;
+                    let key = alarms.set(after, Alarm::Over(Pid::default(), step));
+                    undated.push((now + after + 1, step, key));
                 }
-                7..=11 if !list.is_empty() => {
+                7..=9 if !list.is_empty() => {
                     let (_, _, key) = list.remove(number % list.len());
+                    assert!(alarms.cancel(key) && !alarms.cancel(key));
+                }
+                10..=11 if !undated.is_empty() => {
+                    let (_, _, key) = undated.remove(number % undated.len());
                     assert!(alarms.cancel(key) && !alarms.cancel(key));
                 }
                 12 => assert_eq!(alarms.next(), list.iter().map(|(at, ..)| *at).min()),
                 _ => {
+                    // (time goes by only once the clock was read, so that the list knows the times)
+                    alarms.date(now);
+                    list.append(&mut undated);
                     now += (number % 8) as u64;
                     let first = (0..list.len()).min_by_key(|&place| (list[place].0, list[place].1));
                     let first = first.filter(|&place| list[place].0 <= now).map(|place| list.remove(place));
@@ -215,7 +262,9 @@ mod tests {
                 }
             }
             assert!(list.iter().all(|(at, ..)| alarms.any() && alarms.none_before <= *at));
-            assert!(alarms.new.len() <= MOST_NEW && alarms.waiting.len() - alarms.free.len() == list.len());
+            assert!(undated.is_empty() || alarms.any() && alarms.has_undated());
+            let count = list.len() + undated.len();
+            assert!(alarms.new.len() <= MOST_NEW && alarms.waiting.len() - alarms.free.len() == count);
         }
     }
 }

@@ -5,7 +5,7 @@ use super::address::Address;
 use super::asked::tell_dropped;
 use super::behaviour::{Behaviour, Bound};
 use super::elsewhere::Sent;
-use super::hub::{END, GO_ON, Hub, KILL, Origin, micros};
+use super::hub::{END, GO_ON, Hub, KILL, Origin};
 use super::inbox::{Place, Task};
 use super::observing::Record;
 use super::payloads::{News, Values, drop_quietly, quietly};
@@ -20,7 +20,7 @@ use std::collections::HashMap;
 use std::panic::{AssertUnwindSafe, catch_unwind};
 use std::sync::Arc;
 use std::sync::atomic::Ordering::SeqCst;
-use std::time::{Duration, Instant};
+use std::time::Instant;
 
 /// How many letters a turn handles at most, and how many jobs a step has.
 const BUDGET: u32 = 256;
@@ -28,8 +28,12 @@ pub(super) const MOST: usize = 256;
 /// After how many rounds at most a thread looks for what is seldom there, and how long a journal may be at least for that.
 const ROUNDS: u32 = 8;
 const LONG: usize = 4_096;
-/// For how many rounds a reading of the clock serves a thread that does not rest meanwhile.
-const SERVES: u32 = 2;
+/// For how many jobs at most a reading of the clock serves a thread that does not rest meanwhile, and as how many a round counts
+/// besides.
+const SERVES: usize = 64;
+const ROUND: usize = 8;
+/// For how long it should serve at most, in microseconds. (where jobs take longer, the clock is read in each round)
+const STALE: u64 = 5_000;
 
 /// The tag of a supervisor that the library runs.
 pub(crate) const SUPERVISOR: u64 = 1 << 62;
@@ -94,6 +98,8 @@ pub(super) struct Seat {
 pub(crate) struct Worker {
     pub(crate) hub: Arc<Hub>,
     pub(crate) number: u8,
+    /// Whether the node has other desks.
+    has_others: bool,
     /// The place of the desk, which is among those of the hub.
     home: Arc<Place>,
     /// The process in whose name things are sent from outside.
@@ -125,18 +131,27 @@ pub(crate) struct Worker {
     /// The order that all processes were told.
     pub(super) told: u8,
     pub(super) fault: Option<Fault>,
-    /// How many rounds there were since it has looked for what is seldom there, and after how many it does.
+    /// After how many more rounds it looks for what is seldom there, and how many these are at most.
     rounds: u32,
     most_rounds: u32,
-    /// Whether the last step came to all who had something to do.
-    whole: bool,
+    /// How many jobs the last step had. If these are as many as a step has at most, there may be more.
+    told_last: usize,
+    /// Whether a process has exited of which the crew has not told, and whether none is to do so before the threads meet.
+    has_left: bool,
+    meets: bool,
     /// Whether the desk is that of a node that has just gone on.
     pub(super) resumed: bool,
+    /// Whether a round is to do more than its step. (else it looks for nothing else, unless it was rung)
+    pub(super) looks: bool,
+    /// Whether anything may be to do at a time.
+    pub(super) is_timed: bool,
     /// Whether a process may wait until a time. (else the crew need not be told what time it is)
     timed: bool,
-    /// What the clock said as it was read last, and for how many rounds more that is what time it is.
+    /// What the clock said as it was read last, and for how many jobs more that is what time it is.
     read: u64,
-    serves: u32,
+    serves: usize,
+    /// For how many jobs that reading served from the first: fewer where they take long.
+    most_serves: usize,
     /// The exits of which the losses tell that were taken since the last step, in order, and the place of the next one that is
     /// asked for.
     pub(super) exits: Vec<(Pid, Reason)>,
@@ -153,6 +168,7 @@ impl Worker {
         Ok(Worker {
             hub: hub.clone(),
             number,
+            has_others: hub.places.len() > 1,
             home: hub.places[usize::from(number)].clone(),
             porter,
             alarms: Alarms::new()?,
@@ -171,14 +187,19 @@ impl Worker {
             arriving: HashMap::new(),
             told: GO_ON,
             fault: None,
-            rounds: 0,
+            rounds: 1,
             // (a run whose epochs are short ends each in the round in which it is to)
             most_rounds: if hub.every < LONG { 1 } else { ROUNDS },
-            whole: true,
+            told_last: 0,
+            has_left: false,
+            meets: false,
             resumed: false,
+            looks: true,
+            is_timed: false,
             timed: false,
             read: 0,
             serves: 0,
+            most_serves: 0,
             exits: Vec::new(),
             next_exit: 0,
             record: Record::default(),
@@ -202,8 +223,8 @@ impl Worker {
     pub(crate) fn run(mut self) -> Worker {
         let mut listens = false;
         loop {
-            let busy = self.round();
-            if self.has_to_meet(!busy) {
+            let busy = if listens { self.round() } else { self.do_rounds() };
+            if self.may_meet(!busy) && self.has_to_meet(!busy) {
                 if !self.meet() {
                     self.place().halt(true);
                     return self;
@@ -219,41 +240,106 @@ impl Worker {
         }
     }
 
+    /// Does rounds until one finds nothing, or is to do more than its step. It returns whether the last one has found something.
+    #[inline(never)]
+    fn do_rounds(&mut self) -> bool {
+        // (most rounds of a busy thread have steps alone)
+        while !self.looks && self.rounds > 1 && !self.place().is_rung() {
+            let alarms = self.is_timed && self.look_at_clock();
+            let some = self.step(MOST) || alarms;
+            if self.looks {
+                // (a handler has begun something)
+                return self.end_round(some);
+            }
+            if !some {
+                return false;
+            }
+            self.rounds -= 1;
+        }
+        self.round()
+    }
+
     /// Does what is to be done, and returns whether anything was.
+    #[inline(never)]
     fn round(&mut self) -> bool {
+        self.looks |= self.place().is_rung();
+        let begun = self.looks && self.begin_round();
+        let alarms = self.is_timed && self.look_at_clock();
+        let some = if self.resumed { self.step_again(MOST) } else { self.step(MOST) };
+        let some = some || alarms || begun;
+        if self.looks { self.end_round(some) } else { some }
+    }
+
+    /// Does what those outside want, and returns whether anything was to be done.
+    #[inline(never)]
+    fn begin_round(&mut self) -> bool {
         let tasks = self.place().is_rung() && self.perform();
-        let now = self.clock();
-        let alarms = now.is_some_and(|now| self.go_off(now));
         self.tell_order();
-        let some = self.step(MOST, now) || tasks || alarms;
+        tasks
+    }
+
+    /// Does what is no step and comes after one, and returns whether anything was done in this round.
+    #[inline(never)]
+    fn end_round(&mut self, some: bool) -> bool {
         let some = !self.arriving.is_empty() && self.begin_linked() || some;
         self.pass_on();
         // (a supervisor may have something to do of which nobody is told)
         self.serve_all() && self.crew.queued() > 0 || some
     }
 
-    /// What time it is, if anything is to be done at a time. It may have been read in one of the two rounds before.
-    #[inline]
-    fn clock(&mut self) -> Option<u64> {
-        let asks = self.timed || self.alarms.any() || !self.supervisions.is_empty();
-        asks.then(|| {
-            if self.serves == 0 {
-                self.read_clock();
-            }
-            self.serves -= 1;
-            self.read
-        })
+    /// Whether there is more to do in each round than steps.
+    fn has_more(&self) -> bool {
+        let has_family = !(self.supervisions.is_empty() && self.left.is_empty() && self.arriving.is_empty());
+        has_family || self.record.is_tapped() || self.hub.order() > END
     }
 
-    /// Reads the clock.
-    fn read_clock(&mut self) -> u64 {
-        (self.read, self.serves) = (self.hub.now(), SERVES);
-        self.read
+    /// Whether anything may be to do at a time. (else the clock need not be read)
+    fn has_times(&self) -> bool {
+        self.timed || self.alarms.any() || !self.supervisions.is_empty()
     }
 
-    /// The time when so much has gone by, at the earliest.
-    pub(super) fn after(&mut self, time: Duration) -> u64 {
-        self.read_clock().saturating_add(micros(time)).saturating_add(1)
+    /// Looks what time it is, and does what was to be done by then. It returns whether anything was. The clock may have been read
+    /// some rounds before.
+    #[inline(always)]
+    fn look_at_clock(&mut self) -> bool {
+        let work = ROUND + self.told_last;
+        if self.serves < work {
+            self.read_clock();
+        }
+        self.serves = self.serves.saturating_sub(work);
+        // (an alarm is nothing to the crew)
+        if self.timed || !self.supervisions.is_empty() {
+            self.crew.set_time(self.read);
+        }
+        self.go_off(self.read)
+    }
+
+    /// Reads the clock. The alarms that were set since it was read before get their times.
+    #[inline(never)]
+    pub(super) fn read_clock(&mut self) -> u64 {
+        let now = self.hub.now();
+        // (where jobs take long, one more reading is little beside them: it serves for more again once some were quick)
+        let was_long = now.saturating_sub(self.read) > STALE;
+        self.most_serves = if was_long { 0 } else { SERVES.min(2 * self.most_serves + ROUND - 1) };
+        (self.read, self.serves) = (now, self.most_serves);
+        self.alarms.date(now);
+        now
+    }
+
+    /// An alarm was set. It gets its time when the clock is read next, or now if that may be long from now.
+    pub(super) fn alarm_set(&mut self) {
+        self.is_timed = true;
+        if self.most_serves < SERVES {
+            self.alarms.date(self.hub.now());
+        }
+    }
+
+    /// The time of the earliest alarm.
+    pub(super) fn next_alarm(&mut self) -> Option<u64> {
+        if self.alarms.has_undated() {
+            self.read_clock();
+        }
+        self.alarms.next()
     }
 
     /// Serves the supervisors, and returns whether there is one.
@@ -293,29 +379,61 @@ impl Worker {
         None
     }
 
-    /// A step of the crew: a turn, and then the handlers of those who have something to do.
-    fn step(&mut self, most: usize, now: Option<u64>) -> bool {
-        // (an alarm is nothing to the crew)
-        if let Some(now) = now.filter(|_| self.timed || !self.supervisions.is_empty()) {
-            self.crew.set_time(now);
-        }
-        let several = self.hub.places.len() > 1;
-        let out = if several { self.posts_to() } else { 0 };
-        let (turned, count) = self.hand_out(BUDGET, most);
-        if several && turned.posted + turned.handled > 0 {
-            self.hub.ring_others(if turned.posted > 0 { out } else { 0 }, turned.handled > 0);
-        }
-        if turned.stopped.is_some() {
-            self.fault = turned.stopped;
-        }
-        self.whole = count < most;
+    /// A step that comes to all who have something to do.
+    #[inline(never)]
+    fn step_wholly(&mut self) {
+        let now = self.read_clock();
+        self.crew.set_time(now);
+        let most = self.crew.len() + 1;
+        self.meets = true;
         if self.resumed {
-            self.handed(count).iter().for_each(|job| self.tell(job));
+            self.step_again(most);
         } else {
-            (0..count).for_each(|place| self.tell_in(place));
+            self.step(most);
+        }
+        self.meets = false;
+    }
+
+    /// A step of the crew: a turn, and then the handlers of those who have something to do.
+    #[inline(always)]
+    fn step(&mut self, most: usize) -> bool {
+        let (turned, count) = self.turn(most);
+        for place in 0..count {
+            self.tell_in(place);
         }
         self.answer();
-        count > 0 || turned.posted + turned.handled > 0
+        count > 0 || turned
+    }
+
+    /// The same on the desk of a node that has just gone on.
+    #[cold]
+    fn step_again(&mut self, most: usize) -> bool {
+        let (turned, count) = self.turn(most);
+        self.handed(count).iter().for_each(|job| self.tell(job));
+        self.answer();
+        count > 0 || turned
+    }
+
+    /// Has the crew hand out jobs, and returns whether a letter was posted or handled, and how many jobs there are.
+    #[inline(always)]
+    fn turn(&mut self, most: usize) -> (bool, usize) {
+        let (turned, count) = if self.has_others { self.turn_and_ring(most) } else { self.hand_out(BUDGET, most) };
+        if turned.stopped.is_some() {
+            (self.fault, self.looks) = (turned.stopped, true);
+        }
+        (self.told_last, self.has_left) = (count, false);
+        (turned.posted | turned.handled != 0, count)
+    }
+
+    /// The same among other desks, which are rung for what was posted to them, and for the room that was made.
+    #[inline(never)]
+    fn turn_and_ring(&mut self, most: usize) -> (Turned, usize) {
+        let out = self.posts_to();
+        let (turned, count) = self.hand_out(BUDGET, most);
+        if turned.posted | turned.handled != 0 {
+            self.hub.ring_others(if turned.posted > 0 { out } else { 0 }, turned.handled > 0);
+        }
+        (turned, count)
     }
 
     /// The other desks to which the next turn posts, or all of them if none is to be rung: the call costs as much as some letters
@@ -331,7 +449,7 @@ impl Worker {
         let desk = self.desk.as_mut().expect("a desk, outside of a meeting");
         let stepped = self.crew.step_over(desk, budget, most).expect("the crew of this desk");
         // (on the desk of a node that has just gone on those before the meeting come first)
-        if !self.resumed {
+        if !self.exits.is_empty() && !self.resumed {
             self.exits.clear();
             self.next_exit = 0;
         }
@@ -353,7 +471,11 @@ impl Worker {
     fn tell_in(&mut self, place: usize) {
         // (most jobs are letters: these do not become a job first)
         match self.crew.letter(place) {
-            Some((pid, tag, item)) if tag < SUPERVISOR => self.deliver(pid, tag as usize, &item),
+            Some((pid, tag, kind, num)) if tag < SUPERVISOR => {
+                self.work(pid, tag as usize, Record::begin_letter, |actor, worker| {
+                    actor.letter(worker, place, kind, num)
+                })
+            }
             _ => self.tell_other(place),
         }
     }
@@ -367,7 +489,7 @@ impl Worker {
                     pid,
                     tag as usize,
                     |record| record.begin_item(&item),
-                    |actor, worker| actor.letter(worker, &item),
+                    |actor, worker| actor.item(worker, &item),
                 );
                 return;
             }
@@ -385,12 +507,6 @@ impl Worker {
         }
         let job = self.job(place);
         self.tell(&job);
-    }
-
-    /// Has a process handle a letter.
-    #[inline(always)]
-    fn deliver(&mut self, pid: Pid, place: usize, item: &Item) {
-        self.work(pid, place, |record| record.begin_letter(), |actor, worker| actor.letter(worker, item));
     }
 
     /// Tells a process of the crew what it is to be told. A child that was not made is told nothing.
@@ -448,9 +564,15 @@ impl Worker {
         let begun = begin(&mut self.record);
         match catch_unwind(AssertUnwindSafe(|| works(&mut *actor, self))) {
             Ok(None) => self.crew.note_wait(pid),
-            Ok(Some(next)) => self.note_next(pid, next),
+            Ok(Some(next)) => return self.goes_on(pid, place, next, actor, begun),
             Err(what) => self.panicked(pid, place, what),
         }
+        self.has_worked(pid, place, actor, begun);
+    }
+
+    /// The handler of a process has returned.
+    #[inline(always)]
+    fn has_worked(&mut self, pid: Pid, place: usize, actor: Box<dyn Actor>, begun: Option<Instant>) {
         self.runs(None);
         self.record.end(begun, pid, || actor.slot().name());
         if let Some(seat) = &mut self.seats[place] {
@@ -458,11 +580,36 @@ impl Worker {
         }
     }
 
-    /// Notes what a process does next.
+    /// The handler of a process has returned, and it does not wait for whatever comes. If it exits, it does so now, and all that
+    /// it had goes before somebody hears of it.
     #[inline(never)]
-    fn note_next(&mut self, pid: Pid, next: Next) {
-        self.timed |= matches!(next, Next::WaitUntil(..));
-        self.crew.note_answer(pid, next);
+    fn goes_on(&mut self, pid: Pid, place: usize, next: Next, actor: Box<dyn Actor>, begun: Option<Instant>) {
+        let left = match next {
+            Next::Stop(why) if self.exits(pid, place, &*actor, why) => Some(why),
+            next => {
+                if matches!(next, Next::WaitUntil(..)) {
+                    (self.timed, self.is_timed) = (true, true);
+                }
+                self.crew.note_answer(pid, next);
+                None
+            }
+        };
+        self.has_worked(pid, place, actor, begun);
+        if let Some(why) = left {
+            self.unseat(pid, place as u64, place, why);
+        }
+    }
+
+    /// Has a process exit, unless it has to do with a supervisor: then the crew does that, and the same if there is no memory or
+    /// no stamp. It returns whether it has exited. (the crew tells so later)
+    fn exits(&mut self, pid: Pid, place: usize, actor: &dyn Actor, why: Reason) -> bool {
+        let is_plain = |seat: &Seat| matches!(seat.parent, Parent::Outside | Parent::Process { .. });
+        if self.meets || actor.supervises() || !self.seats[place].as_ref().is_some_and(is_plain) {
+            return false;
+        }
+        let exited = self.desk().exit(pid, why);
+        self.has_left |= self.noted(exited).is_ok();
+        exited.is_ok()
     }
 
     /// The handler of a process has panicked with this value.
@@ -481,8 +628,12 @@ impl Worker {
         self.place().runs(pid);
     }
 
-    /// A process has exited: all that it had goes.
+    /// A process has exited: all that it had goes, unless it went before. (then its place may be another one's)
     fn unseat(&mut self, pid: Pid, tag: u64, place: usize, why: Reason) {
+        let is_its_own = self.seats.get(place).and_then(Option::as_ref).is_some_and(|seat| seat.pid == pid);
+        if !is_its_own {
+            return;
+        }
         let Seat { parent, crashed, actor, .. } = self.vacate(place).expect("a process of this desk");
         let actor = actor.expect("a process whose handler does not run");
         let why = if crashed { PANIC } else { why };
@@ -493,11 +644,16 @@ impl Worker {
             self.child_left(supervisor, tag & !CHILD, pid, why);
         }
         self.place().dismiss(pid);
-        self.hub.alive.fetch_sub(1, SeqCst);
+        self.one_less();
         actor.ended(self, why);
         if let Parent::Elsewhere { supervisor, place } = parent {
             self.left_elsewhere(supervisor, place, pid, why);
         }
+    }
+
+    /// One process less lives. (after the last one the run may be over)
+    pub(super) fn one_less(&mut self) {
+        self.looks |= self.hub.alive.fetch_sub(1, SeqCst) == 1;
     }
 
     #[inline(always)]
@@ -613,7 +769,7 @@ impl Worker {
     #[inline]
     pub(crate) fn noted<T>(&mut self, answer: Result<T, Fault>) -> Result<T, Fault> {
         if let Err(fault @ (Fault::Memory | Fault::Worn)) = answer {
-            self.fault = Some(fault);
+            (self.fault, self.looks) = (Some(fault), true);
         }
         answer
     }
@@ -666,7 +822,7 @@ impl Worker {
     /// whether the journal is full.
     #[inline(never)]
     fn look_over(&mut self) -> bool {
-        self.rounds = 0;
+        self.rounds = self.most_rounds;
         self.take_losses();
         if self.crew.was_refused() && self.fault.is_none() {
             self.fault = Some(Fault::Memory);
@@ -674,10 +830,18 @@ impl Worker {
         self.desk().events_now() > self.hub.every
     }
 
+    /// Counts a round, and returns whether it may be that all threads are to meet.
+    #[inline(always)]
+    fn may_meet(&mut self, was_idle: bool) -> bool {
+        self.rounds = self.rounds.saturating_sub(1);
+        self.looks || was_idle || self.rounds == 0
+    }
+
     /// Whether all threads are to meet, of which this one tells the others if it wants to.
+    #[inline(never)]
     fn has_to_meet(&mut self, was_idle: bool) -> bool {
-        self.rounds += 1;
-        let full = (was_idle || self.rounds >= self.most_rounds) && self.look_over();
+        (self.looks, self.is_timed) = (self.has_more(), self.has_times());
+        let full = (was_idle || self.rounds == 0) && self.look_over();
         if full || self.fault.is_some() || self.hub.is_over() {
             self.hub.meet();
         }
@@ -688,9 +852,8 @@ impl Worker {
     /// over or halts.
     fn meet(&mut self) -> bool {
         // (a crew goes on over another journal once it has told all exits that it knows of)
-        if !self.whole {
-            let now = self.read_clock();
-            self.step(self.crew.len() + 1, Some(now));
+        if self.told_last >= MOST || self.has_left {
+            self.step_wholly();
         }
         // (the others may be long in coming)
         self.serves = 0;
@@ -716,11 +879,12 @@ impl Worker {
     fn begin_again(&mut self, desk: Desk) {
         let again = self.crew.begin_again(&desk);
         let _ = self.noted(again);
-        self.resumed = true;
+        (self.resumed, self.looks) = (true, true);
         // in settling all news came: a text beside news that does not wait is beside none, unless a thread that was
         // faster has put it since
         let epoch = self.hub.epochs();
-        for slot in self.place().slots() {
+        // (what waits may be much, and few have a text)
+        for slot in self.place().slots().into_iter().filter(|slot| slot.has_panics()) {
             let waiting: Vec<News> =
                 desk.waiting(slot.pid()).into_iter().flatten().filter_map(|item| news_of(&item)).collect();
             slot.keep_panics(epoch, &|news| waiting.contains(news));
@@ -736,9 +900,10 @@ impl Worker {
         } else if !self.place().is_short() {
             return;
         }
-        let times = [self.crew.next_time(), self.alarms.next()];
+        let times = [self.crew.next_time(), self.next_alarm()];
         // (those who wait until a time have a timer of the crew, as nobody is in its queue)
         self.timed = times[0].is_some();
+        self.is_timed = self.has_times();
         let until = times.into_iter().flatten().min();
         let seats = || self.seats.iter().flatten().filter_map(|seat| seat.actor.as_ref());
         let owed = if self.place().drains() { seats().map(|actor| actor.owed()).sum() } else { 0 };

@@ -9,13 +9,14 @@ ghost use Rattle.pt_script.specs.Spots.{IsSpotOf};
 ghost use Rattle.pt_script.specs.declared.explanation.why.Spot.{Spot};
 ghost use Rattle.pt_script.specs.declared.explanation.why.Why.{Why};
 
+use crate::explanation::blocks::of_block;
 use crate::explanation::finding::{Found, process_at};
 use crate::explanation::looking::{Flaw, flaw_in};
 use crate::explanation::scope::{Scope, is_own_name, is_spawn, list_at, text_at, word_at};
 use crate::explanation::spot::{spot_at, spot_of};
-use crate::explanation::tables::{PROCESS, SCRIPT, members_of};
+use crate::explanation::tables::{PROCESS, SCRIPT, format_of, members_of};
 use crate::explanation::why::{Label, Limit, Scene, Spot, Told, Why, Wrong};
-use crate::limits::{MAX_BYTES, MAX_DEPTH, MAX_FORMAT, MAX_PROCESSES};
+use crate::limits::{MAX_BYTES, MAX_DEPTH, MAX_PROCESSES};
 use crate::{Fault, Place};
 use serde_json::{Error, Value};
 use std::alloc::{AllocError, Global};
@@ -232,22 +233,34 @@ fn label_of_operation(value: &Value, index: usize, format: u64) -> Label<'_>
 /// What is wrong with an operation.
 fn flaw_of_operation<'a>(fault: Fault, value: &'a Value, scope: &Scope<'_>) -> Flaw<'a> {
     if is_bounds(fault) && is_spawn(value) {
-        return (None, of_spawn(scope.depth));
+        return (None, of_spawn(scope));
     }
     let flaw = match text_at(value, "op") {
         Some(name) => flaw_of_named(fault, name, value, scope),
         None => flaw_of_unnamed(fault, value),
     };
-    flaw_or(flaw, over(fault, Wrong::Over(Limit::Operations)))
+    match fault {
+        Fault::Field => flaw_or(flaw, of_block(value, scope.before)),
+        _ => flaw_or(flaw, over(fault, of_operations(scope.format))),
+    }
 }
 
 /// What there is too much of if a spawn is at fault.
-fn of_spawn(depth: u32) -> Wrong {
-    if MAX_DEPTH <= depth {
+fn of_spawn(scope: &Scope<'_>) -> Wrong {
+    if MAX_DEPTH <= scope.depth {
         Wrong::Over(Limit::Depth)
     } else {
-        Wrong::Over(Limit::Operations)
+        of_operations(scope.format)
     }
+}
+
+/// That there are too many operations. From format 3 on they count in each round of a repeat.
+fn of_operations(format: u64) -> Wrong {
+    Wrong::Over(if 3 <= format {
+        Limit::Rounds
+    } else {
+        Limit::Operations
+    })
 }
 
 /// What is wrong with a value that has the name of an operation.
@@ -260,8 +273,15 @@ fn flaw_of_named<'a>(
     match members_of(name, scope.format) {
         Some(names) => flaw_in(fault, value, names, scope),
         None if is_bounds(fault) => None,
-        None if members_of(name, MAX_FORMAT).is_some() => Some((Some("op"), Wrong::Later)),
-        None => Some((Some("op"), Wrong::NoOperation)),
+        None => Some((Some("op"), of_name(name))),
+    }
+}
+
+/// What is wrong with the name of an operation that the script's format does not have.
+fn of_name(name: &str) -> Wrong {
+    match format_of(name) {
+        Some(format) => Wrong::Later(format),
+        None => Wrong::NoOperation,
     }
 }
 

@@ -4,7 +4,7 @@
 //! is the first one, in the reader's order, that can have a fault of this kind. No other kind has to be looked for.
 
 use crate::Fault;
-use crate::explanation::scope::{Scope, is_name, is_own_name};
+use crate::explanation::scope::{Scope, is_name, is_own_name, text_at};
 use crate::explanation::tables::{Kind, kind_of, kind_of_pick, may_miss};
 use crate::explanation::why::{Limit, Wrong};
 use crate::limits::MAX_FORMAT;
@@ -37,18 +37,27 @@ fn unknown_in<'a>(value: &'a Value, names: &[&str]) -> Option<Flaw<'a>> {
     };
     for name in members.keys() {
         if !is_among(names, name.as_str()) {
-            return Some(unknown(name.as_str()));
+            return Some(unknown(value, names, name.as_str()));
         }
     }
     None
 }
 
 /// The flaw of an unknown member. Its name is given only if it has the form of one, since it may be any text.
-fn unknown(name: &str) -> Flaw<'_> {
-    if is_name(name) {
+fn unknown<'a>(value: &Value, names: &[&str], name: &'a str) -> Flaw<'a> {
+    if name == "after" && is_among(names, "pick") && is_receive(value) {
+        (Some(name), Wrong::Later(3))
+    } else if is_name(name) {
         (Some(name), Wrong::Unknown)
     } else {
         (None, Wrong::HasUnknown)
+    }
+}
+
+fn is_receive(value: &Value) -> bool {
+    match text_at(value, "op") {
+        Some(operation) => operation == "receive",
+        None => false,
     }
 }
 
@@ -109,7 +118,7 @@ fn flaw_with(name: &'static str, wrong: Option<Wrong>) -> Option<Flaw<'static>> 
 fn flaw_of_pick(fault: Fault, pick: &Value, scope: &Scope<'_>) -> Option<Flaw<'static>> {
     match picked_by(pick, scope.format) {
         Some((name, kind, held)) => flaw_with(name, wrong_with(fault, kind, held, scope)),
-        None if picked_by(pick, MAX_FORMAT).is_some() => Some((Some("pick"), Wrong::Later)),
+        None if picked_by(pick, MAX_FORMAT).is_some() => Some((Some("pick"), Wrong::Later(2))),
         None => Some((Some("pick"), Wrong::NoPick)),
     }
 }
@@ -135,8 +144,8 @@ fn wrong_with(fault: Fault, kind: Kind, held: &Value, scope: &Scope<'_>) -> Opti
     }
 }
 
-/// What is wrong with its type, or with its form if it makes a name. A reason and a pick are the last members of their
-/// operations, so the flaw is theirs if no member before has it.
+/// What is wrong with its type, or with its form if it makes a name. A reason is the last member of its operation, so the
+/// flaw is its own if no member before has it.
 fn wrong_type(kind: Kind, held: &Value) -> Option<Wrong> {
     match kind {
         Kind::Whole { least: _, most: _ } | Kind::Signed => {
@@ -174,8 +183,16 @@ fn wrong_range(kind: Kind, held: &Value) -> Option<Wrong> {
             None => Some(Wrong::OutOfRange { least, most }),
         },
         Kind::Signed => unless(held.is_i64(), Wrong::Over(Limit::Signed)),
-        Kind::Reason => Some(Wrong::Over(Limit::Reasons)),
+        Kind::Reason => unless(has_low_number(held), Wrong::Over(Limit::Reasons)),
         _ => None,
+    }
+}
+
+/// Whether the number of a reason has 32 bits, if it has one.
+fn has_low_number(reason: &Value) -> bool {
+    match reason.as_str().and_then(|text| text.strip_prefix("other:")) {
+        Some(digits) => digits.parse::<u32>().is_ok(),
+        None => true,
     }
 }
 

@@ -1,6 +1,6 @@
 //! The members that the objects of a script have, and what each holds.
 
-use crate::limits::{MAX_BUDGET, MAX_DESKS, MAX_FORMAT, MAX_LANE, MAX_SLOTS};
+use crate::limits::{MAX_BUDGET, MAX_DESKS, MAX_FORMAT, MAX_LANE, MAX_SLOTS, MAX_TIMES};
 
 // The members of each object, in the order in which they are read.
 pub(crate) static SCRIPT: [&str; 7] = [
@@ -17,7 +17,9 @@ pub(crate) static PROCESS: [&str; 4] = ["name", "desk", "trap", "ops"];
 
 static SEND: [&str; 5] = ["op", "to", "kind", "num", "who"];
 
-static RECEIVE: [&str; 2] = ["op", "pick"];
+static RECEIVE: [&str; 3] = ["op", "pick", "after"];
+
+static CHECK: [&str; 2] = ["op", "pick"];
 
 static LINK: [&str; 2] = ["op", "to"];
 
@@ -33,13 +35,16 @@ static SIGNAL: [&str; 3] = ["op", "to", "reason"];
 
 static SPAWN: [&str; 5] = ["op", "name", "linked", "trap", "ops"];
 
+static REPEAT: [&str; 2] = ["op", "times"];
+
 static PASS: [&str; 1] = ["op"];
 
 /// The members of an operation in a format, if there is one of this name.
 pub(crate) fn members_of(operation: &str, format: u64) -> Option<&'static [&'static str]> {
     match operation {
         "send" => Some(SEND.as_slice()),
-        "receive" | "check" => Some(RECEIVE.as_slice()),
+        "receive" if 3 <= format => Some(RECEIVE.as_slice()),
+        "receive" | "check" => Some(CHECK.as_slice()),
         "link" | "unlink" => Some(LINK.as_slice()),
         "monitor" => Some(MONITOR.as_slice()),
         "alive" if 2 <= format => Some(MONITOR.as_slice()),
@@ -49,6 +54,26 @@ pub(crate) fn members_of(operation: &str, format: u64) -> Option<&'static [&'sta
         "signal" => Some(SIGNAL.as_slice()),
         "spawn" => Some(SPAWN.as_slice()),
         "pass" => Some(PASS.as_slice()),
+        _ if 3 <= format => members_of_block(operation),
+        _ => None,
+    }
+}
+
+/// The members of an operation that begins or ends a block.
+fn members_of_block(operation: &str) -> Option<&'static [&'static str]> {
+    match operation {
+        "if" => Some(CHECK.as_slice()),
+        "repeat" => Some(REPEAT.as_slice()),
+        "else" | "end" | "again" => Some(PASS.as_slice()),
+        _ => None,
+    }
+}
+
+/// The first format that has an operation, if only later ones than the first have it.
+pub(crate) fn format_of(operation: &str) -> Option<u64> {
+    match operation {
+        "alive" => Some(2),
+        _ if members_of_block(operation).is_some() => Some(3),
         _ => None,
     }
 }
@@ -108,6 +133,8 @@ fn whole_of(name: &str, last_desk: u64) -> Kind {
         "budget" => (1, MAX_BUDGET),
         "desk" => (0, last_desk),
         "top" => (1, MOST),
+        "after" => (0, MAX_TIMES),
+        "times" => (1, MAX_TIMES),
         _ => (0, MOST),
     };
     Kind::Whole { least, most }
@@ -135,7 +162,7 @@ pub(crate) fn kind_of_pick(name: &str, format: u64) -> Option<(&'static str, Kin
 pub(crate) fn may_miss(name: &str) -> bool {
     match name {
         "slots" | "top" | "lane" | "budget" => true,
-        "trap" | "linked" | "flush" | "who" | "pick" => true,
+        "trap" | "linked" | "flush" | "who" | "pick" | "after" => true,
         _ => false,
     }
 }

@@ -1,6 +1,6 @@
 //! What is wrong with a script, and its text.
 
-use crate::limits::{MAX_BYTES, MAX_DEPTH, MAX_FORMAT, MAX_OPERATIONS, MAX_PROCESSES};
+use crate::limits::{MAX_BYTES, MAX_DEPTH, MAX_OPERATIONS, MAX_PROCESSES};
 use std::fmt;
 
 /// The name of something in a script, or its number if it has no name.
@@ -77,9 +77,9 @@ impl fmt::Display for Spot {
 
 // What there is where a word is wrong.
 const OPERATIONS: &str =
-    "send, receive, check, link, unlink, monitor, demonitor, trap, exit, signal, spawn, pass and, in format 2, alive";
+    "send, receive, check, link, unlink, monitor, demonitor, trap, exit, signal, spawn, pass, in format 2 alive, and in format 3 if, else, end, repeat, again";
 
-const PICKS: &str = "kind, from, exit, down and, in format 2, alive";
+const PICKS: &str = "kind, from, exit, down, and in format 2 alive";
 
 const REASONS: &str = "normal, kill, killed, noproc, shutdown and other:N";
 
@@ -92,7 +92,24 @@ pub(crate) enum Limit {
     Slots,
     Processes,
     Operations,
+    /// Operations, where those of each round of a repeat count.
+    Rounds,
     Depth,
+}
+
+/// What is wrong with an operation that begins or ends a block.
+#[derive(Clone, Copy)]
+pub(crate) enum Stray {
+    /// An `if` that is not behind an operation which takes an item.
+    NoItem,
+    /// It is for an `if`, and the innermost block around it is none.
+    NoIf,
+    /// It is an `else` that is not the first one directly inside an `if`.
+    NoFirstElse,
+    /// It is for a `repeat`, and the innermost block around it is none.
+    NoRepeat,
+    /// It begins a block that does not end.
+    Open,
 }
 
 /// What is wrong with it.
@@ -114,12 +131,14 @@ pub(crate) enum Wrong {
     NoReason,
     NoPick,
     NoOperation,
-    /// A later format has it.
-    Later,
+    /// This format has it, which is a later one.
+    Later(u64),
     OutOfRange { least: u64, most: u64 },
     Over(Limit),
     OutOfScope,
     Taken,
+    /// It begins or ends a block, and may not stand where it does.
+    Block(Stray),
     /// It is refused, and nothing more can be said of it.
     Refused,
 }
@@ -139,7 +158,31 @@ impl fmt::Display for Limit {
             Limit::Slots => f.write_str("is one process more than its desk has slots"),
             Limit::Processes => write!(f, "is one process more than {MAX_PROCESSES}"),
             Limit::Operations => write!(f, "is one operation more than {MAX_OPERATIONS}"),
+            Limit::Rounds => write!(
+                f,
+                "is one operation more than {MAX_OPERATIONS}, with those of each round of a repeat"
+            ),
             Limit::Depth => write!(f, "is inside {MAX_DEPTH} other spawns"),
+        }
+    }
+}
+
+impl fmt::Display for Stray {
+    ghost use Rattle.std.specs.Prelude.{Some};
+    ghost use Rattle.pt_script.specs.WhyTexts.{stray_text};
+
+    ghost output = { λ s. Some (stray_text s) };
+
+    #[tactic(auto, unfolding(crate::specs::WhyTexts::stray_text))]
+    fn fmt<W: fmt::Write>(&self, f: &mut fmt::Formatter<W>) -> fmt::Result {
+        match self {
+            Stray::NoItem => {
+                f.write_str("is not directly behind a receive, a check, an if or an else")
+            }
+            Stray::NoIf => f.write_str("is not directly inside an if"),
+            Stray::NoFirstElse => f.write_str("is not the first else directly inside an if"),
+            Stray::NoRepeat => f.write_str("is not directly inside a repeat"),
+            Stray::Open => f.write_str("begins a block that does not end"),
         }
     }
 }
@@ -171,11 +214,12 @@ impl fmt::Display for Wrong {
                 "is no object with one of the members of a pick: there are {PICKS}"
             ),
             Wrong::NoOperation => write!(f, "is no operation: there are {OPERATIONS}"),
-            Wrong::Later => write!(f, "wants format {MAX_FORMAT}"),
+            Wrong::Later(format) => write!(f, "needs format {format}"),
             Wrong::OutOfRange { least, most } => write!(f, "is not from {least} to {most}"),
             Wrong::Over(limit) => write!(f, "{limit}"),
             Wrong::OutOfScope => f.write_str("names nothing in scope"),
             Wrong::Taken => f.write_str("is taken already"),
+            Wrong::Block(stray) => write!(f, "{stray}"),
             Wrong::Refused => f.write_str("is not as scripts are"),
         }
     }

@@ -90,6 +90,11 @@ impl Record {
         self.losses
     }
 
+    /// Whether somebody gets the events of the desk as they come.
+    pub(crate) fn is_tapped(&self) -> bool {
+        !self.feeds.is_empty()
+    }
+
     /// A supervisor has started a child again by itself.
     pub(crate) fn restarted(&mut self) {
         self.restarts += 1;

@@ -1,17 +1,19 @@
 -- `call`: its clause `performs`.
 use Rattle.std.proofs.Common.{subst, refl}
-use Rattle.pt_runner.specs.declared.calls.Progress.TheVariants.{Done}
 use Rattle.pt_script.specs.declared.values.Operation.TheVariants as operation
 use Rattle.std.proofs.Common.{w64, rules}
 use mir.Val.{SFits}
 use Rattle.std.specs.Prelude.{ℤ}
 use Rattle.std.proofs.lemmas.Int.{to_z-of_z}
 use Rattle.pt_runner.specs.Acting.{Sends}
-use Rattle.pt_runner.proofs.Acting.{performs_as}
+use Rattle.pt_runner.proofs.Acting.{performs_as, performs_nothing}
 use Rattle.pt_runner.proofs.calls.call.Goals as goal
 
 pub returns-in-Check-clause-performs : goal.returns-in-Check-clause-performs
-returns-in-Check-clause-performs c = performs_as c.args.pids.now c.args.p c.args.operation (operation.Check c.in-Check.pattern) c.args.desk.now.shard c.args.references.now.items c.check.result c.check.new.desk.shard c.args.references.now.items c.in-Check.is (c.check.ensures.does, refl)
+returns-in-Check-clause-performs c = performs_as c.args.pids.now c.args.p c.args.operation (operation.Check c.in-Check.pattern) c.args.desk.now.shard c.args.references.now.items c.take.result c.take.new.desk.shard c.args.references.now.items c.in-Check.is (c.take.ensures.does, refl)
+
+pub returns-in-ReceiveAfter-clause-performs : goal.returns-in-ReceiveAfter-clause-performs
+returns-in-ReceiveAfter-clause-performs c = performs_as c.args.pids.now c.args.p c.args.operation (operation.ReceiveAfter c.in-ReceiveAfter.pattern _) c.args.desk.now.shard c.args.references.now.items c.take-in-ReceiveAfter.result c.take-in-ReceiveAfter.new.desk.shard c.args.references.now.items c.in-ReceiveAfter.is (c.take-in-ReceiveAfter.ensures.does, refl)
 
 pub returns-in-Link-clause-performs : goal.returns-in-Link-clause-performs
 returns-in-Link-clause-performs c = performs_as c.args.pids.now c.args.p c.args.operation (operation.Link c.in-Link.to) c.args.desk.now.shard c.args.references.now.items c.link.result c.link.new.desk.shard c.args.references.now.items c.in-Link.is (c.link.ensures.does, refl)
@@ -38,7 +40,7 @@ pub returns-in-Signal-clause-performs : goal.returns-in-Signal-clause-performs
 returns-in-Signal-clause-performs c = performs_as c.args.pids.now c.args.p c.args.operation (operation.Signal c.in-Signal.to c.in-Signal.reason) c.args.desk.now.shard c.args.references.now.items c.exit_signal.result c.exit_signal.new.desk.shard c.args.references.now.items c.in-Signal.is (c.exit_signal.ensures.does, refl)
 
 pub returns-in-Pass-clause-performs : goal.returns-in-Pass-clause-performs
-returns-in-Pass-clause-performs c = performs_as c.args.pids.now c.args.p c.args.operation operation.Pass c.args.desk.now.shard c.args.references.now.items Done c.args.desk.now.shard c.args.references.now.items c.in-Pass.is ((refl, refl), refl)
+returns-in-Pass-clause-performs c = performs_nothing c.args.pids.now c.args.p c.args.operation c.args.desk.now.shard c.args.references.now.items c.in-Pass.is
 
 pub returns-in-Send-clause-performs : goal.returns-in-Send-clause-performs
 returns-in-Send-clause-performs c =

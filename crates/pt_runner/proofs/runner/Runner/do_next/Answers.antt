@@ -28,7 +28,7 @@ returns-in-Receive-clause-acts c =
     let old = c.args.desk.now.shard in
     let new = c.receive.new.desk.shard in
     let u = table_of plans r.pids.items (set r.actors.items c.args.index b) in
-    let plays = subst (λ (pids : List (Option Pid)). Plays pids (Receive c.in-Receive.pattern) (acting a) old (acting b) new) c.as_slice.ensures.value c.receive.ensures.plays in
+    let plays = subst (λ (pids : List (Option Pid)). Plays plans pids (Receive c.in-Receive.pattern) (acting a) old (acting b) new) c.as_slice.ensures.value c.receive.ensures.plays in
     record {
       within = acting_within r.actors.items c.args.index next.0;
       a = acting a;
@@ -61,7 +61,7 @@ returns-in_default c =
     let same : c.index.result.now ≡ a = same_at actors i c.index.result.now a within c.index.ensures c.index_mut-in_default.ensures.value in
     let next : o ≡ next_of plans (acting a) = c.next-operation.ensures ∙ ap (λ (x : Actor). next_of plans (acting x)) same in
     let u = table_of plans r.pids.items (set actors i b) in
-    let plays = subst (λ (pids : List (Option Pid)). Plays pids o (acting a) old (acting b) new) c.as_slice-in_default.ensures.value c.perform.ensures.plays in
+    let plays = subst (λ (pids : List (Option Pid)). Plays plans pids o (acting a) old (acting b) new) c.as_slice-in_default.ensures.value c.perform.ensures.plays in
     record {
       acts = record {
         within = acting_within actors i within;

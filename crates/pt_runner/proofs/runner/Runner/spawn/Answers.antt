@@ -1,90 +1,46 @@
--- `Runner::spawn`: its clauses `spawns` and `knows`.
-use Rattle.std.proofs.Common.{◌≡◌, ◌<◌, inr, inl, List, length, get_or, set, ap, sym, subst, ◌∙◌, arith}
+-- `Runner::spawn`: its clauses `spawns` and `knows`, and what `spawn_new` requires.
+use Rattle.std.proofs.Common.{◌≡◌, ◌<◌, List, Option, None, Some, length, set, ap, sym, subst, ◌∙◌, arith}
 use Rattle.pt_signal.specs.declared.pid.Pid.{Pid}
-use Rattle.pt_shard.specs.Calls.{BearsChild}
-use Rattle.pt_runner.specs.declared.calls.Progress.{Progress}
-use Rattle.pt_runner.specs.declared.runner.Actor.{Actor}
-use Rattle.pt_runner.specs.Acting.{Acting, PidTable, GoesBehind, acting, table, with_born, set_acting}
-use Rattle.pt_runner.proofs.Acting.{acting_within, acting_at, same_at, table_of, set_actor, child_behind, with_child_same}
-use Rattle.pt_runner.specs.Waiting.{KnowsOf}
+use Rattle.pt_runner.specs.Acting.{Acting, SpawnsIfNew, acting, pid_numbered, set_acting, table}
+use Rattle.pt_runner.proofs.Acting.{acting_at, set_actor, table_of}
 use Rattle.pt_runner.proofs.Waiting.{knows_later, knows_set, unmarked_true}
 use Rattle.pt_runner.proofs.runner.Runner.spawn.Goals as goal
 
-pub returns-clause-spawns : goal.returns-clause-spawns
-returns-clause-spawns c =
-    let r = c.spawn_child-answer.result in
-    let old = c.args.self.now in
-    let first = old.actors.items in
-    let plans = old.script.now.processes in
-    let actors = c.enter.new.self.actors.items in
-    let i = c.args.index in
-    let x = c.index.result.now in
-    let a = c.index_mut-2.result.now in
-    let b = c.conclude-2.new.self in
-    let t = table old in
-    let reserved : c.reserve.new.self.items ≡ first = c.reserve.ensures.items in
-    let listed : table c.enter.new.self ≡ with_born c.args.process r t = c.enter.ensures.table ∙ with_child_same c.args.process r plans old.pids.items c.reserve.new.self.items first reserved in
-    let within : i < length first = omega (arith, c.requires, old.actors.ok.0) in
-    let inside : i < length actors = omega (arith, within, ap length reserved, c.enter.ensures.len, c.reserve.new.self.ok.0, c.enter.new.self.actors.ok.0) in
-    let is : get_or t.actors i (acting a) ≡ acting a =
-    sym (child_behind c.args.process r t i (acting a) (acting_within first i within))
-    ∙ ap (λ (u : PidTable). get_or u.actors i (acting a)) (sym listed)
-    ∙ acting_at actors i a inside c.index_mut-2.ensures.value in
-    let there : get_or t.actors i (acting x) ≡ acting x = acting_at first i x within (c.index.ensures ∙ ap (λ (xs : List Actor). get_or xs i x) reserved) in
-    let mine : a.pid ≡ x.pid = ap (λ (z : Acting). z.pid) (same_at t.actors i (acting a) (acting x) (acting_within first i within) (sym is) (sym there)) in (
-      acting a,
-      is,
-      inr (record {
-        answer = r;
-        between = c.spawn_child-answer.new.self.shard;
-        b = acting b;
-        bears = subst (λ (p : Pid). BearsChild p c.args.linked c.args.desk.now.shard r c.spawn_child-answer.new.self.shard) (sym mine) c.spawn_child-answer.ensures.does;
-        behind = subst (λ (x : Progress). GoesBehind x (acting a) c.spawn_child-answer.new.self.shard (acting b) c.conclude-2.new.desk.shard) c.progress_of.ensures c.conclude-2.ensures.behind;
-        table = set_actor c.enter.new.self.script.now.processes c.enter.new.self.pids.items actors i b ∙ ap (set_acting i (acting b)) listed;
-      }),
-    )
-
-pub returns-then-is_err-clause-spawns : goal.returns-then-is_err-clause-spawns
-returns-then-is_err-clause-spawns c =
-    let old = c.args.self.now in
-    let plans = old.script.now.processes in
-    let pids = old.pids.items in
-    let first = old.actors.items in
+pub returns-in-Some-clause-spawns : goal.returns-in-Some-clause-spawns
+returns-in-Some-clause-spawns c =
+    let r = c.args.self.now in
+    let plans = r.script.now.processes in
+    let pids = r.pids.items in
+    let first = r.actors.items in
     let i = c.args.index in
     let a = c.index_mut.result.now in
     let b = c.conclude.new.self in
-    let within : i < length first = omega (arith, c.requires, old.actors.ok.0) in
-    let there : a ≡ get_or first i a = c.index_mut.ensures.value ∙ ap (λ (xs : List Actor). get_or xs i a) c.reserve.ensures.items in
-    let off = c.conclude.ensures.behind in (
+    let within : i < length first = omega (arith, c.requires, r.actors.ok.0) in
+    let born : pid_numbered pids c.args.process ≡ Some c.in-Some._born = ap (λ (ps : List (Option Pid)). pid_numbered ps c.args.process) (sym c.as_slice.ensures.value) ∙ sym c.pid_of.ensures ∙ c.in-Some.is in
+    let passed = c.conclude.ensures.behind in (
       acting a,
-      acting_at first i a within there,
-      inl (ap (λ (xs : List Actor). table_of plans pids (set xs i b)) c.reserve.ensures.items ∙ set_actor plans pids first i b ∙ ap (λ (x : Acting). set_acting i x (table_of plans pids first)) off.0, off.1),
+      acting_at first i a within c.index_mut.ensures.value,
+      subst (λ (o : Option Pid). SpawnsIfNew o c.args.process c.args.linked i (acting a) (table r) c.args.desk.now.shard (table_of plans pids (set first i b)) c.conclude.new.desk.shard) (sym born)
+          (set_actor plans pids first i b ∙ ap (λ (x : Acting). set_acting i x (table_of plans pids first)) passed.0, passed.1),
     )
 
-pub returns-then-is_err-clause-knows : goal.returns-then-is_err-clause-knows
-returns-then-is_err-clause-knows c = λ k.
+pub returns-in-Some-clause-knows : goal.returns-in-Some-clause-knows
+returns-in-Some-clause-knows c = λ k.
     let r = c.args.self.now in
     let plans = r.script.now.processes in
-    let first = c.args.desk.now.shard in
     let last = c.conclude.new.desk.shard in
-    let reserved : KnowsOf plans r.pids.items c.reserve.new.self.items r.came.items r.read first =
-    subst (λ (xs : List Actor). KnowsOf plans r.pids.items xs r.came.items r.read first) (sym c.reserve.ensures.items) k in
-    knows_set plans r.pids.items c.reserve.new.self.items r.came.items r.read last c.args.index c.conclude.new.self
-    (knows_later plans r.pids.items c.reserve.new.self.items r.came.items r.read first last c.conclude.ensures.goes_on.shard reserved)
+    knows_set plans r.pids.items r.actors.items r.came.items r.read last c.args.index c.conclude.new.self
+    (knows_later plans r.pids.items r.actors.items r.came.items r.read c.args.desk.now.shard last c.conclude.ensures.goes_on.shard k)
     (unmarked_true plans r.pids.items last c.conclude.new.self c.conclude.ensures.waits)
 
-pub returns-clause-knows : goal.returns-clause-knows
-returns-clause-knows c = λ k.
-    let r = c.args.self.now in
-    let e = c.enter.new.self in
-    let first = c.args.desk.now.shard in
-    let mid = c.spawn_child-answer.new.self.shard in
-    let last = c.conclude-2.new.desk.shard in
-    let plans = e.script.now.processes in
-    let reserved : KnowsOf r.script.now.processes r.pids.items c.reserve.new.self.items r.came.items r.read first =
-    subst (λ (xs : List Actor). KnowsOf r.script.now.processes r.pids.items xs r.came.items r.read first) (sym c.reserve.ensures.items) k in
-    let born = knows_later r.script.now.processes r.pids.items c.reserve.new.self.items r.came.items r.read first mid c.spawn_child-answer.ensures.goes_on.shard reserved in
-    let entered : KnowsOf plans e.pids.items e.actors.items e.came.items e.read mid = c.enter.ensures.knows mid born in
-    knows_set plans e.pids.items e.actors.items e.came.items e.read last c.args.index c.conclude-2.new.self
-    (knows_later plans e.pids.items e.actors.items e.came.items e.read mid last c.conclude-2.ensures.goes_on.shard entered)
-    (unmarked_true plans e.pids.items last c.conclude-2.new.self c.conclude-2.ensures.waits)
+pub spawn_new-requires-clause-free : goal.spawn_new-requires-clause-free
+spawn_new-requires-clause-free c = ap (λ (ps : List (Option Pid)). pid_numbered ps c.args.process) (sym c.as_slice.ensures.value) ∙ sym c.pid_of.ensures ∙ c.in-None.is
+
+pub returns-in-None-clause-spawns : goal.returns-in-None-clause-spawns
+returns-in-None-clause-spawns c =
+    let new = c.spawn_new.ensures.spawns in
+    let free : pid_numbered c.args.self.now.pids.items c.args.process ≡ None = ap (λ (ps : List (Option Pid)). pid_numbered ps c.args.process) (sym c.as_slice.ensures.value) ∙ sym c.pid_of.ensures ∙ c.in-None.is in (
+      new.0,
+      new.1,
+      subst (λ (o : Option Pid). SpawnsIfNew o c.args.process c.args.linked c.args.index new.0 (table c.args.self.now) c.args.desk.now.shard (table c.spawn_new.new.self) c.spawn_new.new.desk.shard) (sym free) new.2,
+    )

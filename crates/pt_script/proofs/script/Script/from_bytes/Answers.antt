@@ -8,7 +8,7 @@ use Rattle.pt_script.proofs.script.Script.from_bytes.Goals as goal
 pub returns-in-Ok : goal.returns-in-Ok
 returns-in-Ok c =
     let short : length c.args.bytes.now ≤ 1048576 = omega (arith, c.if-bytes-gt-MAX_BYTES.false) in
-    rw (reading_value c.args.bytes.now (view c.in-Ok.value) short c.in-Ok.ensures.ok.0 c.in-Ok.ensures.ok.1) c.script_of.ensures
+    rw (reading_value c.args.bytes.now (view c.in-Ok.value) short c.in-Ok.ensures.ok.0 c.in-Ok.ensures.ok.1) c.unrolled_of.ensures
 
 pub returns-else-is_memory : goal.returns-else-is_memory
 returns-else-is_memory c =

@@ -1,9 +1,0 @@
-pub mod Words
-pub mod Names
-pub mod Numbers
-pub mod Values
-pub mod Settings
-pub mod Arguments
-pub mod Calls
-pub mod Commands
-pub mod Text

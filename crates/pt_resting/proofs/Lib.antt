@@ -1,2 +1,0 @@
--- The lemmas that more than one function of the crate uses.
-pub mod Bringing
