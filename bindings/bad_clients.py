@@ -19,6 +19,8 @@ from pathlib import Path
 
 # How many kilobytes the server's memory may grow, and how many bytes of a bad client it could keep without a bound.
 GROWTH, FLOOD = 64_000, 64_000_000
+# How many lines of a thousand bytes one says ahead of what it hears: less than a server keeps for one that does not read.
+AHEAD = 100
 # For how many seconds it is waited for what has to come.
 PATIENCE = 120.0
 
@@ -169,7 +171,8 @@ def many(server: Server, good: Good) -> None:
 def without_reading(server: Server) -> None:
     """A client that never reads, in a room where much is said. The one who says it hears it all, and that the other is gone."""
     deaf, speaker = Client(server.address, 3, 4_096), Client(server.address, 3)
-    speaks = threading.Thread(target=speak, args=(speaker,))
+    ahead = threading.Semaphore(AHEAD)
+    speaks = threading.Thread(target=speak, args=(speaker, ahead))
     speaks.start()
     next_number, gone = 0, 0
     while next_number * 1_000 < FLOOD and not gone:
@@ -180,8 +183,10 @@ def without_reading(server: Server) -> None:
             continue
         assert line.startswith(b"%d " % next_number), line[:20]
         next_number += 1
+        ahead.release()
     assert gone == 1, f"a client that does not read is served after {FLOOD} bytes"
     speaker.socket.shutdown(socket.SHUT_RDWR)
+    ahead.release(FLOOD)
     speaks.join()
     # (it may still read what was sent before, and hears why it is gone if that was in time)
     try:
@@ -190,10 +195,11 @@ def without_reading(server: Server) -> None:
         pass
 
 
-def speak(client: Client) -> None:
-    """Says lines of a thousand bytes."""
+def speak(client: Client, ahead: threading.Semaphore) -> None:
+    """Says lines of a thousand bytes, each once `ahead` has room for it."""
     try:
         for number in range(FLOOD // 1_000):
+            ahead.acquire()
             client.say((b"%d " % number).ljust(999, b"x"))
     except OSError:  # enough was said
         pass
