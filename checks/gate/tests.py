@@ -22,7 +22,7 @@ ROOT = Path(__file__).resolve().parent.parent.parent
 PART = """\
 #!/bin/bash
 words="$(basename "$0") $*"
-echo "${words%% /*}${PT_PROVING:+ proving}" >>ran
+echo "${words%% /*}${PT_PROVING:+ proving}${RT_JOBS:+ by $RT_JOBS}" >>ran
 [ "${*: -2:1}" != --costs ] || echo "of_it 3" >"${*: -1}"
 [[ -n "${FAILS-}" && "$words" == "$FAILS"* ]] && { echo "3 passed, 1 failed"; exit 1; }
 echo "3 passed, 0 failed"
@@ -47,15 +47,20 @@ class Gates(unittest.TestCase):
         shutil.copy(ROOT / ".ci/run", self.root / ".ci/run")
 
     def run_it(self, processors: str, fails: str = "") -> tuple[int, str, list[str]]:
-        """Runs the gate, and returns its status, its last line and the parts that it made, without the numbers of their jobs."""
+        """Runs the gate, and returns its status, its last line and the parts that it made, without the numbers of their jobs.
+
+        No more proofs run at a time than there are processors."""
         tools = self.root / "tools"
         tools.mkdir(exist_ok=True)
         (tools / "nproc").write_text(f"#!/bin/sh\necho {processors}\n")
         (tools / "nproc").chmod(0o755)
-        environment = {**os.environ, "PATH": f"{tools}:{os.environ['PATH']}", "FAILS": fails, "RT": "true"}
+        kept = {name: value for name, value in os.environ.items() if name != "RT_JOBS"}
+        environment = {**kept, "PATH": f"{tools}:{os.environ['PATH']}", "FAILS": fails, "RT": "true"}
         ran = subprocess.run([".ci/run"], cwd=self.root, env=environment, stdin=subprocess.DEVNULL,
                              stdout=subprocess.PIPE, stderr=subprocess.STDOUT, text=True, timeout=120, check=False)
-        made = re.sub(" --jobs [0-9]+", "", (self.root / "ran").read_text())
+        said = (self.root / "ran").read_text()
+        self.assertTrue(all(1 <= int(it) <= int(processors) for it in re.findall(" by ([0-9]+)$", said, re.MULTILINE)), said)
+        made = re.sub(" by [0-9]+$", " by N", re.sub(" --jobs [0-9]+", "", said), flags=re.MULTILINE)
         return ran.returncode, ran.stdout.splitlines()[-1], [it.rstrip() for it in made.splitlines()]
 
     def test_all_passes(self) -> None:
@@ -65,7 +70,7 @@ class Gates(unittest.TestCase):
                 status, last, ran = self.run_it(processors)
                 self.assertEqual((status, last), (0, "18 passed, 0 failed"))
                 self.assertEqual(ran[:2], ["run.sh --tools", f"{STATIC} --costs"])
-                self.assertEqual(sorted(ran[2:]), sorted([f"{OTHERS} --costs proving", "costs docs/proof-cost.txt true ci", "proved.py --note",
+                self.assertEqual(sorted(ran[2:]), sorted([f"{OTHERS} --costs proving", "costs docs/proof-cost.txt true ci by N", "proved.py --note",
                                                           f"{PROGRAMS} --costs", "batches.py", "run.sh --gate"]))
                 self.assertIn("of_it", (self.root / "docs/gate-cost.txt").read_text())
 
