@@ -41,6 +41,13 @@ done
 run pt_explore as_the_gate_runs_it "$root/crates/pt_explore/stdin"
 is_same "$root/crates/pt_explore/stdout" "$work/out/as_the_gate_runs_it" as_the_gate_runs_it "what it prints"
 
+# A file of expected outcomes whose lines end with CR LF says the same.
+sed 's/$/\r/' "$here/race.expected" >"$work/returns.expected"
+run pt_explore race_file_returns /dev/null checks/explore/race.json --order turns --expect-file "$work/returns.expected"
+is_same "$here/race_file.stdout" "$work/out/race_file_returns" race_file_returns "what it prints"
+is_same /dev/null "$work/err/race_file_returns" race_file_returns "standard error"
+has_status race_file_returns 0
+
 # On several threads the same is printed, where all schedules are run and where there are more than the limit.
 for name in after_turns mended_first race race_all race_budget race_chart race_either race_first race_first_at_limit race_first_limit race_first_one \
     race_first_steps race_limit race_one race_turns race_waiting unlink threads; do
