@@ -29,7 +29,8 @@ from typing import Any, Optional
 
 ADDRESS = re.compile(r"http://127\.0\.0\.1:(\d+)/([0-9a-f]{32})/")
 COUNTS = ("messages", "handlers", "restarts", "losses")
-PATIENCE = 60.0
+# For how many seconds it is waited for what has to come.
+PATIENCE = 120.0
 
 
 class Fault(Exception):
@@ -147,7 +148,7 @@ def refuses(program: Program) -> None:
         got = b""
         while (not got or b" 503 " in got) and program.runs():
             try:
-                with socket.create_connection(("127.0.0.1", program.port), timeout=5) as client:
+                with socket.create_connection(("127.0.0.1", program.port), timeout=PATIENCE) as client:
                     client.sendall(f"{line}\r\n\r\n".encode())
                     got = client.recv(64)
             except OSError:
