@@ -17,6 +17,7 @@ import json
 import os
 import re
 import shutil
+import signal
 import subprocess
 import sys
 import tempfile
@@ -29,9 +30,9 @@ sys.dont_write_bytecode = True
 ROOT = Path(__file__).resolve().parent.parent
 FAULTS = ROOT / "checks" / "planted"
 KEY = re.compile(r"^(of|fault|trial|file|old|new): ?", re.M)
-# How many seconds of a processor a trial may take with a fault, and the statuses of one that takes more (.ci/bounded).
+# How many seconds of a processor a trial may take with a fault, and how one ends that takes more (.ci/bounded).
 LONGEST = 120
-BOUNDED, OVER = str(ROOT / ".ci" / "bounded"), (124, 152)
+BOUNDED, OVER = str(ROOT / ".ci" / "bounded"), (124, -signal.SIGXCPU)
 TEST = "trial_runtime"
 
 PLANTED = """\
