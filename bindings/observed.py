@@ -29,8 +29,8 @@ from typing import Any, Optional
 
 ADDRESS = re.compile(r"http://127\.0\.0\.1:(\d+)/([0-9a-f]{32})/")
 COUNTS = ("messages", "handlers", "restarts", "losses")
-# For how many seconds it is waited for what has to come, and how often it is looked beside those who disturb, if there is time.
-PATIENCE, LOOKS = 120.0, 3
+# For how many seconds it is waited for what has to come.
+PATIENCE = 120.0
 
 
 class Fault(Exception):
@@ -110,9 +110,9 @@ class Watcher:
             self.compare(got)
 
     def has_looked(self) -> None:
-        """Waits until it has looked some times, beside those who disturb: on a busy machine a look may take most of a minute."""
-        until, wanted = time.monotonic() + 5 * PATIENCE, self.count + LOOKS
-        while self.program.runs() and self.fault is None and self.count < wanted and time.monotonic() < until:
+        """Waits until it has looked once more, beside those who disturb: on a busy machine a look may take a minute."""
+        until, before = time.monotonic() + PATIENCE, self.count
+        while self.program.runs() and self.fault is None and self.count == before and time.monotonic() < until:
             time.sleep(0.05)
 
     def compare(self, got: dict[str, Any]) -> None:
@@ -328,9 +328,9 @@ def main() -> int:
         seen = see(program, browser, supervisors) if browser else "no chromium: the page was not opened (apt-get install chromium)"
     except Fault as what:
         seen, fault = "", fault or str(what)
+    watcher.has_looked()
     # (so all are there for a while)
     time.sleep(3)
-    watcher.has_looked()
     program.ends()
     status = program.process.wait(600)
     threads[0].join()
