@@ -10,6 +10,7 @@ from __future__ import annotations
 
 import re
 import resource
+import signal
 import socket
 import subprocess
 import sys
@@ -77,15 +78,14 @@ class Server:
         return int(found[1])
 
     def end(self) -> None:
-        """Has it end: one ends with its input, and the other by a signal."""
+        """Has it end: one ends with its input, and the other by a signal, which it handles."""
         assert self.process.stdin is not None and self.process.stdout is not None
         self.process.stdin.close()
-        try:
-            self.process.wait(5)
-        except subprocess.TimeoutExpired:
+        handled = re.search(r"SigCgt:\s+(\w+)", Path(f"/proc/{self.process.pid}/status").read_text())
+        if handled is not None and int(handled[1], 16) >> (signal.SIGTERM - 1) & 1:
             self.process.terminate()
         self.process.stdout.read()
-        assert self.process.wait(60) == 0, f"the server ended with {self.process.returncode}"
+        assert self.process.wait(PATIENCE) == 0, f"the server ended with {self.process.returncode}"
 
 
 class Good:
@@ -158,11 +158,15 @@ def many(server: Server, good: Good) -> None:
     good.go_on()
     for client in clients:
         client.socket.close()
+    served(server, 2)
+
+
+def served(server: Server, room: int, kept: int = 0) -> Client:
+    """A client that is served, once there is room for it: the server closes those of before one after the other."""
     until = time.monotonic() + PATIENCE
     while True:
         try:
-            Client(server.address, 2)
-            return
+            return Client(server.address, room, kept)
         except (AssertionError, OSError):
             assert time.monotonic() < until, "no connection is served any more"
             time.sleep(0.1)
@@ -170,7 +174,7 @@ def many(server: Server, good: Good) -> None:
 
 def without_reading(server: Server) -> None:
     """A client that never reads, in a room where much is said. The one who says it hears it all, and that the other is gone."""
-    deaf, speaker = Client(server.address, 3, 4_096), Client(server.address, 3)
+    deaf, speaker = served(server, 3, 4_096), served(server, 3)
     ahead = threading.Semaphore(AHEAD)
     speaks = threading.Thread(target=speak, args=(speaker, ahead))
     speaks.start()
@@ -186,7 +190,7 @@ def without_reading(server: Server) -> None:
         ahead.release()
     assert gone == 1, f"a client that does not read is served after {FLOOD} bytes"
     speaker.socket.shutdown(socket.SHUT_RDWR)
-    ahead.release(FLOOD)
+    ahead.release()
     speaks.join()
     # (it may still read what was sent before, and hears why it is gone if that was in time)
     try:

@@ -29,7 +29,8 @@ from typing import Any, Optional
 
 ADDRESS = re.compile(r"http://127\.0\.0\.1:(\d+)/([0-9a-f]{32})/")
 COUNTS = ("messages", "handlers", "restarts", "losses")
-PATIENCE = 60.0
+# For how many seconds it is waited for what has to come.
+PATIENCE = 120.0
 
 
 class Fault(Exception):
@@ -95,15 +96,24 @@ class Watcher:
     def run(self) -> None:
         try:
             while self.program.runs():
-                began = time.monotonic()
-                got = state(self.program)
-                if got is not None:
-                    self.count += 1
-                    self.slowest = max(self.slowest, time.monotonic() - began)
-                    self.compare(got)
+                self.look()
                 time.sleep(0.05)
         except Fault as fault:
             self.fault = str(fault)
+
+    def look(self) -> None:
+        began = time.monotonic()
+        got = state(self.program)
+        if got is not None:
+            self.count += 1
+            self.slowest = max(self.slowest, time.monotonic() - began)
+            self.compare(got)
+
+    def has_looked(self) -> None:
+        """Waits until it has looked once more, beside those who disturb: on a busy machine a look may take a minute."""
+        until, before = time.monotonic() + PATIENCE, self.count
+        while self.program.runs() and self.fault is None and self.count == before and time.monotonic() < until:
+            time.sleep(0.05)
 
     def compare(self, got: dict[str, Any]) -> None:
         for desk in got["desks"]:
@@ -147,7 +157,7 @@ def refuses(program: Program) -> None:
         got = b""
         while (not got or b" 503 " in got) and program.runs():
             try:
-                with socket.create_connection(("127.0.0.1", program.port), timeout=5) as client:
+                with socket.create_connection(("127.0.0.1", program.port), timeout=PATIENCE) as client:
                     client.sendall(f"{line}\r\n\r\n".encode())
                     got = client.recv(64)
             except OSError:
@@ -300,7 +310,10 @@ def main() -> int:
     browser = Browser(chromium) if chromium else None
     program = Program(sys.argv[1 if supervisors else 2 :])
     found = ""
+    watcher = Watcher(program)
     try:
+        # (some programs end by themselves: so the first look is before all else)
+        watcher.look()
         if browser:
             browser.tell("Emulation.setDeviceMetricsOverride", width=1300, height=900, deviceScaleFactor=1, mobile=False)
             browser.tell("Page.navigate", url=program.url)
@@ -308,7 +321,6 @@ def main() -> int:
         found = pages(program)
     except Fault as what:
         fault = str(what)
-    watcher = Watcher(program)
     threads = [threading.Thread(target=watcher.run), threading.Thread(target=disturb, args=(program,), daemon=True)]
     for thread in threads:
         thread.start()
@@ -316,6 +328,7 @@ def main() -> int:
         seen = see(program, browser, supervisors) if browser else "no chromium: the page was not opened (apt-get install chromium)"
     except Fault as what:
         seen, fault = "", fault or str(what)
+    watcher.has_looked()
     # (so all are there for a while)
     time.sleep(3)
     program.ends()

@@ -114,7 +114,7 @@ class World:
 def ran(words: list[str | Path], at: Path, **more: str) -> subprocess.CompletedProcess[str]:
     """Runs a command in a folder, with these variables."""
     return subprocess.run(list(map(str, words)), cwd=at, env={**os.environ, **more}, stdin=subprocess.DEVNULL,
-                          capture_output=True, text=True, timeout=300, check=False)
+                          capture_output=True, text=True, timeout=1800, check=False)
 
 
 def run(words: list[str | Path], at: Path, **more: str) -> str:

@@ -17,6 +17,7 @@ import json
 import os
 import re
 import shutil
+import signal
 import subprocess
 import sys
 import tempfile
@@ -29,8 +30,9 @@ sys.dont_write_bytecode = True
 ROOT = Path(__file__).resolve().parent.parent
 FAULTS = ROOT / "checks" / "planted"
 KEY = re.compile(r"^(of|fault|trial|file|old|new): ?", re.M)
-# How long a trial may take with a fault, in seconds.
+# How many seconds of a processor a trial may take with a fault, and how one ends that takes more (.ci/bounded).
 LONGEST = 120
+BOUNDED, OVER = str(ROOT / ".ci" / "bounded"), (124, -signal.SIGXCPU)
 TEST = "trial_runtime"
 
 PLANTED = """\
@@ -143,11 +145,10 @@ def built(crate: Path) -> Path:
 
 def tried(command: list[str], environment: dict[str, str], where: Path) -> Optional[str]:
     """What a command says that fails, and None if it passes."""
-    try:
-        done = subprocess.run(command, cwd=where, env={**os.environ, **environment}, capture_output=True, text=True, check=False,
-                              timeout=LONGEST)
-    except subprocess.TimeoutExpired:
-        raise Broken(f"{' '.join(command)} takes more than {LONGEST} seconds") from None
+    done = subprocess.run([BOUNDED, str(LONGEST), *command], cwd=where, env={**os.environ, **environment}, capture_output=True,
+                          text=True, check=False)
+    if done.returncode in OVER:
+        raise Broken(f"{' '.join(command)} takes more than {LONGEST} seconds")
     return done.stdout + done.stderr if done.returncode else None
 
 

@@ -197,11 +197,11 @@ echo "c: examples passed"
 # same under valgrind, with fewer. They end once all has been looked at: PUNDEWO_WATCHED has how
 # many seconds they take at most.
 page=$here/rust/src/runtime/observing/observer.html
-watched=${PUNDEWO_WATCHED:-120}
-timeout 300 "$here/observed.py" "$work/observe" "$page" "$watched" 20000
+watched=${PUNDEWO_WATCHED:-900}
+timeout 1800 "$here/observed.py" "$work/observe" "$page" "$watched" 20000
 if command -v valgrind >/dev/null; then
     # shellcheck disable=SC2086 # (words)
-    timeout 300 "$here/observed.py" $memory "$work/observe" "$page" "$watched" 300
+    timeout 1800 "$here/observed.py" $memory "$work/observe" "$page" "$watched" 300
 fi
 echo "c: the node that is watched passed"
 
@@ -242,7 +242,7 @@ echo "rust: tests, pages and examples passed"
 chat=$CARGO_TARGET_DIR/debug/examples
 "$here/../.ci/bounded" 120 "$chat/chat_load" "$chat/chat" "$work/chat.history" 40 10 3 10
 "$here/../bin/pt_audit" "$work/chat.history"
-timeout 300 "$here/bad_clients.py" "$chat/chat" 0 "$work/bad.history"
+timeout 1800 "$here/bad_clients.py" "$chat/chat" 0 "$work/bad.history"
 echo "rust: the chat server passed"
 
 # The line server of tokio under its load, over Debian's crate of it: connections die in calls, servers crash, nothing is lost
@@ -278,11 +278,11 @@ echo "rust: the telephone exchange passed"
 
 # The exchange and the chat while their pages are looked at, by slow and bad clients, too, and in a browser if there is one:
 # nothing is lost
-timeout 300 "$here/observed.py" "$chat/exchange" "$work/observed.history" 8000
+timeout 1800 "$here/observed.py" "$chat/exchange" "$work/observed.history" 8000
 "$here/../bin/pt_audit" "$work/observed.history"
-timeout 300 "$here/observed.py" --unsupervised "$chat/chat_load" "$chat/chat" "$work/observed_chat.history" 40 10 20 10 watched
+timeout 1800 "$here/observed.py" --unsupervised "$chat/chat_load" "$chat/chat" "$work/observed_chat.history" 40 10 20 10 watched
 "$here/../bin/pt_audit" "$work/observed_chat.history"
-timeout 300 "$here/observed.py" "$chat/many" "$work/many.history" 20000 "$watched"
+timeout 1800 "$here/observed.py" "$chat/many" "$work/many.history" 20000 "$watched"
 "$here/../bin/pt_audit" "$work/many.history"
 "$here/../.ci/bounded" 120 "$chat/pages" "$work/pages.history" 20000 2
 "$here/../bin/pt_audit" "$work/pages.history"
@@ -320,12 +320,12 @@ echo "python: tests passed"
 (cd "$here/python" && PYTHONPATH=. "$here/../.ci/bounded" 240 python3 examples/chat_load.py --connections 40 --crashing 10 --rate 10 \
     --seconds 3 --archive "$work/chat_python.history")
 "$here/../bin/pt_audit" "$work/chat_python.history"
-(cd "$here/python" && PYTHONPATH=. timeout 300 "$here/bad_clients.py" python3 examples/chat.py)
+(cd "$here/python" && PYTHONPATH=. timeout 1800 "$here/bad_clients.py" python3 examples/chat.py)
 echo "python: the chat server passed"
-(cd "$here/python" && PYTHONPATH=. timeout 300 "$here/observed.py" python3 -u examples/watched.py 20)
-(cd "$here/python" && PYTHONPATH=. timeout 300 "$here/observed.py" --unsupervised python3 -u examples/chat_load.py --watched \
+(cd "$here/python" && PYTHONPATH=. timeout 1800 "$here/observed.py" python3 -u examples/watched.py 20)
+(cd "$here/python" && PYTHONPATH=. timeout 1800 "$here/observed.py" --unsupervised python3 -u examples/chat_load.py --watched \
     --connections 40 --crashing 10 --rate 10 --seconds 20)
-(cd "$here/python" && PYTHONPATH=. timeout 300 "$here/observed.py" python3 -u examples/many.py 20000 "$watched")
+(cd "$here/python" && PYTHONPATH=. timeout 1800 "$here/observed.py" python3 -u examples/many.py 20000 "$watched")
 echo "python: the runs that are watched passed"
 python3 -m venv "$work/venv"
 "$work/venv/bin/pip" install -q --no-index --disable-pip-version-check "$here/python"

@@ -67,7 +67,7 @@ if [ "${1:-}" = --namespaces ]; then
     mkdir "$work/histories"
     PUNDEWO_ERLANG_HISTORIES=$work/histories PUNDEWO_ERLANG_PLACES="10.91.0.1 10.91.0.2 ip netns exec $theirs" \
         PUNDEWO_ERLANG_WIRE="ip -n $ours link set wire" \
-        ip netns exec "$ours" timeout 600 cargo test -q --offline --test load -- --nocapture
+        ip netns exec "$ours" timeout 3600 cargo test -q --offline --test load -- --nocapture
     compares "$work/histories"
     echo "erlang: the load between two network namespaces passed"
     exit 0
@@ -78,7 +78,7 @@ if cargo fmt --version >/dev/null 2>&1; then
     cargo fmt --check
 fi
 mkdir "$work/histories"
-PUNDEWO_ERLANG_HISTORIES=$work/histories timeout 600 cargo test -q --offline -- --nocapture >"$work/printed" 2>&1 \
+PUNDEWO_ERLANG_HISTORIES=$work/histories timeout 3600 cargo test -q --offline -- --nocapture >"$work/printed" 2>&1 \
     || { grep -v '^ *[0-9]*: \|^ *at ' "$work/printed" | tail -n 60; exit 1; }
 grep -E '^[a-zA-Z0-9,. ]+: [0-9]+ in |with eight cuts|linked pairs: |were on their way|waited at most|cut off$' "$work/printed" || true
 compares "$work/histories"
@@ -107,7 +107,7 @@ exec 9>"$work/input"
 tries=0
 until grep -q 'serves the counter' "$work/counter"; do
     tries=$((tries + 1))
-    [ "$tries" -lt 200 ] || { cat "$work/counter_said"; echo "erlang: the counter does not begin"; exit 1; }
+    [ "$tries" -lt 1200 ] || { cat "$work/counter_said"; echo "erlang: the counter does not begin"; exit 1; }
     sleep 0.1
 done
 session=$here/examples/counter.session
@@ -116,7 +116,7 @@ session=$here/examples/counter.session
     sed -n 's/^([a-z@0-9.]*)[0-9]*> //p' "$session"
     sleep 1
     echo 'halt().'
-} | timeout 60 erl -name shell@127.0.0.1 >"$work/shell"
+} | timeout 600 erl -name shell@127.0.0.1 >"$work/shell"
 # (a shell that has no terminal does not print what it reads)
 sed -n '/^(shell@/p' "$work/shell" | sed 's/^([a-z@0-9.]*)[0-9]*> //' | head -n "$(grep -c '> ' "$session")" >"$work/answers"
 grep -v '^(shell@' "$session" | diff - "$work/answers" || { cat "$work/shell" "$work/counter_said"; exit 1; }

@@ -8,7 +8,10 @@ nothing is told.
 """
 from __future__ import annotations
 
+import os
+import pty
 import re
+import select
 import subprocess
 import sys
 import tempfile
@@ -21,11 +24,14 @@ from terminal import on_a_terminal  # noqa: E402
 
 PART = re.compile(r"(\d+) % read, about (\d+) seconds left")
 DRAWN = re.compile(r"(\d+) % drawn, about (\d+) seconds left")
-# A history is made longer until the audit takes so many seconds.
+# A history is made longer until something is told. It has to be if the audit takes so many seconds.
 LONG = 1.8
 MOST_EVENTS = 4_000_000
 # The same of a chart, of which a part is drawn.
 LONG_CHART = 12.0
+# How many pieces of standard input come at most until something is told of them, how many bytes each has, and how many seconds are
+# between two.
+MOST_PIECES, PIECE, PAUSE = 400, 1_000, 0.25
 
 
 class Wrong(Exception):
@@ -67,6 +73,26 @@ def draw(program: str, history: Path) -> None:
         raise Wrong(f"of a chart it says {said!r}, and without a terminal {silent.stderr!r}")
 
 
+def told_of_input(program: str, text: bytes) -> str:
+    """What is told first of standard input, which comes slowly until then."""
+    terminal, other = pty.openpty()
+    with subprocess.Popen([program, "--judge"], stdin=subprocess.PIPE, stdout=subprocess.DEVNULL, stderr=other) as started:
+        assert started.stdin is not None
+        os.close(other)
+        try:
+            for at in range(0, len(text), PIECE):
+                started.stdin.write(text[at : at + PIECE])
+                started.stdin.flush()
+                if select.select([terminal], [], [], PAUSE)[0]:
+                    return os.read(terminal, 4096).decode().replace("\r\n", "\n")
+            return ""
+        except OSError as fault:  # it has ended
+            return str(fault)
+        finally:
+            started.kill()
+            os.close(terminal)
+
+
 def main(program: str) -> None:
     with tempfile.TemporaryDirectory() as folder:
         draw(program, Path(folder) / "history")
@@ -74,7 +100,7 @@ def main(program: str) -> None:
         while True:
             made(history, events)
             printed, said, seconds = on_a_terminal([program, "--judge", str(history)])
-            if seconds > LONG or events >= MOST_EVENTS:
+            if said or events >= MOST_EVENTS:
                 break
             events *= 2
         parts = parts_of(said)
@@ -85,8 +111,7 @@ def main(program: str) -> None:
         silent = subprocess.run([program, "--judge", str(history)], capture_output=True, text=True, check=False)
         if silent.stderr or silent.stdout != printed:
             raise Wrong(f"without a terminal it says {silent.stderr!r}")
-        slowly = f"(head -c 1000 {history}; sleep 2.2; tail -c +1001 {history}) | {program} --judge"
-        said = on_a_terminal(["sh", "-c", slowly])[1]
+        said = told_of_input(program, history.read_bytes()[: MOST_PIECES * PIECE])
         if not re.match(r"0 MB read so far\n", said):
             raise Wrong(f"of standard input it says {said!r}")
 

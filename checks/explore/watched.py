@@ -1,7 +1,7 @@
 #!/usr/bin/env python3
 """Runs pt_explore with a terminal as its standard error, and waits until it tells how far it is.
 
-    checks/explore/watched.py PROGRAM        the status is 1 if it tells nothing within a minute
+    checks/explore/watched.py PROGRAM        the status is 1 if it tells nothing within ten minutes
 
 It is asked for schedules by chance, for all on one thread and on two, and for all of moves. Of the first three it has to tell
 how long the rest takes, too.
@@ -23,7 +23,7 @@ TIMED = re.compile(rb"^[1-9][0-9]* schedules so far: [0-9]+ %, about [0-9]+ seco
 STATES = re.compile(rb"^[1-9][0-9]* states so far, the last after [0-9]+ moves\r?$", re.M)
 # No line says more or less than this.
 ALL = re.compile(rb"(?:[0-9]+ schedules so far(?:: [0-9]+ %, about [0-9]+ seconds left)?\r?\n|[0-9]+ states so far, the last after [0-9]+ moves\r?\n)*")
-MOST_SECONDS = 60.0
+MOST_SECONDS = 600.0
 
 
 def script(desks: int, passes: int) -> str:

@@ -52,7 +52,7 @@ run_case(calls, [To, Requests]) ->
 run_case(monitor, [Target, Then]) ->
     Monitor = monitor(process, Target),
     Then =:= nothing orelse (Target ! Then),
-    receive {'DOWN', Monitor, process, _, Reason} -> {down, Reason} after 5000 -> nothing end;
+    receive {'DOWN', Monitor, process, _, Reason} -> {down, Reason} after 60000 -> nothing end;
 run_case(demonitor, [Target, Then]) ->
     Monitor = monitor(process, Target),
     demonitor(Monitor),
@@ -62,7 +62,7 @@ run_case(link, [Pid, Then]) ->
     process_flag(trap_exit, true),
     link(Pid),
     Then =:= nothing orelse (Pid ! Then),
-    receive {'EXIT', Pid, Reason} -> {exit, Reason} after 5000 -> nothing end;
+    receive {'EXIT', Pid, Reason} -> {exit, Reason} after 60000 -> nothing end;
 run_case(unlink, [Pid, Then]) ->
     process_flag(trap_exit, true),
     link(Pid),
@@ -86,7 +86,7 @@ run_case(ping, [Node]) ->
     net_adm:ping(Node).
 
 node_event(Node) ->
-    receive {Event, Node, [{node_type, hidden}]} -> Event after 5000 -> nothing end.
+    receive {Event, Node, [{node_type, hidden}]} -> Event after 60000 -> nothing end.
 
 %% Tells a process as a node goes.
 tell_nodedown(Node, To) ->
@@ -166,7 +166,7 @@ sink(Said) ->
 
 sink_said(Name) ->
     Name ! {said, self()},
-    receive {said, Said} -> Said after 10000 -> timeout end.
+    receive {said, Said} -> Said after 60000 -> timeout end.
 
 %% Processes that trap exits, each for one process of the other node, with which it links itself if it is told so. What exit
 %% signals they have got is counted by reasons.

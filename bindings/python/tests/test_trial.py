@@ -171,7 +171,7 @@ class FaultTest(unittest.TestCase):
         began = time.monotonic()
         trial = Trial(lambda world: world.spawn(Does(lambda cx, event: r.Next.stop(), lambda cx: r.Next.wait(3600.0))))
         trial.all_end().outcome(lambda world, one: round(world.now())).every().expect("3600")
-        self.assertLess(time.monotonic() - began, 10)
+        self.assertLess(time.monotonic() - began, 1_000)
 
     def test_a_process_is_killed_at_any_step(self) -> None:
         def scenario(world: World) -> r.Address:

@@ -24,12 +24,14 @@ const ROOMS: usize = 20;
 /// After so much silence it is looked whether all has come.
 const SILENCE: Duration = Duration::from_millis(200);
 /// How long it is waited for what has not come.
-const PATIENCE: Duration = Duration::from_secs(30);
+const PATIENCE: Duration = Duration::from_secs(120);
 /// A run of this time has epochs enough to see that memory is flat.
 const LONG: Duration = Duration::from_secs(10);
-/// How long the idle server is looked at, and how many hundredths of a second it may have taken then: 0.5 % of a core.
+/// How long the idle server is looked at, how many hundredths of a second it may have taken then (0.5 % of a core), and how often
+/// it is looked at most until it rests.
 const IDLE: Duration = Duration::from_secs(4);
 const IDLE_TICKS: u64 = 2;
+const LOOKS: u32 = 10;
 
 /// What was said in the rooms, and what came of it.
 #[derive(Default)]
@@ -55,6 +57,8 @@ struct Load {
     server: SocketAddr,
     rate: u32,
     time: Duration,
+    /// How often the idle server is looked at, until it rests.
+    looks: u32,
     begun: Instant,
     /// All are there; they begin; they are done.
     joined: Barrier,
@@ -199,14 +203,27 @@ fn memory(process: u32) -> Result<u64, Fault> {
     Ok(statm.split(' ').nth(1).unwrap_or_default().parse::<u64>()? * 4)
 }
 
+/// The time that a process takes in a while, in hundredths of a second.
+fn ticks_in_a_while(process: u32) -> Result<u64, Fault> {
+    let before = ticks(process)?;
+    thread::sleep(IDLE);
+    Ok(ticks(process)? - before)
+}
+
 /// Looks at the server while the others talk: idle first, and then at its memory. It returns what it takes idle, and its
 /// memory after half of the time and at the end.
 fn look(load: &Load, process: u32, over: &AtomicBool) -> Result<(u64, u64, u64), Fault> {
     load.joined.wait();
-    let before = ticks(process)?;
-    thread::sleep(IDLE);
-    let idle = ticks(process)? - before;
+    // (on a busy machine it may take a while until it has nothing to do; one that never rests takes more in every while)
+    let mut idle = ticks_in_a_while(process);
+    for _ in 1..load.looks {
+        if !matches!(idle, Ok(ticks) if ticks > IDLE_TICKS) {
+            break;
+        }
+        idle = ticks_in_a_while(process);
+    }
     load.begin.wait();
+    let idle = idle?;
     thread::sleep(load.time / 2);
     let early = memory(process)?;
     let mut late = early;
@@ -246,11 +263,11 @@ fn start(server: &str, history: &str) -> Result<(Child, SocketAddr, BufReader<im
 }
 
 impl Load {
-    fn new(server: SocketAddr, connections: usize, rate: u32, time: Duration) -> Load {
+    fn new(server: SocketAddr, connections: usize, rate: u32, time: Duration, looks: u32) -> Load {
         let barrier = |more| Barrier::new(connections + more);
         let (joined, begin, done) = (barrier(1), barrier(1), barrier(0));
         let tally = Tally { speaking: AtomicU64::new(connections as u64), ..Tally::default() };
-        Load { server, rate, time, begun: Instant::now(), joined, begin, done, tally }
+        Load { server, rate, time, looks, begun: Instant::now(), joined, begin, done, tally }
     }
 
     /// Prints what came of it, and returns how many crashed.
@@ -270,7 +287,8 @@ fn main() -> Result<(), Fault> {
     };
     let (connections, crashing) = (connections.parse()?, crashing.parse()?);
     let (mut child, server, mut lines) = start(server, history)?;
-    let load = Load::new(server, connections, rate.parse()?, Duration::from_secs(seconds.parse()?));
+    let looks = if watched.is_empty() { LOOKS } else { 1 };
+    let load = Load::new(server, connections, rate.parse()?, Duration::from_secs(seconds.parse()?), looks);
     let (idle, early, late) = talk(&load, connections, crashing, child.id())?;
     drop(child.stdin.take());
     let mut summary = String::new();

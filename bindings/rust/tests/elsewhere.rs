@@ -472,7 +472,7 @@ fn a_tree_grows_over_all_desks() -> Result<(), Error> {
 fn a_child_elsewhere_is_killed_when_its_time_is_over() -> Result<(), Error> {
     let scene = Scene::new();
     let stays = || Child::permanent(scene.make("s", Manner::Stays));
-    let short = stays().on(1).shutdown(Shutdown::After(Duration::from_millis(500)));
+    let short = stays().on(1).shutdown(Shutdown::After(Duration::from_secs(2)));
     let supervisor =
         scene.spawn(Supervisor::one_for_one().child(short).child(stays().on(2).shutdown(Shutdown::BrutalKill)));
     scene.hears(&["+s", "+s"]);
@@ -495,7 +495,7 @@ fn a_child_without_its_supervisor_is_told_by_the_run() -> Result<(), Error> {
     scene.hears(&["killed?s"]);
     wait_until(|| scene.runtime.call(&supervisor, LONG, ToSupervisor::which_children).is_err());
     let Scene { runtime, notes, .. } = scene;
-    runtime.stop_within(Duration::from_millis(300)).expect_err("a process that stays");
+    runtime.stop_within(Duration::from_secs(2)).expect_err("a process that stays");
     assert_eq!(notes.recv_timeout(LONG)?, "shutdown?s");
     Ok(())
 }

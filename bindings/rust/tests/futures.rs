@@ -205,9 +205,9 @@ fn a_call_that_is_given_up_leaves_nothing() -> Result<(), Error> {
     drop(asking);
     assert_eq!(Arc::strong_count(&value), 1);
     // a desk that is held up is named
-    server.send(Asked::Nap(Duration::from_millis(400)));
+    server.send(Asked::Nap(Duration::from_secs(2)));
     let asking = server.ask(|reply| Asked::Double(1, reply));
-    let (asking, ()) = block_on(either(asking, timer(Duration::from_millis(100)))).expect_err("no answer");
+    let (asking, ()) = block_on(either(asking, timer(Duration::from_millis(500)))).expect_err("no answer");
     assert!(
         matches!(asking.late(), CallFault::Timeout(Some((pid, name))) if pid == server.pid() && name.contains("Server"))
     );
@@ -233,7 +233,7 @@ fn a_waker_that_panics_harms_nobody() -> Result<(), Error> {
     let mut mailbox = runtime.mailbox::<u32>()?;
     let waker = Waker::from(Arc::new(Panics));
     let mut cx = task::Context::from_waker(&waker);
-    server.send(Asked::Nap(Duration::from_millis(50)));
+    server.send(Asked::Nap(Duration::from_secs(1)));
     let mut asking = Box::pin(server.ask(|reply| Asked::Double(21, reply)));
     assert!(asking.as_mut().poll(&mut cx).is_pending() && mailbox.poll_recv(&mut cx).is_pending());
     mailbox.address().send(5);

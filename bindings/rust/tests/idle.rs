@@ -3,6 +3,10 @@
 use pundewo::runtime::{Behaviour, Context, Event, Next, Runtime};
 use std::time::Duration;
 
+/// For how long it is looked at, and how many hundredths of a second it may take then: 0.5 % of a core.
+const WHILE: Duration = Duration::from_secs(4);
+const MOST: u64 = 2;
+
 struct Waits(Next);
 
 impl Behaviour for Waits {
@@ -24,6 +28,13 @@ fn ticks() -> u64 {
     words.skip(11).take(2).map(|word| word.parse::<u64>().expect("a number")).sum()
 }
 
+/// The time that this process takes in a while, in hundredths of a second.
+fn taken_in_a_while() -> u64 {
+    let before = ticks();
+    std::thread::sleep(WHILE);
+    ticks() - before
+}
+
 #[test]
 fn it_rests_while_nothing_is_to_be_done() {
     let runtime = Runtime::builder().desks(4).start().expect("a run");
@@ -32,9 +43,11 @@ fn it_rests_while_nothing_is_to_be_done() {
         runtime.spawn(Waits(Next::WaitFor(Duration::from_secs(3_600)))).expect("a process");
     }
     std::thread::sleep(Duration::from_millis(300));
-    let before = ticks();
-    std::thread::sleep(Duration::from_secs(4));
-    // 0.5 % of a core
-    assert!(ticks() - before <= 2, "{} hundredths of a second", ticks() - before);
+    // (a busy machine takes a while until all have begun; one that never rests takes more in every while)
+    let mut taken = vec![taken_in_a_while()];
+    while taken.last() > Some(&MOST) && taken.len() < 10 {
+        taken.push(taken_in_a_while());
+    }
+    assert!(taken.last() <= Some(&MOST), "{taken:?} hundredths of a second");
     assert_eq!(runtime.stop().expect("a summary").spawned, 400);
 }

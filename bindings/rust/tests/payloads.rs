@@ -7,6 +7,8 @@ use std::sync::atomic::{AtomicU64, Ordering::SeqCst};
 use std::sync::{Arc, Mutex};
 use std::time::{Duration, Instant};
 
+const LONG: Duration = Duration::from_secs(120);
+
 type Error = Box<dyn std::error::Error>;
 
 /// What became of the values, by their numbers.
@@ -166,7 +168,7 @@ impl Behaviour for Chaotic {
 
 /// Lets processes act at random, with more of them coming from outside, until so many epochs have ended or the run halts.
 fn storm(runtime: &Runtime, ledger: &Arc<Ledger>, lives: &Arc<AtomicU64>, epochs: u64) {
-    let until = Instant::now() + Duration::from_secs(60);
+    let until = Instant::now() + LONG;
     let mut peers: Vec<Address<Message>> = Vec::new();
     for draw in 1.. {
         if runtime.epochs() >= epochs || runtime.is_over() {
@@ -225,7 +227,7 @@ fn a_run_that_is_dropped_drops_all() -> Result<(), Error> {
     storm(&runtime, &ledger, &lives, 10);
     drop(runtime);
     // (its threads end by themselves)
-    let until = Instant::now() + Duration::from_secs(60);
+    let until = Instant::now() + LONG;
     while !ledger.is_balanced() && Instant::now() < until {
         std::thread::sleep(Duration::from_millis(5));
     }
@@ -291,7 +293,7 @@ fn values_in_timers_that_panic_as_they_are_dropped_harm_no_end_of_a_run() -> Res
         let keeps = runtime.spawn(Keeps)?;
         (0..3).for_each(|_| assert!(keeps.send(Thorn)));
         while drained && keeps.waiting() > 0 {}
-        assert_eq!(if drained { runtime.drain(Duration::from_secs(60))? } else { runtime.stop()? }.panics, 0);
+        assert_eq!(if drained { runtime.drain(LONG)? } else { runtime.stop()? }.panics, 0);
     }
     Ok(())
 }
@@ -318,7 +320,7 @@ impl Behaviour for Postpones {
 
     fn started(&mut self, cx: &mut Context<'_, ()>) -> Next {
         for _ in 0..2 {
-            cx.call(&self.0, Duration::from_secs(60), |reply| reply).expect("a call");
+            cx.call(&self.0, LONG, |reply| reply).expect("a call");
         }
         Next::Wait
     }
@@ -338,7 +340,7 @@ fn answers_that_were_postponed_and_panic_as_they_are_dropped_harm_no_run() -> Re
         let postpones = runtime.spawn(Postpones(thorns, 0))?;
         let mut watch = runtime.mailbox::<()>()?;
         watch.monitor(&postpones)?;
-        assert!(matches!(watch.recv_within(Duration::from_secs(60)), Some(Event::Down(_))));
+        assert!(matches!(watch.recv_within(LONG), Some(Event::Down(_))));
         assert_eq!(runtime.stop()?.panics, 0);
     }
     Ok(())

@@ -438,7 +438,12 @@ fn a_drain_ends_in_time() -> Result<(), Error> {
     assert_eq!(scene.runtime.drain(LONG)?.spawned, 2);
     let scene = Scene::new(Runtime::builder().desks(1))?;
     let keeps = scene.runtime.spawn(Keeps(kept.clone()))?;
+    let before = kept.lock().expect("replies").len();
     let asking = keeps.ask(|reply| reply);
+    let until = Instant::now() + LONG;
+    while kept.lock().expect("replies").len() == before && Instant::now() < until {
+        std::thread::sleep(Duration::from_millis(1));
+    }
     let fault = scene.runtime.drain(Duration::from_millis(100)).expect_err("a call is open");
     assert!(matches!(fault, StopFault::NotDrained { waiting: 0, .. }), "{fault}");
     assert_eq!(block_on(asking), Err(CallFault::Down(Reason::Shutdown, None)));

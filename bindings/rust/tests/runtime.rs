@@ -486,7 +486,7 @@ fn a_process_that_would_not_end_is_named() -> Result<(), Error> {
     let process = runtime.spawn_on(1, stubborn(give))?;
     assert_eq!(got(&told), Reason::Normal);
     runtime.spawn_on(0, acts::<(), _>(|_, _| Next::Wait))?;
-    let fault = runtime.stop_within(Duration::from_millis(200)).expect_err("a process that stays");
+    let fault = runtime.stop_within(Duration::from_secs(1)).expect_err("a process that stays");
     assert!(fault.to_string().starts_with("<1.1.1>, a ") && fault.to_string().ends_with(" would not end"), "{fault}");
     let StopFault::WouldNotEnd { pid, summary: Some(summary), .. } = fault else { panic!("{fault}") };
     assert_eq!((pid, summary.spawned, got(&told)), (process.pid(), 2, Reason::Shutdown));

@@ -11,7 +11,8 @@ use std::sync::{Arc, Mutex};
 use std::time::Duration;
 
 const LONG: Duration = Duration::from_secs(120);
-const SHORT: Duration = Duration::from_millis(60);
+/// A time that is over soon, and within which a busy machine has handled what came before it.
+const SHORT: Duration = Duration::from_millis(300);
 /// A kind that no message has.
 const NEVER: u32 = 50;
 
@@ -81,6 +82,15 @@ fn hears_number(from: &Receiver<Event<Note>>) -> Result<u32, Error> {
     match from.recv_timeout(LONG)? {
         Event::Message(note) => Ok(note.number),
         other => Err(format!("{other:?}").into()),
+    }
+}
+
+/// Waits until so many messages wait for the process: what it takes may still be counted for a while.
+fn waits_for(process: &Address<Note>, count: usize) {
+    let begun = std::time::Instant::now();
+    while process.waiting() != count {
+        assert!(begun.elapsed() < LONG, "{} messages wait, and not {count}", process.waiting());
+        std::thread::sleep(Duration::from_millis(1));
     }
 }
 
@@ -183,7 +193,7 @@ fn selections_take_the_oldest_that_fits() -> Result<(), Error> {
         }
         // the rest waits
         assert!(told.recv_timeout(Duration::from_millis(2)).is_err());
-        assert_eq!(process.waiting(), waiting.len(), "seed {seed}");
+        waits_for(&process, waiting.len());
         runtime.stop()?;
     }
     Ok(())
@@ -248,9 +258,7 @@ fn postponed_messages_keep_their_places() -> Result<(), Error> {
             assert_eq!(told.recv_timeout(LONG)?, number, "seed {seed}");
         }
         assert!(told.recv_timeout(Duration::from_millis(2)).is_err());
-        while process.waiting() != waiting.len() {
-            std::thread::sleep(Duration::from_millis(1));
-        }
+        waits_for(&process, waiting.len());
         assert_eq!(runtime.stop()?.panics, 0);
     }
     Ok(())
@@ -489,6 +497,7 @@ fn bounds_hold_for_what_waits_aside() -> Result<(), Error> {
     let bound = Bound::DropOldest(4);
     let process = runtime.spawn(Plays { play: steps([next].into(), give), bound })?;
     (0..10).for_each(|number| assert!(process.send(note(1, number))));
+    waits_for(&process, 4);
     assert!(told.recv_timeout(SHORT).is_err());
     assert_eq!(process.waiting(), 4);
     assert!(process.send(note(NEVER, 99)));

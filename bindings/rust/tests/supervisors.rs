@@ -472,7 +472,7 @@ fn a_parent_that_exits_takes_its_supervisor_along() {
 #[test]
 fn a_child_that_does_not_exit_in_time_is_killed() {
     let scene = Scene::new();
-    let late = Shutdown::After(Duration::from_millis(30));
+    let late = Shutdown::After(Duration::from_millis(300));
     let supervisor = Supervisor::one_for_one()
         .permanent(scene.worker("a"))
         .child(Child::permanent(scene.make("s", Manner::Stays)).shutdown(late))
@@ -486,7 +486,7 @@ fn a_child_that_does_not_exit_in_time_is_killed() {
     scene.hears(&["?f shutdown", "-f shutdown", "?w shutdown", "-w shutdown", "-k killed", "?s shutdown", "-s killed"]);
     scene.hears(&["-a shutdown"]);
     assert_eq!(got(&exits), Reason::Shutdown);
-    assert!(begun.elapsed() >= Duration::from_millis(150) && begun.elapsed() < LONG);
+    assert!(begun.elapsed() >= Duration::from_millis(420) && begun.elapsed() < LONG);
     scene.stop();
 }
 
@@ -508,7 +508,7 @@ fn children_and_branches_have_time_to_exit_if_nothing_else_is_said() {
 fn a_sibling_that_does_not_exit_is_killed_and_started_again() {
     let scene = Scene::new();
     let a = Name::new("a");
-    let late = Shutdown::After(Duration::from_millis(30));
+    let late = Shutdown::After(Duration::from_millis(300));
     let supervisor = Supervisor::one_for_all()
         .child(Child::permanent(scene.worker("a")).named(&a))
         .child(Child::permanent(scene.make("s", Manner::Stays)).shutdown(late));
@@ -884,7 +884,7 @@ fn a_child_whose_supervisor_is_killed_as_the_run_stops_is_told_by_the_run() {
         let others = [got(&notes), got(&notes)];
         (first, others)
     });
-    runtime.stop_within(Duration::from_millis(500)).expect_err("a process that stays");
+    runtime.stop_within(Duration::from_secs(3)).expect_err("a process that stays");
     drop(give);
     let (first, others) = kills.join().expect("three notes");
     assert_eq!((&*first, others), ("?s shutdown", ["?s killed".to_owned(), "?s shutdown".to_owned()]));
