@@ -239,6 +239,8 @@ fn members_come_and_go_while_it_is_sent_to_all() -> Result<(), Error> {
     });
     begin.wait();
     threads.into_iter().for_each(|thread| thread.join().expect("a thread"));
+    // (how often it has sent by then is up to the machine)
+    until("the run has gone on four times", || runtime.epochs() > 3);
     over.store(true, SeqCst);
     let sent = sender.join().expect("a thread");
     assert_eq!(pids(&group), lasting.iter().map(Address::pid).collect());
