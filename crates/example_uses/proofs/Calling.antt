@@ -10,7 +10,7 @@ use Rattle.pt_shard.specs.ShardState.{ShardState, lives}
 use Rattle.pt_shard.specs.Known.{knows}
 use Rattle.pt_desk.specs.DeskState.{DeskState}
 use Rattle.pt_desk.specs.Reaching.{Reaches}
-use Rattle.pt_node.proofs.Reached.{reached}
+use Rattle.pt_workers.proofs.Reached.{reached}
 use Rattle.example_uses.specs.Telling.{SaysTo, unheard}
 use Rattle.pt_shard.specs.Calls.{Calls}
 use Rattle.example_uses.specs.Games.{Monsters, SeesToMonster, SeesToAt}

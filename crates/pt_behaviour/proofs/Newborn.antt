@@ -6,8 +6,7 @@ use Rattle.pt_signal.proofs.Same.{same_pid_refl}
 use Rattle.pt_events.specs.declared.event.Event.TheVariants.{Born}
 use Rattle.pt_events.specs.History.{unborn, is_unborn, is_the, newborn, linked, while_living}
 use Rattle.pt_events.specs.Journal.{IsLocal}
-use Rattle.pt_shard.specs.ShardState.{ShardState, phase_of}
-use Rattle.pt_shard.specs.ShardState.{shard_after as written_after}
+use Rattle.pt_shard.specs.ShardState.{ShardState, phase_of, shard_after as written_after}
 use Rattle.pt_shard.specs.Calls.{Bears}
 
 -- a birth by a lawful journal is of one who was unborn

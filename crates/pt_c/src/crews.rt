@@ -13,8 +13,7 @@ ghost use Rattle.pt_scheduler.specs.Scheduling.{member_views, crew_of};
 ghost use Rattle.pt_c_crews.specs.Crewing.{CrewBeginsAgain, CrewSupervises, CrewTells, NotesIfOwn, SpawnsBossInCrew};
 ghost use Rattle.pt_c_crews.specs.Crewing.{SpawnsChildInCrew, SpawnsInCrew, TellsChild, TellsChildCount, TellsTime};
 ghost use Rattle.pt_c_crews.specs.Children.{CrewAsksProgram, CrewDeletesChild, CrewRestartsChild, CrewStartsChild};
-ghost use Rattle.pt_c_crews.specs.Children.{CrewIsToldNotStarted, CrewIsToldStarted, CrewTerminatesChild};
-ghost use Rattle.pt_c_crews.specs.Children.{TellsCause, TellsCounts};
+ghost use Rattle.pt_c_crews.specs.Children.{CrewIsToldNotStarted, CrewIsToldStarted, CrewTerminatesChild, TellsCause, TellsCounts};
 ghost use Rattle.pt_c_crews.specs.Through.{AnswersInOrder, GoesOnIn, OpensCrew, SetsCrewTime, StepsIfOwn};
 ghost use Rattle.pt_c_values.specs.Filling.{GivesUp};
 

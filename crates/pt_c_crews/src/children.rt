@@ -8,8 +8,7 @@ ghost use Rattle.pt_c_values.specs.Places.{CallsThrough, ReadsThrough};
 ghost use Rattle.pt_c_values.specs.Crossing.{pid_crossed};
 ghost use Rattle.pt_c_crews.specs.Crewing.{TellsChild, TellsChildCount};
 ghost use Rattle.pt_c_crews.specs.Children.{CrewAsksProgram, CrewDeletesChild, CrewRestartsChild, CrewStartsChild};
-ghost use Rattle.pt_c_crews.specs.Children.{CrewIsToldNotStarted, CrewIsToldStarted, CrewTerminatesChild};
-ghost use Rattle.pt_c_crews.specs.Children.{TellsCause, TellsCounts};
+ghost use Rattle.pt_c_crews.specs.Children.{CrewIsToldNotStarted, CrewIsToldStarted, CrewTerminatesChild, TellsCause, TellsCounts};
 
 use crate::crew_handle::{CrewHandle, claim, hold};
 use pt_c_tools::crossing_children::{

@@ -4,8 +4,7 @@ use Rattle.std.specs.Prelude.{MatchBool, nat_le}
 use Rattle.pt_signal.specs.declared.pid.Pid.{Pid}
 use Rattle.pt_signal.specs.declared.item.Item.{Item}
 use Rattle.pt_shard.specs.declared.fault.Fault.{Fault}
-use Rattle.pt_shard.specs.declared.fault.Fault.TheVariants.{Full, Memory, Worn, Myself, NoProc}
-use Rattle.pt_shard.specs.declared.fault.Fault.TheVariants.{Gone as Missing}
+use Rattle.pt_shard.specs.declared.fault.Fault.TheVariants.{Full, Memory, Worn, Myself, NoProc, Gone as Missing}
 use Rattle.pt_shard.specs.ShardState.{ShardState, lives}
 use Rattle.pt_behaviour.specs.declared.births.Role.{Role}
 use Rattle.pt_behaviour.specs.declared.behaviour.Next.{Next}

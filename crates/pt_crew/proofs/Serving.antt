@@ -13,8 +13,7 @@ use Rattle.pt_signal.proofs.Same.{same_pid_refl}
 use Rattle.pt_events.specs.declared.event.Event.TheVariants.{Took}
 use Rattle.pt_events.specs.History.{Phase, unborn, living, ended}
 use Rattle.pt_shard.specs.declared.fault.Fault.{Fault}
-use Rattle.pt_shard.specs.declared.fault.Fault.TheVariants.{Full, Memory, Worn, Myself, NoProc}
-use Rattle.pt_shard.specs.declared.fault.Fault.TheVariants.{Gone as Left}
+use Rattle.pt_shard.specs.declared.fault.Fault.TheVariants.{Full, Memory, Worn, Myself, NoProc, Gone as Left}
 use Rattle.pt_shard.specs.Calls.{Calls, after_if, take_event, first_match}
 use Rattle.pt_timers.specs.declared.Timer.{Timer}
 use Rattle.pt_timers.specs.State.{TimersState}

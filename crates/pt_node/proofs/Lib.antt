@@ -19,5 +19,4 @@ pub mod Receiving
 pub mod Bounding
 pub mod Ready
 pub mod Keeping
-pub mod Reached
 pub mod FreshSeat

@@ -19,7 +19,7 @@ use Rattle.pt_shard.specs.declared.fault.Fault.{Fault}
 use Rattle.pt_shard.specs.declared.fault.Fault.TheVariants.{Full, Memory, Worn, Gone, Myself, NoProc}
 use Rattle.pt_desk.specs.DeskState.{DeskState}
 use Rattle.pt_desk.specs.Reaching.{Reaches, has_monitor_to_make}
-use Rattle.pt_node.proofs.Reached.{reached}
+use Rattle.pt_workers.proofs.Reached.{reached}
 use Rattle.pt_shard.specs.Calls.{Calls, Monitors, take_event, first_match, demonitor_event, new_ref}
 use Rattle.pt_runner.specs.declared.calls.Progress.TheVariants.{Done, Stays}
 use Rattle.pt_shard.specs.ShardState.{ShardState}

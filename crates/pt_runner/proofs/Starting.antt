@@ -20,13 +20,12 @@ use Rattle.pt_shard.specs.Opening.{fresh_shard}
 use Rattle.pt_desk.specs.DeskState.{DeskState, IsDesk, GoesOn}
 use Rattle.pt_workers.specs.Desks.{AreDesksOf}
 use Rattle.pt_workers.proofs.StillDesks.{still_node}
-use Rattle.pt_node.specs.Opening.{AreFresh}
 use Rattle.pt_script.specs.declared.values.Top.{Top}
 use Rattle.pt_runner.specs.declared.runner.Actor.{Actor}
 use Rattle.pt_runner.specs.declared.runner.Runner.{Runner}
 use Rattle.pt_runner.specs.Acting.{Acting, acting, table, newborn_actor}
 use Rattle.pt_runner.specs.Waiting.{IsFresh}
-use Rattle.pt_runner.specs.Starting.{on, birth, StartBegins, IsRunnerOf, named_tops, put_pid, numbered_pids, starter, starters, is_on, AtNext, BirthsStop, BornUntil, BearsList, Starts}
+use Rattle.pt_runner.specs.Starting.{AreUnused, on, birth, StartBegins, IsRunnerOf, named_tops, put_pid, numbered_pids, starter, starters, is_on, AtNext, BirthsStop, BornUntil, BearsList, Starts}
 
 -- the desks of a node -----------------------------------------------------------------
 
@@ -67,7 +66,7 @@ pub record Begun (config : Config) (tops : List Top) (count : ℕ) (born : List 
   pub node : AreDesksOf config desks
   pub numbers : (d : ℕ) (x : DeskState) → d < length desks → (get_or desks d x).shard.number ≡ d
 
-pub begun_none : (config : Config) (tops : List Top) (desks : List DeskState) → AreFresh config desks → Begun config tops 0 [] desks
+pub begun_none : (config : Config) (tops : List Top) (desks : List DeskState) → AreUnused config desks → Begun config tops 0 [] desks
 begun_none config tops desks fresh = record {
   begins = record {
     counted = refl;
@@ -264,7 +263,7 @@ births_stop tops count desks t old y Myself few within whole b = absurd b
 births_stop tops count desks t old y NoProc few within whole b = absurd b
 
 -- there was no memory for the list of pids: nothing has happened on the desks
-pub none_born : (w : Whole) (config : Config) (desks : List DeskState) → IsSoundScript w → config.desks ≡ w.settings.desks → config.start ≡ 0 → AreFresh config desks → BirthsStop w.tops 0 desks Memory
+pub none_born : (w : Whole) (config : Config) (desks : List DeskState) → IsSoundScript w → config.desks ≡ w.settings.desks → config.start ≡ 0 → AreUnused config desks → BirthsStop w.tops 0 desks Memory
 none_born w config desks sound many zeroed are few t x =
     let within : (get_or w.tops 0 t).desk < length desks = desk_within w config desks 0 t sound many are.node few in
     let H : ShardState → Type 0 = λ s. CanWrite s × IsSome s.vacant in

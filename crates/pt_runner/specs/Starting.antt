@@ -9,12 +9,20 @@ use Rattle.pt_shard.specs.declared.fault.Fault.{Fault}
 use Rattle.pt_shard.specs.declared.fault.Fault.TheVariants.{Full, Memory, Worn, Gone, Myself, NoProc}
 use Rattle.pt_shard.specs.Calls.{CanWrite, IsWorn}
 use Rattle.pt_shard.specs.ShardState.{past}
+use Rattle.pt_signal.specs.declared.config.Config.{Config}
+use Rattle.pt_shard.specs.Opening.{fresh_shard}
 use Rattle.pt_desk.specs.DeskState.{DeskState, IsDesk}
+use Rattle.pt_workers.specs.Desks.{AreDesksOf}
 use Rattle.pt_script.specs.Plans.{Plan, Whole}
 use Rattle.pt_script.specs.declared.values.Top.{Top}
 use Rattle.pt_runner.specs.declared.runner.Runner.{Runner}
 use Rattle.pt_runner.specs.Acting.{Acting, table, newborn_actor}
 use Rattle.pt_runner.specs.Waiting.{IsFresh}
+
+-- the desks of one node on which nothing has happened, and nothing had happened before
+pub record AreUnused (config : Config) (desks : List DeskState) : Type 0 where
+  pub node : AreDesksOf config desks
+  pub shards : (d : ℕ) (x : DeskState) → d < length desks → (slice_index_or desks d x).shard ≡ fresh_shard config d
 
 -- those of the processes that are of desk d
 abbrev pub on : ℕ → List Pid → List Pid

@@ -15,8 +15,8 @@ ghost use Rattle.pt_runner.specs.declared.calls.Progress.{Progress};
 ghost use Rattle.pt_runner.specs.Acting as spec;
 ghost use Rattle.pt_runner.specs.Acting.{Performs, came_of};
 
-use pt_node::{Body, Desk, Fault, Item, Pick, Pid, Reason, Ref};
 use pt_script::{Operation, Pattern};
+use pt_workers::{Body, Desk, Fault, Item, Pick, Pid, Reason, Ref};
 
 /// What an operation did.
 #[derive(Clone, Copy, Debug, PartialEq, Eq)]

@@ -4,7 +4,7 @@ ghost use Rattle.std.specs.Prelude.{MatchBool};
 ghost use Rattle.pt_runner.specs.Waiting.{RunnersIdle};
 
 use crate::runner::Runner;
-use pt_node::Desk;
+use pt_workers::Desk;
 
 /// Whether there are as many runners as desks, and each is idle over the desk at its place: see [`Runner::is_idle`].
 pub fn are_idle(runners: &[Runner<'_>], desks: &[Desk]) -> bool

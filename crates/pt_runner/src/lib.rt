@@ -9,7 +9,7 @@
 //!
 //! # Steps
 //!
-//! A [`Runner`] is the [`Work`](pt_node::Work) of one desk. In a step each live process of the script on that desk does
+//! A [`Runner`] is the [`Work`](pt_workers::Work) of one desk. In a step each live process of the script on that desk does
 //! at most one operation, in the order in which they were spawned. A process that is spawned in a step starts in the
 //! next. If no item matches a `receive`, it is the process's operation in the next step too. So is an operation that
 //! fails for want of memory or at the clock's limit. A `receive` without `after` that found nothing is skipped until a

@@ -4,8 +4,8 @@ ghost use Rattle.std.specs.Prelude.{◌≡◌, Some};
 ghost use Rattle.pt_runner.specs.Acting as spec;
 
 use crate::calls::{References, pick_of};
-use pt_node::{Item, Pid};
 use pt_script::{Operation, Pattern};
+use pt_workers::{Item, Pid};
 
 /// How a list is read on.
 #[derive(Clone, Copy)]

@@ -18,8 +18,8 @@ ghost use Rattle.pt_runner.specs.Waiting.{AllRest, idle_runner, is_out_of_work, 
 
 use crate::calls::{Progress, References, call, pick_of, pid_of, progress_of, taken_of};
 use crate::reading::Branching;
-use pt_node::{Desk, Event, Fault, Item, Pick, Pid, Reason, Turned, Work};
 use pt_script::{Operation, Pattern, Script};
+use pt_workers::{Desk, Event, Fault, Item, Pick, Pid, Reason, Turned, Work};
 use std::alloc::Global;
 
 /// A process of the script that was spawned on the desk.

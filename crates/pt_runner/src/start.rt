@@ -5,12 +5,12 @@ ghost use Rattle.pt_shard.specs.Calls.{Bears};
 ghost use Rattle.pt_script.specs.Nodes.{config_of};
 ghost use Rattle.pt_desk.specs.DeskState.{GoesOn, IsDesk};
 ghost use Rattle.pt_workers.specs.Desks.{AreDesksOf};
-ghost use Rattle.pt_node.specs.Opening.{AreFresh};
-ghost use Rattle.pt_runner.specs.Starting.{Starts, BearsList, AreRunners, IsRunnerOf, numbered_pids};
+ghost use Rattle.pt_runner.specs.Starting.{AreUnused, Starts, BearsList, AreRunners, IsRunnerOf, numbered_pids};
 
 use crate::runner::{Actor, Runner, put_pid};
-use pt_node::{Config, Desk, Fault, Pid};
 use pt_script::Script;
+use pt_shard::Config;
+use pt_workers::{Desk, Fault, Pid};
 use std::alloc::{AllocError, Global};
 
 impl<'a> Runner<'a> {
@@ -28,7 +28,7 @@ impl<'a> Runner<'a> {
         script: &'a Script,
         desks: &mut [Desk],
     ) -> Result<Vec<Runner<'a>>, Fault>
-        requires { AreFresh (config_of script.now.settings) desks.old }
+        requires { AreUnused (config_of script.now.settings) desks.old }
         ensures desks { AreDesksOf (config_of script.now.settings) desks.new }
         ensures count { IfOk result (λ runners. vec_len runners ≡ length desks.new) }
         ensures starts { Starts script.now desks.new result }
@@ -45,7 +45,7 @@ impl<'a> Runner<'a> {
         config: Config,
         desks: &mut [Desk],
     ) -> Result<Vec<Runner<'a>>, Fault>
-        requires fresh { AreFresh config desks.old }
+        requires fresh { AreUnused config desks.old }
         requires count { config.desks ≡ script.now.settings.desks }
         requires start { config.start ≡ 0 }
         ensures desks { AreDesksOf config desks.new }
@@ -66,7 +66,7 @@ fn bear(
     config: Config,
     desks: &mut [Desk],
 ) -> Result<Vec<Pid>, Fault>
-    requires fresh { AreFresh config desks.old }
+    requires fresh { AreUnused config desks.old }
     requires count { config.desks ≡ script.now.settings.desks }
     requires start { config.start ≡ 0 }
     ensures desks { AreDesksOf config desks.new }

@@ -6,8 +6,7 @@ ghost use Rattle.pt_shard.specs.ShardState.{ShardState};
 ghost use Rattle.pt_scheduler.specs.Owning.{desk_of};
 ghost use Rattle.pt_scheduler.specs.Scheduling.{SchedulerAttends, SchedulerUpholds, member_views};
 ghost use Rattle.pt_scheduler.specs.Asking.{AsksBoss, BossDeletes, BossRestarts, BossStarts, BossTerminates};
-ghost use Rattle.pt_scheduler.specs.Asking.{BossAnswersNotStarted, BossAnswersStarted, BossAsksProgram};
-ghost use Rattle.pt_scheduler.specs.Asking.{cause_seen, counts_seen};
+ghost use Rattle.pt_scheduler.specs.Asking.{BossAnswersNotStarted, BossAnswersStarted, BossAsksProgram, cause_seen, counts_seen};
 ghost use Rattle.pt_scheduler.specs.Out.{PutsBoss, TakesBoss};
 
 use crate::boss::Boss;

@@ -19,8 +19,7 @@ ghost use Rattle.pt_scheduler.specs.Owning.{desk_after, desk_of};
 ghost use Rattle.pt_scheduler.specs.Scheduling.{AreAllQueued, BecomesBoss, Fills, IsNoBoss, NoneNoted, NotesLoss};
 ghost use Rattle.pt_scheduler.specs.Scheduling.{NotesLost, Pulls, SchedulerAttends, SchedulerGoesOn, SchedulerUpholds};
 ghost use Rattle.pt_scheduler.specs.Scheduling.{SpawnsBoss, children_seen, crew_of, member_views, new_member};
-ghost use Rattle.pt_scheduler.specs.Taken.{DropsLeft, IsAllNoted, NotesExit, PullsInto, SetsBoss, SetsMember};
-ghost use Rattle.pt_scheduler.specs.Taken.{KeepsExit, KeepsExits};
+ghost use Rattle.pt_scheduler.specs.Taken.{DropsLeft, IsAllNoted, NotesExit, PullsInto, SetsBoss, SetsMember, KeepsExit, KeepsExits};
 ghost use Rattle.pt_scheduler.specs.Taken.{SetsNotes, StaysElse, TakesMember};
 
 use crate::boss::Boss;

@@ -11,3 +11,4 @@ pub mod AtRest
 pub mod Laned
 pub mod Waiting
 pub mod Unread
+pub mod Reached

@@ -8,8 +8,7 @@ use Rattle.pt_desk.specs.DeskState.{DeskState, GoesOn}
 use Rattle.pt_desk.specs.declared.turned.Turned.{Turned}
 use Rattle.pt_desk.specs.Turns.{Turns}
 use Rattle.pt_desk.proofs.Turning.{goes_on_then}
-use Rattle.pt_workers.specs.Desks.{desk_kept}
-use Rattle.pt_workers.specs.Desks.{OnDesk}
+use Rattle.pt_workers.specs.Desks.{desk_kept, OnDesk}
 use Rattle.pt_workers.specs.Stillness.{AllDesksGoOn, StoppedAt, TurnEach, both_rested, first_stopped, stop_at}
 use Rattle.pt_workers.specs.declared.stillness.Rested.{Rested}
 use Rattle.pt_workers.specs.declared.stillness.Stopped.{Stopped}

@@ -1,12 +1,10 @@
 -- A node is turned until nothing waits in it.
-use Rattle.std.specs.Prelude.{◌≡◌, ℕ, zero, suc, ◌+◌, ◌-◌, ◌^◌, ◌<◌, List, [], length, map, sum_by, min, Option, Some}
-use Rattle.std.specs.Prelude.{None, slice_index_or}
+use Rattle.std.specs.Prelude.{◌≡◌, ℕ, zero, suc, ◌+◌, ◌-◌, ◌^◌, ◌<◌, List, [], length, map, sum_by, min, Option, Some, None, slice_index_or}
 use Rattle.pt_shard.specs.declared.stop.Stop.{Stop}
 use Rattle.pt_desk.specs.DeskState.{DeskState, GoesOn, posted_to, waits_for, collected_from}
 use Rattle.pt_desk.specs.declared.turned.Turned.{Turned}
 use Rattle.pt_desk.specs.Turns.{Turns}
-use Rattle.pt_workers.specs.Desks.{desk_kept}
-use Rattle.pt_workers.specs.Desks.{OnDesk}
+use Rattle.pt_workers.specs.Desks.{desk_kept, OnDesk}
 use Rattle.pt_workers.specs.declared.stillness.Rested.{Rested}
 use Rattle.pt_workers.specs.declared.stillness.Stopped.{Stopped}
 

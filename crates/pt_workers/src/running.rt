@@ -4,8 +4,7 @@ ghost use Rattle.std.specs.Prelude.{◌≡◌, ℕ, ◌<◌, ◌≤◌, Bool, So
 ghost use Rattle.pt_signal.specs.declared.config.TheConstants.{MAX_DESKS};
 ghost use Rattle.pt_desk.specs.DeskState.{DeskState, GoesOn};
 ghost use Rattle.pt_workers.specs.Desks.{AreDesks};
-ghost use Rattle.pt_workers.specs.Running.{AllGoOn, AllWork, HasTurn, HaveEnded, InRounds, Round, TakesTurn, Works};
-ghost use Rattle.pt_workers.specs.Running.{begins_by};
+ghost use Rattle.pt_workers.specs.Running.{AllGoOn, AllWork, HasTurn, HaveEnded, InRounds, Round, TakesTurn, Works, begins_by};
 
 use crate::work::{Standing, Task};
 use pt_desk::Desk;

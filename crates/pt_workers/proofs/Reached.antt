@@ -1,7 +1,6 @@
 -- A call that reaches for another process, told without what the desk has read.
 use Rattle.std.proofs.Common.{ℕ, inl, inr, Bool, true, false, Option, Some, None, Result, refl}
-use Rattle.std.specs.Prelude.{MatchOption}
-use Rattle.std.specs.Result.{IsErrAnd}
+use Rattle.std.specs.Prelude.{IsErrAnd, MatchOption}
 use Rattle.pt_signal.specs.declared.pid.Pid.{Pid}
 use Rattle.pt_shard.specs.declared.fault.Fault.{Fault}
 use Rattle.pt_shard.specs.Calls.{Refuses}
