@@ -1,4 +1,6 @@
 pub mod Acting
+pub mod Numbers
 pub mod Starting
 pub mod Stepping
+pub mod Truth
 pub mod Waiting
