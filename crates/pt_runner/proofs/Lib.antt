@@ -5,4 +5,17 @@ pub mod Starting
 pub mod Stepping
 pub mod NothingFound
 pub mod Waiting
+pub mod Behind
 pub mod Branches
+pub mod Acted
+pub mod Bearing
+pub mod Numbered
+pub mod Spawned
+pub mod Tabled
+pub mod TablesKnown
+pub mod Tabling
+pub mod Outcomes
+pub mod Unrefused
+pub mod OperatedOnce
+pub mod Counting
+pub mod TablesFirst
