@@ -26,3 +26,9 @@ pub mod StartStates
 pub mod Forgetting
 pub mod Late
 pub mod Keeping
+pub mod AlikeLists
+pub mod Happening
+pub mod Written
+pub mod SettlingAlike
+pub mod Growing
+pub mod LeftLanes

@@ -11,3 +11,5 @@ pub mod Waits
 pub mod Taking
 pub mod Late
 pub mod Keeping
+pub mod Alike
+pub mod Happening

@@ -87,10 +87,13 @@
 //!   them, or had exited by the events before the given places. (`AreEndsSince`)
 //! - **Accounts.** `Settled` and `Quiet` return for each process what the definitions give for every merge of the
 //!   journals. `Quiet::pids` lists all processes.
+//! - **Names.** Nodes that are the same but for names are so after events that are, and when they are settled.
+//!   (`same_events_keep_alike`, `alike_settle_alike`)
 //! - **Settling that fails.** It keeps all that holds for a gathered node, and its contract says where it stopped.
 //!   (`SettlingStops`)
 #![tactic(auto)]
 
+pub mod alike;
 mod at_rest;
 mod gathered;
 mod kept;

@@ -8,3 +8,4 @@ pub mod living
 pub mod order
 pub mod lanes
 pub mod Firsts
+pub mod Renamed

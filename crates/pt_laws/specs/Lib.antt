@@ -16,3 +16,4 @@ pub mod Load
 pub mod LoadLaws
 pub mod Resumed
 pub mod ResumedLaws
+pub mod Renaming

@@ -1,4 +1,4 @@
-//! The laws of histories: each is the contract of a function in [`laws`] or [`links`] that does nothing.
+//! The laws of histories: each is the contract of a function in [`laws`], [`links`] or [`names`] that does nothing.
 //!
 //! A pid is born once and ends once; between two processes nothing is lost, doubled or overtaken; a monitor has one
 //! `DOWN` at most; the merge of journals whose lanes agree is legal; settling is bounded; in a quiet history links
@@ -21,7 +21,9 @@
 //! - **Settling ends.** It takes no more receipts than the load of the history.
 //! - **Quiet.** In a quiet history links are at both ends or at neither, and each open monitor is kept by its target.
 //! - **Resuming.** A quiet history may be resumed any number of times.
+//! - **Names.** What processes, references and links are called decides nothing. (`names_decide_nothing`)
 #![tactic(auto)]
 
 pub mod laws;
 pub mod links;
+pub mod names;

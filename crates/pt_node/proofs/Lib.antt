@@ -20,3 +20,6 @@ pub mod Bounding
 pub mod Ready
 pub mod Keeping
 pub mod FreshSeat
+pub mod OnTheWay
+pub mod Turning
+pub mod Moving

@@ -92,6 +92,7 @@ mod resuming;
 mod seating;
 
 pub use gathering::{DesksBack, abandon, gather};
+pub use making::look;
 pub use node::{Node, NodeBack};
 pub use node_fault::NodeFault;
 pub use opening::open;

@@ -118,8 +118,8 @@ fn look(desks: &mut [Desk])
     }
 }
 
-/// Looks at the lane from desk d to desk e, from both its ends.
-fn meet_at(desks: &mut [Desk], d: usize, e: usize)
+/// Looks at the lane from desk `d` to desk `e`, from both its ends. Then desk `e` knows each letter that waits there.
+pub fn meet_at(desks: &mut [Desk], d: usize, e: usize)
     requires node { AreDesks desks.old }
     requires within { (d < length desks.old) × (e < length desks.old) }
     ensures { MeetsAt d e desks.old desks.new }
