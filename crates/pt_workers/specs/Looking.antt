@@ -1,4 +1,4 @@
--- The ends of the lanes of a node look at each other. No public clause cites this module.
+-- The ends of the lanes of a node look at each other.
 use Rattle.std.specs.Prelude.{◌≡◌, ◌≢◌, ℕ, ◌<◌, ◌≤◌, ◌⊎◌, List, [], ◌++◌, length, map, slice_index_or}
 use Rattle.pt_signal.specs.declared.letter.Letter.{Letter}
 use Rattle.pt_desk.specs.DeskState.{DeskState, posted_to, collected_from}
