@@ -32,7 +32,7 @@ CALL = re.compile(r"^( *)pub (?:unsafe )?fn (\w+)")
 LAW = re.compile(r" *(?:(?:laws|links)::\w+|still_node_laws)\(\);")
 NAMED = re.compile(r"(?<!fn )\b(\w+)(?:::<[^()]*>)?\(")
 # The tests, what they alone reach, and what `.ci/run` builds: two programs and the C library.
-CRATES = "test_calls test_stress example_uses pt_behaviour pt_crew pt_children pt_supervisor pt_scheduler example_hello example_scenes example_exchange pt_c_values pt_c_desks pt_c_tools pt_c_nodes pt_c_crews pt_c"
+CRATES = "test_calls test_stress example_uses pt_behaviour pt_crew pt_children pt_supervisor pt_scheduler example_hello example_scenes example_exchange pt_c_values pt_c_desks pt_c_tools pt_c_crews pt_c"
 CALLERS = [
     "checks/tried/*/*.rt.txt",
     "checks/refused/calls/*.rt.txt",

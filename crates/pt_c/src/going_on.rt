@@ -3,7 +3,7 @@
 ghost use Rattle.std.specs.Prelude.{map};
 ghost use Rattle.pt_workers.specs.Desks.{AreDesks};
 ghost use Rattle.pt_c_values.specs.Places.{values};
-ghost use Rattle.pt_c_nodes.specs.Nodes.{IsWholeNode};
+ghost use Rattle.pt_c_tools.specs.Nodes.{IsWholeNode};
 ghost use Rattle.pt_c_crews.specs.NodeGoingOn.{NodeGoesOn};
 
 use pt_c_crews::crew_handle::CrewHandle;
@@ -11,7 +11,7 @@ use pt_c_crews::going_on;
 use pt_c_desks::desk_handle::DeskHandle;
 use pt_c_desks::history_handle::HistoryHandle;
 use pt_c_desks::quiet_handle::QuietHandle;
-use pt_c_nodes::gathered_handle::GatheredHandle;
+use pt_c_tools::gathered_handle::GatheredHandle;
 use std::alloc::Global;
 
 /// Continues with a node and its crews. It gathers the desks and settles the node, takes its history, and resumes it. Then

@@ -7,7 +7,7 @@
 //!
 //! Values with an enum or an option in Rattle cross as plain structs with a code (`pt_c_values::types`). `about` reports
 //! codes, sizes and fields, to be compared with a header. The calls are in one library for each object: `pt_c_desks`,
-//! `pt_c_nodes`, `pt_c_crews`, and `pt_c_tools` for timers, names, groups and ways in.
+//! `pt_c_crews`, and `pt_c_tools` for nodes, timers, names, groups and ways in.
 //!
 //! Tests: `bindings/run.sh`.
 //!

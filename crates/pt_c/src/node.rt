@@ -3,15 +3,15 @@
 ghost use Rattle.std.specs.Prelude.{◌≡◌, ⊤, true, false, map};
 ghost use Rattle.pt_workers.specs.Desks.{AreDesks};
 ghost use Rattle.pt_c_values.specs.Places.{CallsThrough, value_behind, values};
-ghost use Rattle.pt_c_nodes.specs.Nodes.{OpensAs, IsWholeNode, GathersAs, SettlesAs, ListsItsPids, HandleTells};
+ghost use Rattle.pt_c_tools.specs.Nodes.{OpensAs, IsWholeNode, GathersAs, SettlesAs, ListsItsPids, HandleTells};
 ghost use Rattle.pt_c_values.specs.Filling.{GivesUp};
-ghost use Rattle.pt_c_nodes.specs.Nodes.{IsHistoryOf, IsHistoryOfQuiet};
+ghost use Rattle.pt_c_tools.specs.Nodes.{IsHistoryOf, IsHistoryOfQuiet};
 
 use pt_c_desks::desk_handle::DeskHandle;
 use pt_c_desks::history_handle::HistoryHandle;
 use pt_c_desks::quiet_handle::QuietHandle;
-use pt_c_nodes::gathered_handle::GatheredHandle;
-use pt_c_nodes::{node, settling};
+use pt_c_tools::gathered_handle::GatheredHandle;
+use pt_c_tools::{node, settling};
 use pt_c_values::types::PtConfig;
 use std::alloc::Global;
 

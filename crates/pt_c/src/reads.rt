@@ -18,8 +18,8 @@ use pt_c_desks::desk_handle::DeskHandle;
 use pt_c_desks::history_handle::HistoryHandle;
 use pt_c_desks::quiet_handle::QuietHandle;
 use pt_c_desks::reads;
-use pt_c_nodes::gathered_handle::GatheredHandle;
-use pt_c_nodes::reads as node_reads;
+use pt_c_tools::gathered_handle::GatheredHandle;
+use pt_c_tools::reads as node_reads;
 use pt_c_values::types::{PtAccount, PtEvent, PtIds, PtItem, PtLeftOver, PtPid, PtRef};
 use std::alloc::Global;
 

@@ -1,11 +1,11 @@
 //! Resuming a settled node.
 
 ghost use Rattle.std.specs.Prelude.{map};
-ghost use Rattle.pt_c_nodes.specs.Nodes.{ResumesAs};
+ghost use Rattle.pt_c_tools.specs.Nodes.{ResumesAs};
 
 use pt_c_desks::desk_handle::DeskHandle;
 use pt_c_desks::quiet_handle::QuietHandle;
-use pt_c_nodes::resuming;
+use pt_c_tools::resuming;
 use std::alloc::Global;
 
 /// Continues from a settled node, as `resume` and `resume_settled` do. Each handle gets one of its desks, in order, with

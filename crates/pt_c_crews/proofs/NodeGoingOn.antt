@@ -10,10 +10,10 @@ use Rattle.pt_c_values.specs.Places.{HandlePlace, value_behind}
 use Rattle.pt_c_desks.specs.Answers.{HistoryState}
 use Rattle.pt_scheduler.specs.declared.scheduler.Scheduler.{Scheduler}
 use Rattle.pt_c_crews.specs.Owning.{are_own}
-use Rattle.pt_c_nodes.specs.Nodes.{HandleTells, IsHistoryOfQuiet, ResumesAs}
+use Rattle.pt_c_tools.specs.Nodes.{HandleTells, IsHistoryOfQuiet, ResumesAs}
 use Rattle.pt_c_crews.specs.NodeGoingOn.{AreAllThere, GoOnWith, NodeGoesOn, Places, ResumesWith, Stages}
-use Rattle.pt_c_nodes.specs.FirstStages.{GathersFirst, SettlesFirst, has}
-use Rattle.pt_c_nodes.proofs.FirstStages.{passed, refused}
+use Rattle.pt_c_tools.specs.FirstStages.{GathersFirst, SettlesFirst, has}
+use Rattle.pt_c_tools.proofs.FirstStages.{passed, refused}
 
 -- the last stage ---------------------------------------------------------------------------------
 

@@ -11,8 +11,8 @@ use Rattle.pt_c_desks.specs.Answers.{HistoryState}
 use Rattle.pt_scheduler.specs.declared.scheduler.Scheduler.{Scheduler}
 use Rattle.pt_c_crews.specs.GoingOn.{AllCrewsGoOn}
 use Rattle.pt_c_crews.specs.Owning.{are_own}
-use Rattle.pt_c_nodes.specs.Nodes.{HandleTells, IsHistoryOfQuiet, ResumesAs}
-use Rattle.pt_c_nodes.specs.FirstStages.{GathersFirst, IfPassed, SettlesFirst, has}
+use Rattle.pt_c_tools.specs.Nodes.{HandleTells, IsHistoryOfQuiet, ResumesAs}
+use Rattle.pt_c_tools.specs.FirstStages.{GathersFirst, IfPassed, SettlesFirst, has}
 
 -- what the handles of the call have
 pub record Places : Type 0 where

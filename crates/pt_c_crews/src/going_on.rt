@@ -3,7 +3,7 @@
 ghost use Rattle.std.specs.Prelude.{◌≡◌, map};
 ghost use Rattle.pt_workers.specs.Desks.{AreDesks};
 ghost use Rattle.pt_c_values.specs.Places.{values};
-ghost use Rattle.pt_c_nodes.specs.Nodes.{IsWholeNode};
+ghost use Rattle.pt_c_tools.specs.Nodes.{IsWholeNode};
 ghost use Rattle.pt_c_crews.specs.NodeGoingOn.{GoOnWith, NodeGoesOn, ResumesWith};
 
 use crate::crew_handle::CrewHandle;
@@ -11,11 +11,11 @@ use crate::rows::{are_own, count_crews, go_on_all};
 use pt_c_desks::desk_handle::DeskHandle;
 use pt_c_desks::history_handle::{HistoryHandle, claim, hold, is_full as has_history};
 use pt_c_desks::quiet_handle::QuietHandle;
-use pt_c_nodes::first_stages::{gather_first, settle_first};
-use pt_c_nodes::gathered_handle::GatheredHandle;
-use pt_c_nodes::node::{give_up_history, quiet_history};
-use pt_c_nodes::resuming::resume_desks;
-use pt_c_nodes::settling::settle_unlisted;
+use pt_c_tools::first_stages::{gather_first, settle_first};
+use pt_c_tools::gathered_handle::GatheredHandle;
+use pt_c_tools::node::{give_up_history, quiet_history};
+use pt_c_tools::resuming::resume_desks;
+use pt_c_tools::settling::settle_unlisted;
 use pt_c_values::codes::{DONE, EMPTY, FILLED, WRONG_DESK, open_code};
 use pt_node::{OpenError, Setting};
 use std::alloc::Global;

@@ -1,4 +1,5 @@
--- That the handles of timers, names, groups, doors and ways in are handles: each is a pointer, and owns what is held there.
+-- That the handles of timers, names, groups, doors, ways in and gathered nodes are handles: each is a pointer, and owns what is
+-- held there.
 use Rattle.std.proofs.Common.{refl}
 use Rattle.pt_c_values.proofs.Walks.{IsHandle}
 use Rattle.pt_c_tools.specs.contracts.held.HeldNames as names_held
@@ -11,6 +12,8 @@ use Rattle.pt_c_tools.specs.contracts.held.HeldDoor as door_held
 use Rattle.pt_c_tools.specs.contracts.held.HeldWayIn as way_in_held
 use Rattle.pt_c_tools.specs.contracts.door_handle.DoorHandle as door_handle
 use Rattle.pt_c_tools.specs.contracts.way_in_handle.WayInHandle as way_in_handle
+use Rattle.pt_c_tools.specs.contracts.held.HeldGathered as gathered_held
+use Rattle.pt_c_tools.specs.contracts.gathered_handle.GatheredHandle as gathered_handle
 
 abbrev pub names : IsHandle names_handle.the_row names_held.the_row
 names = record { name = names_handle.struct.name; at = λ x. x.at; state = λ x. x.state; owned = λ x vs. refl; made = λ p s. record { at = p; state = s }; made_is = λ p s vs. refl; states = λ p s. refl; last = λ x. tt; gone = λ x f. tt }
@@ -26,3 +29,6 @@ doors = record { name = door_handle.struct.name; at = λ x. x.at; state = λ x. 
 
 abbrev pub ways_in : IsHandle way_in_handle.the_row way_in_held.the_row
 ways_in = record { name = way_in_handle.struct.name; at = λ x. x.at; state = λ x. x.state; owned = λ x vs. refl; made = λ p s. record { at = p; state = s }; made_is = λ p s vs. refl; states = λ p s. refl; last = λ x. tt; gone = λ x f. tt }
+
+abbrev pub gathered : IsHandle gathered_handle.the_row gathered_held.the_row
+gathered = record { name = gathered_handle.struct.name; at = λ x. x.at; state = λ x. x.state; owned = λ x vs. refl; made = λ p s. record { at = p; state = s }; made_is = λ p s vs. refl; states = λ p s. refl; last = λ x. tt; gone = λ x f. tt }

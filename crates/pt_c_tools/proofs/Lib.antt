@@ -3,3 +3,5 @@ mod Handles
 pub mod Handing
 mod EmptyPlaces
 mod Told
+pub mod Joining
+pub mod FirstStages

@@ -11,3 +11,5 @@ pub mod Naming
 pub mod About
 pub mod AboutSupervisors
 pub mod CrossingChildren
+pub mod Nodes
+pub mod FirstStages

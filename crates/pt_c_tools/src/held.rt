@@ -1,7 +1,8 @@
-//! The places that the handles of timers, of names, of groups and of the ends of a way in have on the heap.
+//! The places that the handles of timers, of names, of groups, of the ends of a way in and of a gathered node have on the heap.
 
 use crate::door::{Door, WayIn};
 use pt_names::{Groups, Names};
+use pt_node::Gathered;
 use pt_timers::Timers;
 use std::marker::Model;
 
@@ -78,4 +79,19 @@ impl Model for HeldWayIn {
     ghost Value = { Option WayIn };
 
     ghost view = { λ h. h.way_in };
+}
+
+/// The place of a gathered node.
+#[derive(Drop)]
+pub struct HeldGathered {
+    pub gathered: Option<Gathered>,
+}
+
+impl Model for HeldGathered {
+    ghost use Rattle.std.specs.Prelude.{Option};
+    ghost use Rattle.pt_gathered.specs.Gathered.{GatheredState};
+
+    ghost Value = { Option GatheredState };
+
+    ghost view = { λ h. h.gathered };
 }

@@ -1,5 +1,8 @@
-//! Timers, names, groups, ways in and calls that are answered, for C without their exports: handles, and calls with plain
-//! structs.
+//! What the library for C has besides its desks and crews, without the exports: nodes, timers, names, groups, ways in, and calls
+//! that are answered. Each is a handle, or a plain struct.
+//!
+//! Nodes are opened, gathered, settled, resumed and read through handles: a call makes that of `pt_node` on what the handles
+//! have, and returns a code. No crew is known here: the call that goes on with a node and its crews is in `pt_c_crews`.
 //!
 //! The body of a timer is a number of the program's own. A way in takes messages from threads that have no desk. It has two
 //! ends: such a thread holds its [`Door`](door::Door), and the thread of a desk the [`WayIn`](door::WayIn). Each is in a
@@ -13,6 +16,11 @@
 //!
 //! # What is proved
 //!
+//! - **Nodes.** Opening, gathering, settling and resuming leave in the handles what `open`, `gather`, `settle` and
+//!   `resume` promise, or `settle_unlisted` and `resume_settled`. (`OpensAs`, `GathersAs`, `SettlesAs`, `ResumesAs`)
+//! - **Lists on request.** A settled node has the list of its pids if it was settled with one, or once a call made it. What
+//!   needs the list says of a node without one that there is none, and nothing else does. (`ListsItsPids`, `TellsPid`)
+//! - **Reading.** A gathered or settled node and a history are read as they are, and nothing changes. (`ReadsThrough`)
 //! - **Timers.** Each call answers what `Timers` answers, as a code and a struct, and a call that fails changes nothing.
 //!   (`OpensTimers`, `StartsTimer`, `FiresTimer`)
 //! - **Names.** Each call answers what `Names` answers. If the bytes are no name, the code says so, and nothing has changed.
@@ -37,8 +45,9 @@
 //! - **Refusals.** An item with a code that means nothing is refused, and nothing has changed.
 //! - **What a process does next.** It crosses to its struct and back. A field that has no meaning for its code is zero. (`Nexts`)
 //! - **Through handles.** A call returns the code of the call that it makes on its handle's value, and writes that call's
-//!   answer. An empty handle is a code, and a call that fails leaves each handle and struct as it was. (`CallsThrough`,
-//!   `ReadsThrough`)
+//!   answer. An empty handle is a code. (`CallsThrough`, `ReadsThrough`)
+//! - **Failures.** If a call fails, each handle and each struct is as it was, also if there is no memory. If settling stops, the
+//!   node has what was handled before. (`SettlesAs`)
 //! - **Handles.** What is put into a handle is what is taken out of it. Each may go to another thread.
 //! - **About.** Each code that needs no crew is told by the function that the calls take it from. Each size is that of the
 //!   struct, and the fields of a sample have the numbers 1, 2, 3 and so on. (`with_answers`, `all_sizes`, `asking_about`)
@@ -53,6 +62,8 @@ pub mod crossing_nexts;
 pub mod door;
 pub mod door_handle;
 pub mod doors;
+pub mod first_stages;
+pub mod gathered_handle;
 pub mod grouping;
 pub mod groups;
 pub mod groups_handle;
@@ -62,8 +73,12 @@ pub mod items;
 pub mod names;
 pub mod names_handle;
 pub mod naming;
+pub mod node;
+pub mod reads;
 pub mod replying;
 pub mod requests;
+pub mod resuming;
+pub mod settling;
 pub mod telling;
 pub mod through;
 pub mod timers;

@@ -2,7 +2,7 @@
 use Rattle.std.proofs.Common.{◌≡◌, true, false, length, map, refl, sym, ap, ◌∙◌, arith}
 use Rattle.std.proofs.lemmas.List.{length-map}
 use Rattle.pt_c_crews.specs.Owning.{are_own}
-use Rattle.pt_c_nodes.specs.FirstStages.{has}
+use Rattle.pt_c_tools.specs.FirstStages.{has}
 use Rattle.pt_c_crews.specs.NodeGoingOn.{AreAllThere, Places}
 use Rattle.pt_c_crews.proofs.NodeGoingOn.{by_stages, crew_missing, first_refused, foreign_crew, history_there, last_stage, other_count, second_refused}
 use Rattle.pt_c_crews.proofs.going_on.crews_go_on.Goals as goal
