@@ -39,7 +39,7 @@ QUESTIONS = (
     ("From C, Rust or Python: a desk and its calls", ("pt_c", "pt_c_desks", "pt_c_values")),
     ("From C, Rust or Python: processes that run code", ("pt_scheduler", "pt_c_crews", "pt_c_tools")),
     ("A script is read, run and reported", ("pt_script", "pt_runner", "pt_report", "pt_run")),
-    ("Every schedule of a script", ("pt_schedules", "pt_moves", "pt_key_laws", "pt_explorer", "pt_explore")),
+    ("Every schedule of a script", ("pt_schedules", "pt_moves", "pt_alike", "pt_key_laws", "pt_explorer", "pt_explore")),
     ("A printed history is judged", ("pt_auditor", "pt_texts", "pt_audit")),
     ("A history is drawn, or printed for another tool", ("pt_chart", "pt_render")),
     ("The shell", ("pt_shell",)),
