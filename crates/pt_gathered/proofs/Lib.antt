@@ -31,4 +31,5 @@ pub mod Happening
 pub mod Written
 pub mod SettlingAlike
 pub mod Growing
+pub mod Journaled
 pub mod LeftLanes

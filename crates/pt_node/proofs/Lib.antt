@@ -23,3 +23,5 @@ pub mod FreshSeat
 pub mod OnTheWay
 pub mod Turning
 pub mod Moving
+pub mod Handling
+pub mod Gatherable

@@ -60,20 +60,31 @@ homes_together name (y ∷ ys) m h =
     let rest = homes_together name ys (suc m) (λ d x l. let e = h (suc d) x (omega (arith, l)) in omega arith) in
     λ i. first i ∷ rest i
 
-module _ (desks : List DeskState) (g : GatheredState) (whole : AreWhole desks) (gathers : Gathers desks g) (audited : AreAudited (all_seats desks)) where
+-- a desk to read with
+pub some_desk : (xs : List DeskState) (d : ℕ) → d < length xs → DeskState
+some_desk [] d h = absurd (omega arith)
+some_desk (x ∷ xs) d h = x
+
+module _ (desks : List DeskState) where
+  pub ends_count : length (all_ends desks) ≡ length desks
+  ends_count = length-map desks (λ (d : DeskState). (d.outs, d.ins))
+
+  pub posted_at : (d e : ℕ) (x : DeskState) → d < length desks → entry (all_posted (all_ends desks)) d e ≡ get_or (get_or desks d x).outs.posted e []
+  posted_at d e x h =
+      ap (λ z. get_or z e []) (get_or-map (λ (p : OutEnds × InEnds). p.0.posted) (all_ends desks) d (x.outs, x.ins) [] (omega (arith, h, ends_count))
+      ∙ ap (λ (p : OutEnds × InEnds). p.0.posted) (get_or-map (λ (d : DeskState). (d.outs, d.ins)) desks d x (x.outs, x.ins) h))
+
+  pub collected_at : (e d : ℕ) (x : DeskState) → e < length desks → entry (all_collected (all_ends desks)) e d ≡ get_or (get_or desks e x).ins.collected d []
+  collected_at e d x h =
+      ap (λ z. get_or z d []) (get_or-map (λ (p : OutEnds × InEnds). p.1.collected) (all_ends desks) e (x.outs, x.ins) [] (omega (arith, h, ends_count))
+      ∙ ap (λ (p : OutEnds × InEnds). p.1.collected) (get_or-map (λ (d : DeskState). (d.outs, d.ins)) desks e x (x.outs, x.ins) h))
+
+module _ (desks : List DeskState) (g : GatheredState) (whole : AreWhole desks) (gathers : Gathers desks g) where
   count : length g.shards ≡ length desks
   count = ap length gathers.shards ∙ length-map desks (λ (d : DeskState). d.shard)
 
-  ends_count : length (all_ends desks) ≡ length desks
-  ends_count = length-map desks (λ (d : DeskState). (d.outs, d.ins))
-
   shard_at : (d : ℕ) (x : DeskState) (y : ShardState) → d < length desks → get_or g.shards d y ≡ (get_or desks d x).shard
   shard_at d x y h = ap (λ z. get_or z d y) gathers.shards ∙ get_or-map (λ (d : DeskState). d.shard) desks d x y h
-
-  -- a desk to read with
-  some_desk : (xs : List DeskState) (d : ℕ) → d < length xs → DeskState
-  some_desk [] d h = absurd (omega arith)
-  some_desk (x ∷ xs) d h = x
 
   is_shard : (d : ℕ) (y : ShardState) → d < length desks → IsShardOf g.config d (get_or g.shards d y)
   is_shard d y h =
@@ -94,16 +105,6 @@ module _ (desks : List DeskState) (g : GatheredState) (whole : AreWhole desks) (
   hold_of : (e : ℕ) (x : DeskState) → e < length desks → hold_at g.shards e ≡ (get_or desks e x).shard.hold
   hold_of e x h = get_or-map (λ (s : ShardState). s.hold) g.shards e x.shard _ (omega (arith, h, count)) ∙ ap (λ (s : ShardState). s.hold) (shard_at e x x.shard h)
 
-  posted_at : (d e : ℕ) (x : DeskState) → d < length desks → entry (all_posted (all_ends desks)) d e ≡ get_or (get_or desks d x).outs.posted e []
-  posted_at d e x h =
-      ap (λ z. get_or z e []) (get_or-map (λ (p : OutEnds × InEnds). p.0.posted) (all_ends desks) d (x.outs, x.ins) [] (omega (arith, h, ends_count))
-      ∙ ap (λ (p : OutEnds × InEnds). p.0.posted) (get_or-map (λ (d : DeskState). (d.outs, d.ins)) desks d x (x.outs, x.ins) h))
-
-  collected_at : (e d : ℕ) (x : DeskState) → e < length desks → entry (all_collected (all_ends desks)) e d ≡ get_or (get_or desks e x).ins.collected d []
-  collected_at e d x h =
-      ap (λ z. get_or z d []) (get_or-map (λ (p : OutEnds × InEnds). p.1.collected) (all_ends desks) e (x.outs, x.ins) [] (omega (arith, h, ends_count))
-      ∙ ap (λ (p : OutEnds × InEnds). p.1.collected) (get_or-map (λ (d : DeskState). (d.outs, d.ins)) desks e x (x.outs, x.ins) h))
-
   desks_at : (d : ℕ) (x : DeskState) → d < length desks → (get_or desks d x).shard.config.desks ≡ length desks
   desks_at d x h = ap (λ (c : Config). c.desks) (gathers.node.configs d x h) ∙ sym gathers.node.count
 
@@ -122,10 +123,10 @@ module _ (desks : List DeskState) (g : GatheredState) (whole : AreWhole desks) (
       let sent : posts (begins g) (get_or desks d x).shard.journal e ≡ get_or (get_or desks d x).outs.posted e [] ++ get_or (get_or desks d x).shard.outbox e []
       = subst (λ (s : ShardState). posts (begins g) s.journal e ≡ posts s.start s.journal e) at (sym own) ∙ from.posted e (omega (arith, k, desks_at d x h)) in
       let got : Agrees (get_or (get_or desks e x).ins.collected d []) (gots (get_or desks e x).shard.journal d) (held_from d (get_or desks e x).shard.hold) = to.collected d (omega (arith, h, desks_at e x k)) in
-      let left = gathers.left.lanes d e (omega (arith, h, ends_count)) (omega (arith, k, ends_count)) in
+      let left = gathers.left.lanes d e (omega (arith, h, ends_count desks)) (omega (arith, k, ends_count desks)) in
       let posted : get_or (get_or desks d x).outs.posted e [] ≡ get_or (get_or desks e x).ins.collected d [] ++ get_or g.lanes (d * length g.shards + e) []
-      = sym (posted_at d e x h) ∙ left ∙ ap (λ z. z ++ get_or g.lanes (d * length (all_ends desks) + e) []) (collected_at e d x k)
-      ∙ ap (λ n. get_or (get_or desks e x).ins.collected d [] ++ get_or g.lanes (d * n + e) []) (ends_count ∙ sym count) in
+      = sym (posted_at desks d e x h) ∙ left ∙ ap (λ z. z ++ get_or g.lanes (d * length (all_ends desks) + e) []) (collected_at desks e d x k)
+      ∙ ap (λ n. get_or (get_or desks e x).ins.collected d [] ++ get_or g.lanes (d * n + e) []) (ends_count desks ∙ sym count) in
       rw (journal_of d x h, journal_of e x k, box_of d e x h, hold_of e x k)
       (lane_agrees (posts (begins g) (get_or desks d x).shard.journal e) (get_or (get_or desks d x).outs.posted e []) (get_or (get_or desks d x).shard.outbox e []) (get_or (get_or desks e x).ins.collected d [])
       (get_or g.lanes (d * length g.shards + e) []) (gots (get_or desks e x).shard.journal d) (held_from d (get_or desks e x).shard.hold)
@@ -138,120 +139,125 @@ module _ (desks : List DeskState) (g : GatheredState) (whole : AreWhole desks) (
       let own : life z.start past p ≡ life (begins g) past p = life_same z.start (begins g) p.shard (start_same g.config g.shards are_shards p.shard x.shard (omega (arith, h, count))) past p refl in
       sym own ∙ ap (λ (s : ShardState). life s.start past p) (shard_at p.shard x x.shard h)
 
-  -- whoever was seen to have ended has
-  seen_at : (d : ℕ) (x : DeskState) → d < length desks → (k : ℕ) (r : Read) → get_elem? (get_or desks d x).sight.reads k ≡ some r → (p : Pid) → HasEndOf p r
-      → (n : ℕ) → r.stamp ≡ Some n → (m : ℕ) → n < m → is_ended (life (begins g) (events (stamped_below m (journal_at g.shards p.shard))) p) ≡ true
-  seen_at d x h k r at p ends n stamp m later =
-      let t = true_read g.config desks gathers.node whole audited d x h k r at p ends n stamp m later in
-      subst (λ j. is_ended (life (begins g) (events (stamped_below m j)) p) ≡ true) (sym (journal_of p.shard x t.0))
-      (ap is_ended (own_life p t.0 x (events (stamped_below m (get_or desks p.shard x).shard.journal))) ∙ t.1)
-
-  pub reads_true : ReadsAreTrue desks g
-  reads_true d x h k r at p ends = go r.stamp refl
-    where
-      go : (o : Option ℕ) → r.stamp ≡ o → MatchOption o (Unit {0}) (λ n. is_ended (life (begins g) (events (stamped_below (n + 1) (journal_at g.shards p.shard))) p) ≡ true)
-      go None stamp = tt
-      go (Some n) stamp = seen_at d x h k r at p ends n stamp (n + 1) (omega arith)
-
-  -- so each refused call was to such a one
-  refused_true : (d : ℕ) (x : DeskState) → d < length desks → (noted : List Stamped) → AllSeen (get_or desks d x).sight.reads noted → AllTrueRefusals (begins g) (journal_at g.shards) noted
-  refused_true d x h [] all = tt
-  refused_true d x h (s ∷ noted) all = (one s.event all.0, refused_true d x h noted all.1)
-    where
-      one : (e : Event) → IsSeen (get_or desks d x).sight.reads s.stamp e → IsTrueRefusal (begins g) (journal_at g.shards) s.stamp e
-      one (Refused a b) seen = seen_at d x h seen.0 seen.1 seen.3 b seen.4 seen.2 seen.5 s.stamp seen.6
-      one _ seen = tt
-
-  refusals_at : RefusalsAreTrue (begins g) (journal_at g.shards)
-  refusals_at d =
-      ⊎_elim
-      (λ (h : d < length g.shards).
-      let k : d < length desks = omega (arith, h, count) in
-      let x : DeskState = some_desk desks d k in
-      subst (AllTrueRefusals (begins g) (journal_at g.shards)) (sym (journal_of d x k)) (refused_true d x k (get_or desks d x).shard.journal (whole d x k).seated.seen))
-      (λ (h : length g.shards ≤ d).
-      subst (AllTrueRefusals (begins g) (journal_at g.shards))
-      (sym (get_or_past (map (λ (s : ShardState). s.journal) g.shards) d [] (omega (arith, length-map g.shards (λ (s : ShardState). s.journal))))) tt)
-      (cases_lt d (length g.shards))
-
-  pub gathered_whole : IsGathered g
-  gathered_whole = record {
+  -- it is sound if the refused calls were so
+  pub gathered_if : RefusalsAreTrue (begins g) (journal_at g.shards) → IsGathered g
+  gathered_if true_refusals = record {
     some = omega (arith, count, gathers.node.some);
     desks = count ∙ gathers.node.count;
-    lanes = gathers.left.count ∙ ap (λ n. n * n) (ends_count ∙ sym count);
+    lanes = gathers.left.count ∙ ap (λ n. n * n) (ends_count desks ∙ sym count);
     shards = λ d x h. is_shard d x (omega (arith, h, count));
     agree = λ d e h k. agree_at d e (omega (arith, h, count)) (omega (arith, k, count));
-    refusals = refusals_at;
+    refusals = true_refusals;
     begun = subst (λ s. IsBeginning g.config.start (start_of s)) (sym gathers.shards) gathers.node.begun;
   }
 
-  -- what is kept of their directory is that of the gathered node
-  module _ (k : KeptState) (first : (p : Seated) → (get_or (all_seats desks) 0 p).0 ≡ k.directory) (seat_is : k.seat ≡ together k.directory.name (all_seats desks))
-      (written_is : k.written ≡ map (λ (d : DeskState). length d.shard.journal) desks) where
-    one : DeskState
-    one = some_desk desks 0 gathers.node.some
+  module _ (audited : AreAudited (all_seats desks)) where
+    -- whoever was seen to have ended has
+    seen_at : (d : ℕ) (x : DeskState) → d < length desks → (k : ℕ) (r : Read) → get_elem? (get_or desks d x).sight.reads k ≡ some r → (p : Pid) → HasEndOf p r
+        → (n : ℕ) → r.stamp ≡ Some n → (m : ℕ) → n < m → is_ended (life (begins g) (events (stamped_below m (journal_at g.shards p.shard))) p) ≡ true
+    seen_at d x h k r at p ends n stamp m later =
+        let t = true_read g.config desks gathers.node whole audited d x h k r at p ends n stamp m later in
+        subst (λ j. is_ended (life (begins g) (events (stamped_below m j)) p) ≡ true) (sym (journal_of p.shard x t.0))
+        (ap is_ended (own_life p t.0 x (events (stamped_below m (get_or desks p.shard x).shard.journal))) ∙ t.1)
 
-    directory_is : (get_or desks 0 one).sight.directory ≡ k.directory
-    directory_is = ap (λ (z : Seated). z.0) (sym (get_or-map seat_in desks 0 one (seat_in one) gathers.node.some)) ∙ first (seat_in one)
+    pub reads_true : ReadsAreTrue desks g
+    reads_true d x h k r at p ends = go r.stamp refl
+      where
+        go : (o : Option ℕ) → r.stamp ≡ o → MatchOption o (Unit {0}) (λ n. is_ended (life (begins g) (events (stamped_below (n + 1) (journal_at g.shards p.shard))) p) ≡ true)
+        go None stamp = tt
+        go (Some n) stamp = seen_at d x h k r at p ends n stamp (n + 1) (omega arith)
 
-    all_named : (d : ℕ) (x : DeskState) → d < length desks → (get_or desks d x).sight.directory.name ≡ k.directory.name
-    all_named d x h = ap (λ (z : DirectoryState). z.name) (gathers.node.directories d x h ∙ sym (gathers.node.directories 0 one gathers.node.some) ∙ directory_is)
+    -- so each refused call was to such a one
+    refused_true : (d : ℕ) (x : DeskState) → d < length desks → (noted : List Stamped) → AllSeen (get_or desks d x).sight.reads noted → AllTrueRefusals (begins g) (journal_at g.shards) noted
+    refused_true d x h [] all = tt
+    refused_true d x h (s ∷ noted) all = (one s.event all.0, refused_true d x h noted all.1)
+      where
+        one : (e : Event) → IsSeen (get_or desks d x).sight.reads s.stamp e → IsTrueRefusal (begins g) (journal_at g.shards) s.stamp e
+        one (Refused a b) seen = seen_at d x h seen.0 seen.1 seen.3 b seen.4 seen.2 seen.5 s.stamp seen.6
+        one _ seen = tt
 
-    told_on : (j : ℕ) (z : Death) → get_elem? k.seat.deaths j ≡ some z → IsEndOn g z
-    told_on j z at =
-        let from = death_from k.directory.name desks one j z (subst (λ (s : SeatState). get_elem? s.deaths j ≡ some z) seat_is at) in
-        let e = from.0 in
-        let s = (get_or desks e one).shard in
-        let x = get_or desks e one in
-        let w = whole e one from.2 in
-        let t = told x.sight.told s.start s.config.slots s.config.start s.config.top_version s.number (old_ends s x.sight w.fit w.seated) s.journal w.fit.local from.1 z from.3 in
-        let home : e ≡ z.shard = sym (number_at g.config desks gathers.node whole e one from.2) ∙ sym t.shard in
-        let p : Pid = record { shard = z.shard; slot = z.slot; version = z.version } in
-        let gone : is_ended (life s.start (events s.journal) p) ≡ true = ended_below s.start p s.config.start s.config.top_version s.number (z.stamp + 1) s.journal w.fit.local (t.ended (z.stamp + 1) (omega arith)) in
-        let within : z.shard < length desks = subst (λ i. i < length desks) home from.2 in
-        let moved : is_ended (life (get_or desks z.shard one).shard.start (events (get_or desks z.shard one).shard.journal) p) ≡ true = subst (λ i. is_ended (life (get_or desks i one).shard.start (events (get_or desks i one).shard.journal) p) ≡ true) home gone in
-        let low : s.config.start ≡ g.config.start = ap (λ (c : Config). c.start) (gathers.node.configs e one from.2) in
-        record {
-          shard = omega (arith, within, count);
-          stamp =
-              subst (λ l. z.stamp ≤ clock g.config.start l) (sym (journal_of z.shard one within))
-              (subst (λ i. z.stamp ≤ clock g.config.start (get_or desks i one).shard.journal) home (subst (λ m. z.stamp ≤ clock m s.journal) low t.stamp));
-          ended =
-              subst (λ l. is_ended (life (begins g) (events l) p) ≡ true) (sym (journal_of z.shard one within))
-              (ap is_ended (own_life p within one (events (get_or desks z.shard one).shard.journal)) ∙ moved);
-        }
+    refusals_at : RefusalsAreTrue (begins g) (journal_at g.shards)
+    refusals_at d =
+        ⊎_elim
+        (λ (h : d < length g.shards).
+        let k : d < length desks = omega (arith, h, count) in
+        let x : DeskState = some_desk desks d k in
+        subst (AllTrueRefusals (begins g) (journal_at g.shards)) (sym (journal_of d x k)) (refused_true d x k (get_or desks d x).shard.journal (whole d x k).seated.seen))
+        (λ (h : length g.shards ≤ d).
+        subst (AllTrueRefusals (begins g) (journal_at g.shards))
+        (sym (get_or_past (map (λ (s : ShardState). s.journal) g.shards) d [] (omega (arith, length-map g.shards (λ (s : ShardState). s.journal))))) tt)
+        (cases_lt d (length g.shards))
 
-    -- each desk told all ends of its processes, before its journal and in it
-    all_told : (p : Pid) → p.shard < length g.shards → HasEndedOn g p → HasToldOf p k.seat
-    all_told p h e =
-        let d = p.shard in
-        let here : p.shard < length desks = omega (arith, h, count) in
-        let x = get_or desks d one in
-        let s = x.shard in
-        let w = whole d one here in
-        let gone : is_ended (life s.start (events s.journal) p) ≡ true
-        = ap is_ended (sym (own_life p here one (events s.journal))) ∙ subst (λ j. is_ended (life (begins g) (events j) p) ≡ true) (journal_of d one here) e in
-        let t = own_death x.sight.told s.start s.config.slots s.config.start s.config.top_version s.number (old_ends s x.sight w.fit w.seated) s.journal w.fit.local p gone in
-        let m = death_in k.directory.name desks d one t.0 t.1 here t.2 in
-        (m.0, t.1, subst (λ (s : SeatState). get_elem? s.deaths m.0 ≡ some t.1) (sym seat_is) m.1, t.3, t.4, t.5)
+    pub gathered_whole : IsGathered g
+    gathered_whole = gathered_if refusals_at
 
-    pub kept_of : IsKeptOf g k
-    kept_of =
-        let w = whole 0 one gathers.node.some in
-        let config_is = gathers.node.configs 0 one gathers.node.some in
-        record {
-          desks = ap (λ (z : DirectoryState). z.desks) (sym directory_is) ∙ w.seated.desks ∙ ap (λ (c : Config). c.desks) config_is;
-          slots = ap (λ (z : DirectoryState). z.slots) (sym directory_is) ∙ w.seated.slots ∙ ap (λ (c : Config). c.slots) config_is;
-          name = ap (λ (s : SeatState). s.name) seat_is ∙ name_together k.directory.name desks all_named;
-          homes =
-              ap (λ (s : SeatState). s.homes) seat_is
-              ∙ homes_together k.directory.name desks 0 (λ d x h. let e : d ≡ 0 + d = omega arith in number_at g.config desks gathers.node whole d x h ∙ e) ∙ ap (up_from 0) gathers.node.count;
-          ends = told_on;
-          all = all_told;
-          written =
-              written_is ∙ sym (map-map (λ (s : ShardState). length s.journal) (λ (d : DeskState). d.shard) desks)
-              ∙ ap (map (λ (s : ShardState). length s.journal)) (sym gathers.shards);
-        }
+    -- what is kept of their directory is that of the gathered node
+    module _ (k : KeptState) (first : (p : Seated) → (get_or (all_seats desks) 0 p).0 ≡ k.directory) (seat_is : k.seat ≡ together k.directory.name (all_seats desks))
+        (written_is : k.written ≡ map (λ (d : DeskState). length d.shard.journal) desks) where
+      one : DeskState
+      one = some_desk desks 0 gathers.node.some
+
+      directory_is : (get_or desks 0 one).sight.directory ≡ k.directory
+      directory_is = ap (λ (z : Seated). z.0) (sym (get_or-map seat_in desks 0 one (seat_in one) gathers.node.some)) ∙ first (seat_in one)
+
+      all_named : (d : ℕ) (x : DeskState) → d < length desks → (get_or desks d x).sight.directory.name ≡ k.directory.name
+      all_named d x h = ap (λ (z : DirectoryState). z.name) (gathers.node.directories d x h ∙ sym (gathers.node.directories 0 one gathers.node.some) ∙ directory_is)
+
+      told_on : (j : ℕ) (z : Death) → get_elem? k.seat.deaths j ≡ some z → IsEndOn g z
+      told_on j z at =
+          let from = death_from k.directory.name desks one j z (subst (λ (s : SeatState). get_elem? s.deaths j ≡ some z) seat_is at) in
+          let e = from.0 in
+          let s = (get_or desks e one).shard in
+          let x = get_or desks e one in
+          let w = whole e one from.2 in
+          let t = told x.sight.told s.start s.config.slots s.config.start s.config.top_version s.number (old_ends s x.sight w.fit w.seated) s.journal w.fit.local from.1 z from.3 in
+          let home : e ≡ z.shard = sym (number_at g.config desks gathers.node whole e one from.2) ∙ sym t.shard in
+          let p : Pid = record { shard = z.shard; slot = z.slot; version = z.version } in
+          let gone : is_ended (life s.start (events s.journal) p) ≡ true = ended_below s.start p s.config.start s.config.top_version s.number (z.stamp + 1) s.journal w.fit.local (t.ended (z.stamp + 1) (omega arith)) in
+          let within : z.shard < length desks = subst (λ i. i < length desks) home from.2 in
+          let moved : is_ended (life (get_or desks z.shard one).shard.start (events (get_or desks z.shard one).shard.journal) p) ≡ true = subst (λ i. is_ended (life (get_or desks i one).shard.start (events (get_or desks i one).shard.journal) p) ≡ true) home gone in
+          let low : s.config.start ≡ g.config.start = ap (λ (c : Config). c.start) (gathers.node.configs e one from.2) in
+          record {
+            shard = omega (arith, within, count);
+            stamp =
+                subst (λ l. z.stamp ≤ clock g.config.start l) (sym (journal_of z.shard one within))
+                (subst (λ i. z.stamp ≤ clock g.config.start (get_or desks i one).shard.journal) home (subst (λ m. z.stamp ≤ clock m s.journal) low t.stamp));
+            ended =
+                subst (λ l. is_ended (life (begins g) (events l) p) ≡ true) (sym (journal_of z.shard one within))
+                (ap is_ended (own_life p within one (events (get_or desks z.shard one).shard.journal)) ∙ moved);
+          }
+
+      -- each desk told all ends of its processes, before its journal and in it
+      all_told : (p : Pid) → p.shard < length g.shards → HasEndedOn g p → HasToldOf p k.seat
+      all_told p h e =
+          let d = p.shard in
+          let here : p.shard < length desks = omega (arith, h, count) in
+          let x = get_or desks d one in
+          let s = x.shard in
+          let w = whole d one here in
+          let gone : is_ended (life s.start (events s.journal) p) ≡ true
+          = ap is_ended (sym (own_life p here one (events s.journal))) ∙ subst (λ j. is_ended (life (begins g) (events j) p) ≡ true) (journal_of d one here) e in
+          let t = own_death x.sight.told s.start s.config.slots s.config.start s.config.top_version s.number (old_ends s x.sight w.fit w.seated) s.journal w.fit.local p gone in
+          let m = death_in k.directory.name desks d one t.0 t.1 here t.2 in
+          (m.0, t.1, subst (λ (s : SeatState). get_elem? s.deaths m.0 ≡ some t.1) (sym seat_is) m.1, t.3, t.4, t.5)
+
+      pub kept_of : IsKeptOf g k
+      kept_of =
+          let w = whole 0 one gathers.node.some in
+          let config_is = gathers.node.configs 0 one gathers.node.some in
+          record {
+            desks = ap (λ (z : DirectoryState). z.desks) (sym directory_is) ∙ w.seated.desks ∙ ap (λ (c : Config). c.desks) config_is;
+            slots = ap (λ (z : DirectoryState). z.slots) (sym directory_is) ∙ w.seated.slots ∙ ap (λ (c : Config). c.slots) config_is;
+            name = ap (λ (s : SeatState). s.name) seat_is ∙ name_together k.directory.name desks all_named;
+            homes =
+                ap (λ (s : SeatState). s.homes) seat_is
+                ∙ homes_together k.directory.name desks 0 (λ d x h. let e : d ≡ 0 + d = omega arith in number_at g.config desks gathers.node whole d x h ∙ e) ∙ ap (up_from 0) gathers.node.count;
+            ends = told_on;
+            all = all_told;
+            written =
+                written_is ∙ sym (map-map (λ (s : ShardState). length s.journal) (λ (d : DeskState). d.shard) desks)
+                ∙ ap (map (λ (s : ShardState). length s.journal)) (sym gathers.shards);
+          }
 
 pub same_journals : (desks : List DeskState) (g : GatheredState) → g.shards ≡ all_shards desks → HasJournalsOf desks g
 same_journals desks g same = (

@@ -19,3 +19,4 @@ pub mod Unrefused
 pub mod OperatedOnce
 pub mod Counting
 pub mod TablesFirst
+pub mod Advancing
