@@ -21,7 +21,7 @@ ROOT = Path(__file__).resolve().parent.parent
 PAGE = ROOT / "docs" / "API.md"
 # the crates whose calls a program makes; one that is not there is passed over
 CRATES = (
-    "pt_node", "pt_history", "pt_behaviour", "pt_crew", "pt_pending", "pt_supervisor", "pt_scheduler", "pt_epochs",
+    "pt_node", "pt_history", "pt_behaviour", "pt_crew", "pt_supervisor", "pt_scheduler", "pt_epochs",
     "pt_pauses", "pt_scheduler_laws", "pt_timers", "pt_names",
 )
 

@@ -46,7 +46,7 @@ try_calls() {
     for file in "$here"/calls/*.rt.txt; do
         cp "$file" "$work/crates/pt_refused/src/$(basename "$file" .txt)"
     done
-    echo pt_refused: pt_{heap,signal,slots,timers,names,schedules,process,accounts,carrier,directory,history,texts,auditor,shard,node,behaviour,crew,pending,supervisor,scheduler,epochs,script,runner,render,report} >>"$work/crates.txt"
+    echo pt_refused: pt_{heap,signal,slots,timers,names,schedules,process,accounts,carrier,directory,history,texts,auditor,shard,node,behaviour,crew,supervisor,scheduler,epochs,script,runner,render,report} >>"$work/crates.txt"
     "$root/.ci/build" --in "$work" "$(if [ -n "${PT_PROVING-}" ]; then echo --quick; else echo --checked; fi)" pt_refused
     run_part sequences &
     run_part calls

@@ -17,7 +17,7 @@ here=$(cd "$(dirname "$0")" && pwd)
 
 # The crates that only these tests call.
 declare -A calls=(
-    [test_calls]='pt_events pt_children pt_pending pt_auditor pt_accounts pt_directory pt_desk pt_scheduler pt_epochs pt_pauses pt_scheduler_laws pt_schedules'
+    [test_calls]='pt_events pt_children pt_auditor pt_accounts pt_directory pt_desk pt_scheduler pt_epochs pt_pauses pt_scheduler_laws pt_schedules'
     [pt_scripts]='pt_node pt_script pt_runner pt_chart pt_options pt_report clap'
 )
 [ $# -gt 0 ] || set -- test_calls pt_scripts

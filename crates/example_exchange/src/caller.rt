@@ -9,8 +9,8 @@ use crate::words::{
     BUSY, HANG_UP, NO_ANSWER, NOISE, Office, PICKED_UP, RING, WHEREIS, message, tell,
 };
 use pt_behaviour::{Next, monitor};
+use pt_names::{Heard, Pending};
 use pt_node::{Body, Desk, Item, Pick, Pid, Reason, Ref};
-use pt_pending::{Heard, Pending};
 
 /// How long a caller waits for the registry, and for an answer that comes late.
 const WAITS_FOR: u64 = 60;

@@ -7,9 +7,8 @@ ghost use Rattle.pt_behaviour.specs.Behaving.{takes};
 use crate::facts;
 use crate::words::{LINES, NAMED, NOT_NAMED, WHEREIS, message, tell};
 use pt_behaviour::Next;
-use pt_names::{Name, Registry};
+use pt_names::{Name, Registry, Request, reply, request_of};
 use pt_node::{Body, Desk, Item, Pick, Pid};
-use pt_pending::{Request, reply, request_of};
 use std::alloc::Global;
 
 /// The names of the lines, in the order of their places.

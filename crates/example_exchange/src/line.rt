@@ -10,8 +10,8 @@ use crate::words::{
     message, tell,
 };
 use pt_behaviour::{Next, demonitor, monitor};
+use pt_names::{Alarms, Heard, Pending, Request, reply, request_of};
 use pt_node::{Body, Desk, Item, Pick, Pid, Ref};
-use pt_pending::{Alarms, Heard, Pending, Request, reply, request_of};
 use pt_timers::Timer;
 use std::alloc::Global;
 

@@ -1,6 +1,6 @@
 //! A day of the exchange, and what is printed of it.
 
-ghost use Rattle.pt_pending.specs.Ending.{EndsFirst};
+ghost use Rattle.pt_names.specs.Ending.{EndsFirst};
 ghost use Rattle.pt_names.specs.Past.{KeepMonitors};
 
 use crate::actor::Actor;
@@ -13,9 +13,8 @@ use crate::words::LINES;
 use anyhow::{Result, bail};
 use pt_events::{Event, Stamped};
 use pt_judge::replay;
-use pt_names::names_keep_their_monitors;
+use pt_names::{calls_end_once, names_keep_their_monitors};
 use pt_node::{Config, FreeGate, Node, Standing, Task};
-use pt_pending::calls_end_once;
 use pt_supervisor::Child;
 use std::alloc::{AllocError, Global};
 use std::fmt::{self, Display, Formatter, Write};

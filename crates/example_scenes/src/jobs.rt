@@ -10,7 +10,7 @@
 
 ghost use Rattle.std.specs.Prelude.{◌≡◌};
 ghost use Rattle.pt_desk.specs.DeskState.{GoesOn};
-ghost use Rattle.pt_pending.specs.Ending.{EndsOnce};
+ghost use Rattle.pt_names.specs.Ending.{EndsOnce};
 ghost use Rattle.pt_behaviour.specs.Behaving.{takes};
 ghost use Rattle.pt_supervisor.specs.Supervising.{PermanentLive, StaysWanted};
 
@@ -18,8 +18,8 @@ use crate::stage;
 use crate::stage::{Curtain, DESKS, Stage, first_of};
 use anyhow::Result;
 use pt_behaviour::{Behaviour, Births, Next, demonitor, monitor, send};
+use pt_names::{Heard, Pending, Request, calls_end_once, reply, request_of};
 use pt_node::{Body, Desk, Fault, Item, Pick, Pid, Reason, Ref};
-use pt_pending::{Heard, Pending, Request, calls_end_once, reply, request_of};
 use pt_supervisor::{Child, Limit, Restart, Start, Strategy, Supervisor, permanent_children_live};
 use std::alloc::{AllocError, Global};
 use std::collections::VecDeque;

@@ -24,7 +24,7 @@
 //!   refused. (`CrewSteps`, `SpawnsBossInCrew`, `AnswersInOrder`)
 //! - **Timers, names and groups.** Each call is that of `Timers`, of `Names` with bytes for a name, and of `Groups` with a
 //!   number for a group. (`StartsTimer`, `RegistersName`, `JoinsByCode`)
-//! - **Calls.** Asking, hearing and replying are those of `pt_pending`, and a call ends once. The messages of calls are told
+//! - **Calls.** Asking, hearing and replying are those of `pt_names`, and a call ends once. The messages of calls are told
 //!   from others. (`AsksServer`, `HearsItem`, `TellsIfCall`)
 //! - **Letters and doors.** The next turn posts to no other desks than those told. What is taken out of a way in is what was
 //!   handed in, in order, each message once. (`PostsWhereLettersWait`, `TakesCode`, `meet` of `pt_c_tools`)

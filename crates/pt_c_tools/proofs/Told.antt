@@ -9,9 +9,9 @@ use Rattle.pt_signal.specs.declared.item.Item.{Item}
 use Rattle.pt_signal.specs.declared.item.Item.TheVariants.{User, Exit, Down, Alive}
 use Rattle.pt_signal.specs.Values.{same_pid}
 use Rattle.pt_signal.proofs.Same.{same_pid_refl}
-use Rattle.pt_pending.specs.declared.request.Request.{Request}
-use Rattle.pt_pending.specs.Asking.{answer, request_message, request_of, speaks_of}
-use Rattle.pt_pending.specs.Ending.{says_to_call}
+use Rattle.pt_names.specs.declared.request.Request.{Request}
+use Rattle.pt_names.specs.Asking.{answer, request_message, request_of, speaks_of}
+use Rattle.pt_names.specs.Ending.{says_to_call}
 use Rattle.pt_c_values.specs.Crossing.{pid_crossed}
 use Rattle.pt_c_tools.specs.declared.types.PtCall.{PtCall}
 use Rattle.pt_c_tools.specs.Asking.{is_of_call, pending_of}

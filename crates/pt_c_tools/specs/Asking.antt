@@ -9,15 +9,15 @@ use Rattle.pt_signal.specs.declared.item.Item.TheVariants.{User}
 use Rattle.pt_desk.specs.DeskState.{DeskState, GoesOn}
 use Rattle.pt_behaviour.specs.declared.call_fault.CallFault.{CallFault}
 use Rattle.pt_behaviour.specs.declared.call_fault.CallFault.TheVariants.{Unknown, Refused}
-use Rattle.pt_pending.specs.declared.ask_fault.AskFault.{AskFault}
-use Rattle.pt_pending.specs.declared.ask_fault.AskFault.TheVariants.{Unasked, LeftOpen}
-use Rattle.pt_pending.specs.declared.pending.Pending.{Pending}
-use Rattle.pt_pending.specs.declared.pending.Heard.{Heard}
-use Rattle.pt_pending.specs.declared.request.Request.{Request}
-use Rattle.pt_pending.specs.Asking.{Asks, answer, request_message, request_of, speaks_of}
+use Rattle.pt_names.specs.declared.ask_fault.AskFault.{AskFault}
+use Rattle.pt_names.specs.declared.ask_fault.AskFault.TheVariants.{Unasked, LeftOpen}
+use Rattle.pt_names.specs.declared.pending.Pending.{Pending}
+use Rattle.pt_names.specs.declared.pending.Heard.{Heard}
+use Rattle.pt_names.specs.declared.request.Request.{Request}
+use Rattle.pt_names.specs.Asking.{Asks, answer, request_message, request_of, speaks_of}
 use Rattle.pt_behaviour.specs.Telling.{SendsTo}
-use Rattle.pt_pending.specs.Ending.{CallEvent, Closes, Expires, ends_reported, first_call_end, heard_by_call, is_due}
-use Rattle.pt_pending.specs.Ending.{is_expired, says_to_call}
+use Rattle.pt_names.specs.Ending.{CallEvent, Closes, Expires, ends_reported, first_call_end, heard_by_call, is_due}
+use Rattle.pt_names.specs.Ending.{is_expired, says_to_call}
 use Rattle.pt_c_values.specs.Places.{ShowsCode}
 use Rattle.pt_c_values.specs.declared.types.PtItem.{PtItem}
 use Rattle.pt_c_values.specs.Codes.{bad_code, code_of, unknown}

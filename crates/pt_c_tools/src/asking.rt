@@ -2,14 +2,14 @@
 
 ghost use Rattle.std.specs.Prelude.{◌≡◌, ◌<◌, ◌^◌, pos, Option, ℕ};
 ghost use Rattle.pt_desk.specs.DeskState.{GoesOn};
-ghost use Rattle.pt_pending.specs.Asking.{Asks, refusal, unsent_fault};
+ghost use Rattle.pt_names.specs.Asking.{Asks, refusal, unsent_fault};
 ghost use Rattle.pt_c_tools.specs.Asking.{asked_code, call_or, call_under, fault_code, pending_asked};
 
 use crate::types::PtCall;
 use pt_behaviour::{CallFault, demonitor, monitor, send};
 use pt_c_values::codes::{DONE, UNKNOWN, code_of};
 use pt_c_values::crossing::{pid_out, ref_out};
-use pt_pending::AskFault;
+use pt_names::AskFault;
 use pt_workers::{Body, Desk, Fault, Pid, Ref};
 
 /// The code of a call that failed.

@@ -3,8 +3,8 @@
 ghost use Rattle.std.specs.Prelude.{◌≡◌, pos, false};
 ghost use Rattle.std.specs.Ordering.{int_eq};
 ghost use Rattle.pt_desk.specs.DeskState.{GoesOn};
-ghost use Rattle.pt_pending.specs.Asking.{speaks_of};
-ghost use Rattle.pt_pending.specs.Ending.{Closes, IsGivenUp, heard_by_call, is_answer_to_call, is_due, says_to_call};
+ghost use Rattle.pt_names.specs.Asking.{speaks_of};
+ghost use Rattle.pt_names.specs.Ending.{Closes, IsGivenUp, heard_by_call, is_answer_to_call, is_due, says_to_call};
 ghost use Rattle.pt_c_tools.specs.Asking.{CallsEndOnce, HearsItem, call_after, call_noting, pending_of, heard_out};
 
 use crate::items::item_in;
@@ -13,7 +13,7 @@ use pt_behaviour::demonitor;
 use pt_c_values::codes::{BAD_CODE, DONE};
 use pt_c_values::crossing::{no_reason, pid_in, reason_out, ref_in};
 use pt_c_values::types::PtItem;
-use pt_pending::Heard;
+use pt_names::Heard;
 use pt_workers::{Body, Desk, Item, Pid};
 
 fn heard_out(heard: Heard) -> PtHeard

@@ -8,7 +8,7 @@
 //! ends: such a thread holds its [`Door`](door::Door), and the thread of a desk the [`WayIn`](door::WayIn). Each is in a
 //! handle of its own.
 //!
-//! The calls that are answered are those of `pt_pending` ([`Pending`](pt_pending::Pending), [`reply`](pt_pending::reply)),
+//! The calls that are answered are those of `pt_names` ([`Pending`](pt_names::Pending), [`reply`](pt_names::reply)),
 //! with a call and a request as plain structs that the program keeps. [`about`] is what the library says of itself. `pt_c`
 //! exports all of them.
 //!

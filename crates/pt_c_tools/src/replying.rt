@@ -10,7 +10,7 @@ use pt_behaviour::CallFault;
 use pt_c_values::codes::{BAD_CODE, DONE, NOTHING};
 use pt_c_values::crossing::{pid_in, pid_out};
 use pt_c_values::types::PtItem;
-use pt_pending::{Request, request_of as read_request};
+use pt_names::{Request, request_of as read_request};
 
 fn request_out(request: Request) -> PtRequest
     ensures { result ≡ request_out request }

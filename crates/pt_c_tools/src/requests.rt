@@ -1,4 +1,4 @@
-//! Calls that are answered, through the handle of a desk: those of `pt_pending`, with plain structs.
+//! Calls that are answered, through the handle of a desk: those of `pt_names`, with plain structs.
 //!
 //! Each that gets a desk returns 9 if the handle has none, and nothing has changed then. Those that get an item return 16
 //! next if its code, or that of its reason, is none of its enumeration.
@@ -16,7 +16,7 @@ use pt_c_desks::desk_handle::{DeskHandle, claim, hold};
 use pt_c_values::codes::{DONE, EMPTY};
 use pt_c_values::crossing::pid_in;
 use pt_c_values::types::{PtItem, PtPid};
-use pt_pending::reply as reply_to;
+use pt_names::reply as reply_to;
 use std::alloc::Global;
 
 /// Asks a server, as `Pending::ask` does: it monitors the server, and sends the request under the monitor's number. It

@@ -5,7 +5,7 @@ use denote.Ref.{Bor}
 use Rattle.pt_events.specs.declared.event.Stamped.{Stamped}
 use Rattle.pt_events.specs.JournalState.{JournalState}
 use Rattle.pt_events.specs.Journal.{IsMerge}
-use Rattle.pt_merge.specs.Merging.{journal_of, HasNone, AreApart}
+use Rattle.pt_judge.specs.Merging.{journal_of, HasNone, AreApart}
 use Rattle.pt_shard.specs.ShardState.{ShardState}
 use Rattle.pt_gathered.specs.History.{AreJournalsOf}
 

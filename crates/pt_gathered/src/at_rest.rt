@@ -7,7 +7,7 @@ ghost use Rattle.std.specs.Prelude.{IfOk, OnOk, IfSome, IfNone};
 ghost use Rattle.pt_events.specs.Journal.{IsMerge};
 ghost use Rattle.pt_laws.specs.Laws.{LegalWithLeftOver};
 ghost use Rattle.pt_laws.specs.Load.{IsStart};
-ghost use Rattle.pt_merge.specs.Merging.{AreApart, journal_of};
+ghost use Rattle.pt_judge.specs.Merging.{AreApart, journal_of};
 ghost use Rattle.pt_shard.specs.Outbox.{held_from};
 ghost use Rattle.std.specs.Option.{option_copied};
 ghost use Rattle.pt_gathered.specs.Gathered.{IsGathered, begins, lost_on, box_at, hold_at, over, over_in, journals};
@@ -20,7 +20,7 @@ ghost use Rattle.pt_gathered.specs.Waits.{StepsPosted};
 
 use crate::node_laws::laws_of_node;
 use pt_events::{Journal, Stamped};
-use pt_merge::merge;
+use pt_judge::merge;
 use pt_shard::{Config, Loss, Shard, Stop};
 use pt_signal::{LeftOver, Letter};
 use std::alloc::{AllocError, Global};

@@ -103,5 +103,4 @@ pub mod links;
 pub use custody::{custody_holds, custody_of};
 pub use custody_examples::each_fate_is_told;
 pub use pt_events::{Event, Journal, Stamped};
-pub use pt_judge::{Cause, Holding, State, replay, replay_from};
-pub use pt_merge::merge;
+pub use pt_judge::{Cause, Holding, State, merge, replay, replay_from};

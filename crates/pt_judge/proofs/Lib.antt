@@ -9,3 +9,5 @@ pub mod SameValues
 pub mod Judged
 pub mod Queued
 pub mod Trial
+pub mod Race
+pub mod MergeStep

@@ -1,4 +1,7 @@
-//! A judge that tells whether a history is one that processes can have.
+//! Journals as one history, and a judge that tells whether a history is one that processes can have.
+//!
+//! [`merge`] takes journals of different desks, and gives the one list that rises by (stamp, desk) and holds each journal
+//! whole. It takes two pieces of memory, and for each event the logarithm of the number of journals.
 //!
 //! [`replay`] runs through a history from its first event. It answers the [`State`] after the last one exactly
 //! where each event may come after those before it, and else the place of the first that may not, with the lowest
@@ -14,10 +17,12 @@
 //! an event costs grows with the logarithm of the letters on their way, and with the lists of the one process that it
 //! is of.
 //!
-//! Tests: `checks/tried/test_calls/auditor.rt.txt` and `checks/audit`.
+//! Tests: `checks/tried/test_calls/auditor.rt.txt` and `checks/audit`; of the merge `checks/tried/test_calls/history.rt.txt`
+//! and `checks/rows`.
 //!
 //! # What is proved
 //!
+//! - **One list.** `merge` returns the one list that rises by (stamp, desk) and has each journal whole, in its order.
 //! - **Legal.** `replay` succeeds exactly if the history is legal.
 //! - **The first fault.** Otherwise it returns the place of the first event that may not come, and the lowest cause
 //!   that fits.
@@ -29,6 +34,8 @@
 
 mod cause;
 mod judging;
+mod merging;
 
 pub use cause::Cause;
 pub use judging::{Flights, Holding, State, replay, replay_from};
+pub use merging::merge;

@@ -3,3 +3,6 @@ pub mod Sound
 pub mod Naming
 pub mod Grouped
 pub mod Sending
+pub mod Fitting
+pub mod Ends
+pub mod Ringing

@@ -1,3 +1,6 @@
+pub mod Asking
+pub mod Ending
+pub mod Alarming
 pub mod Letters
 pub mod State
 pub mod Calls

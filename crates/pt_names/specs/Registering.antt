@@ -11,7 +11,7 @@ use Rattle.pt_names.specs.State.{NamesState, holder_of}
 use Rattle.pt_names.specs.Calls.{IsFree, Checks, Registers, Unregisters}
 use Rattle.pt_shard.specs.declared.fault.Fault.{Fault}
 use Rattle.pt_desk.specs.DeskState.{DeskState}
-use Rattle.pt_pending.specs.declared.request.Request.{Request}
+use Rattle.pt_names.specs.declared.request.Request.{Request}
 use Rattle.pt_behaviour.specs.Telling.{Watches, Unwatches}
 use Rattle.pt_names.specs.declared.registry.Registry.{Registry}
 use Rattle.pt_names.specs.declared.registry.RegistryError.{RegistryError}

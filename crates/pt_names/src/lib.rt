@@ -1,6 +1,7 @@
-//! Names of processes, as Erlang's `register`, `whereis` and `unregister` keep them, and groups of processes, as its `pg`
-//! does.
+//! What behaviours of a crew keep of other processes: names and groups, as Erlang's `register` and `pg` keep them, calls that are
+//! answered, and messages that are sent later.
 //!
+//! # Names and groups
 //! [`Names`] knows no process. It keeps what it is given, and forgets a process when [`Names::forget`] is called for its
 //! exit. Each name is of one process, and each process has one name at most.
 //!
@@ -15,7 +16,21 @@
 //! A [`GroupRegistry`] is groups with a monitor of each process that is in one, for a behaviour, as a [`Registry`] is of
 //! names. It sends a message to each member of a group.
 //!
-//! Tests: `checks/tried/test_calls/names.rt.txt`, `checks/tried/test_calls/registry.rt.txt`,
+//! # Calls that are answered
+//! Erlang's `gen_server:call`, as a monitor, a request, and the answer or the `DOWN`. A behaviour that asks keeps a
+//! [`Pending`] in its state and shows it each item that arrives, and the time if the call has a deadline. A behaviour
+//! that is asked recognises a request by [`request_of`], and answers by [`reply`], at once or later.
+//!
+//! A message holds a kind, a number and maybe a pid. A request and its answer both speak of the client, by its pid: the
+//! request of its own sender, the answer of its receiver. Both carry the number of the monitor's reference, which no
+//! other monitor of the client's desk has, so an answer belongs to one call alone. The kind says what is asked, and
+//! what is answered.
+//!
+//! # Messages that are sent later
+//! Erlang's `send_after`. A behaviour keeps [`Alarms`] in its state, and sends by [`Alarms::ring`] what is due.
+//!
+//! Tests: `checks/tried/test_calls/asking.rt.txt`, `checks/tried/test_calls/alarms.rt.txt`,
+//! `checks/tried/test_calls/names.rt.txt`, `checks/tried/test_calls/registry.rt.txt`,
 //! `checks/tried/test_calls/groups.rt.txt`, `checks/tried/test_calls/group_registry.rt.txt`,
 //! `crates/test_calls/src/layers/names.rt` and `crates/test_calls/src/on_a_desk.rt`.
 //!
@@ -54,8 +69,21 @@
 //!   (`HearsGroups`)
 //! - **Sent to all.** `send_all` sends the message once to each member of the group, and skips those that are seen to have
 //!   exited. It stops at any other failure, and returns it with the number of members before. (`SendsAll`)
+//! - **A call ends once.** It ends by its answer, by the `DOWN` of its server or by its deadline, whichever it is shown
+//!   first, and never by two of them. (`calls_end_once`)
+//! - **Asking.** `Pending::ask` makes a monitor and sends a request under its number, or fails, and then nothing was
+//!   asked. Its monitor is cancelled then, or the failure has it. (`Asks`)
+//! - **Deadlines.** `Pending::expire` returns whether an open call ends by its deadline now, which is exactly if the
+//!   deadline is not above the time. (`is_expired`)
+//! - **Hearing.** `Pending::hear` returns whether an item is the answer, the exit of the server, late, or none of
+//!   these.
+//! - **Monitors of calls.** As a call ends its monitor is cancelled, or `left_open` returns it. (`IsGivenUp`)
+//! - **Alarms.** `Alarms::ring` sends each message that is due, in the order of time and starting, and none twice or
+//!   early. One that is refused memory or a stamp stays to be sent. (`Rings`)
 #![tactic(auto)]
 
+mod alarms;
+mod ask_fault;
 mod group;
 mod group_registry;
 mod groups;
@@ -63,15 +91,21 @@ mod laws;
 mod name;
 mod names;
 mod not_joined;
+mod pending;
 mod places;
 mod registry;
+mod request;
 mod unregistered;
 mod watched;
 
+pub use alarms::{Alarm, Alarms};
+pub use ask_fault::AskFault;
 pub use group::{Group, JoinError, Left};
 pub use group_registry::{GroupError, GroupRegistry, Sent};
 pub use groups::Groups;
 pub use laws::names_keep_their_monitors;
 pub use name::{MAX_LETTERS, Name, names_tell_texts_apart};
 pub use names::{Holder, Names, RegisterError};
+pub use pending::{Heard, Pending, calls_end_once};
 pub use registry::{Registry, RegistryError};
+pub use request::{Request, reply, request_of};

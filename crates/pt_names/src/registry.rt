@@ -4,9 +4,9 @@ ghost use Rattle.pt_names.specs.State.{IsOneToOne};
 
 use crate::name::Name;
 use crate::names::{Names, RegisterError};
+use crate::request::Request;
 use crate::unregistered::unkept;
 use pt_behaviour::{CallFault, demonitor, monitor};
-use pt_pending::Request;
 use pt_workers::{Desk, Fault, Item, Pid, Ref};
 use std::alloc::Global;
 use thiserror::Error;

@@ -17,6 +17,7 @@ pub mod Tabling
 pub mod Outcomes
 pub mod Unrefused
 pub mod OperatedOnce
+pub mod Making
 pub mod Counting
 pub mod TablesFirst
 pub mod Advancing

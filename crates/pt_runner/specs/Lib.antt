@@ -1,4 +1,5 @@
 pub mod Acting
+pub mod Making
 pub mod Numbers
 pub mod Starting
 pub mod Stepping

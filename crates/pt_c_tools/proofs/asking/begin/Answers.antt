@@ -2,7 +2,7 @@
 use Rattle.std.proofs.Common.{ℤ, Some, inr, refl, sym, ◌∙◌, subst}
 use Rattle.pt_desk.proofs.Turning.{goes_on_then}
 use Rattle.pt_behaviour.specs.Telling.{SendsTo}
-use Rattle.pt_pending.proofs.Fitting.{monitor_fits, carried}
+use Rattle.pt_names.proofs.Fitting.{monitor_fits, carried}
 use Rattle.pt_c_tools.proofs.asking.begin.Goals as goal
 
 pub returns-in-Some-clause-does : goal.returns-in-Some-clause-does

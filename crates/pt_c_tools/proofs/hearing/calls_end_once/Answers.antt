@@ -1,5 +1,5 @@
 -- `calls_end_once`: its contract.
-use Rattle.pt_pending.proofs.Ends.{ends_first}
+use Rattle.pt_names.proofs.Ends.{ends_first}
 use Rattle.pt_c_tools.specs.Asking.{pending_of}
 use Rattle.pt_c_tools.proofs.hearing.calls_end_once.Goals as goal
 

@@ -1,3 +1,0 @@
--- The lemmas that more than one function of the crate uses.
-pub mod Race
-pub mod MergeStep
