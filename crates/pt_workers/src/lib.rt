@@ -36,7 +36,7 @@ pub use pt_shard::{Fault, Loss};
 pub use pt_signal::{Body, Item, Pick, Pid, Reason, Ref};
 pub use run_fault::RunFault;
 pub use running::{FreeGate, Gate, Ran, run, run_single};
-pub use stillness::{Rested, Stopped, meet_at, until_still};
+pub use stillness::{Rested, Stopped, meet_all, meet_at, until_still};
 pub use taking::{Takes, take_each};
 pub use waking::next_woken;
 pub use work::{Standing, Task, Work};

@@ -47,11 +47,11 @@ pub fn until_still(desks: &mut Vec<Desk>, budget: u32) -> Rested
     };
     let mut quiet: u8 = 0;
     while quiet < 2 {
-        look(desks);
+        meet_all(desks);
         let round = turn_each(desks, budget);
         did = both(did, round);
         if did.stopped.is_some() {
-            look(desks);
+            meet_all(desks);
             return did;
         }
         quiet = if round.handled > 0 { 0 } else { quiet + 1 };
@@ -105,7 +105,7 @@ fn at_desk(desk: u8, stopped: Option<Stop>) -> Option<Stopped>
 }
 
 /// Looks at every lane from both of its ends.
-fn look(desks: &mut [Desk])
+pub fn meet_all(desks: &mut [Desk])
     requires { AreDesks desks.old }
     ensures kept { map desk_kept desks.new ≡ map desk_kept desks.old }
     ensures met { AreMet desks.new }

@@ -24,42 +24,42 @@ turned budget desks met new n round count kept turns = subst (λ z. TurnEach bud
 pub turn_each-round-requires : goal.turn_each-round-requires
 turn_each-round-requires c =
     let desks = c.loop-quiet.desks.items in
-    let met = c.look.new.desks in
-    let kept : map desk_kept met ≡ map desk_kept desks = c.look.ensures.kept ∙ ap (map desk_kept) c.deref_mut.ensures.value in
+    let met = c.meet_all.new.desks in
+    let kept : map desk_kept met ≡ map desk_kept desks = c.meet_all.ensures.kept ∙ ap (map desk_kept) c.deref_mut.ensures.value in
     subst AreDesks (sym (looked desks met c.loop-quiet.desks.len (omega (arith, c.loop-quiet.desks.ok.0)) kept)) (kept_desks met desks kept c.loop-quiet.invariant.node)
 
 -- behind a turn that was stopped
 pub returns-then-is_some-clause-node : goal.returns-then-is_some-clause-node
 returns-then-is_some-clause-node c =
     let last = c.turn_each-round.new.desks.items in
-    let new = c.look-then-is_some.new.desks in
-    let kept : map desk_kept new ≡ map desk_kept last = c.look-then-is_some.ensures.kept ∙ ap (map desk_kept) c.deref_mut-then-is_some.ensures.value in
+    let new = c.meet_all-then-is_some.new.desks in
+    let kept : map desk_kept new ≡ map desk_kept last = c.meet_all-then-is_some.ensures.kept ∙ ap (map desk_kept) c.deref_mut-then-is_some.ensures.value in
     subst AreDesks (sym (looked last new c.turn_each-round.new.desks.len (omega (arith, c.turn_each-round.new.desks.ok.0)) kept)) (kept_desks new last kept c.turn_each-round.ensures.node)
 
 pub returns-then-is_some-clause-rounds : goal.returns-then-is_some-clause-rounds
 returns-then-is_some-clause-rounds c =
     let inv = c.loop-quiet.invariant in
     let desks = c.loop-quiet.desks.items in
-    let met = c.look.new.desks in
-    let kept : map desk_kept met ≡ map desk_kept desks = c.look.ensures.kept ∙ ap (map desk_kept) c.deref_mut.ensures.value in
+    let met = c.meet_all.new.desks in
+    let kept : map desk_kept met ≡ map desk_kept desks = c.meet_all.ensures.kept ∙ ap (map desk_kept) c.deref_mut.ensures.value in
     let turns = turned c.args.budget desks met c.turn_each-round.new.desks.items c.loop-quiet.desks.len c.turn_each-round.result (omega (arith, c.loop-quiet.desks.ok.0)) kept c.turn_each-round.ensures.turns in
     let rounds = rounds_more c.args.budget desks met c.turn_each-round.new.desks.items c.turn_each-round.result kept turns c.args.desks.now.items c.loop-quiet.did c.both-did.result inv.on c.both-did.ensures inv.rounds in
     let last = c.turn_each-round.new.desks.items in
-    let new = c.look-then-is_some.new.desks in
-    let again : map desk_kept new ≡ map desk_kept last = c.look-then-is_some.ensures.kept ∙ ap (map desk_kept) c.deref_mut-then-is_some.ensures.value in
+    let new = c.meet_all-then-is_some.new.desks in
+    let again : map desk_kept new ≡ map desk_kept last = c.meet_all-then-is_some.ensures.kept ∙ ap (map desk_kept) c.deref_mut-then-is_some.ensures.value in
     subst (RunsRounds c.args.budget c.args.desks.now.items c.both-did.result) (sym (looked last new c.turn_each-round.new.desks.len (omega (arith, c.turn_each-round.new.desks.ok.0)) again))
     (record { count = rounds.0; last = last; rounds = rounds.1; looks = look_again c.both-did.result.stopped c.is_some.result last new c.is_some.ensures c.if-is_some.true again })
 
 pub returns-then-is_some-clause-lanes : goal.returns-then-is_some-clause-lanes
 returns-then-is_some-clause-lanes c =
     let desks = c.loop-quiet.desks.items in
-    let met = c.look.new.desks in
-    let kept : map desk_kept met ≡ map desk_kept desks = c.look.ensures.kept ∙ ap (map desk_kept) c.deref_mut.ensures.value in
+    let met = c.meet_all.new.desks in
+    let kept : map desk_kept met ≡ map desk_kept desks = c.meet_all.ensures.kept ∙ ap (map desk_kept) c.deref_mut.ensures.value in
     let last = c.turn_each-round.new.desks.items in
-    let new = c.look-then-is_some.new.desks in
-    let again : map desk_kept new ≡ map desk_kept last = c.look-then-is_some.ensures.kept ∙ ap (map desk_kept) c.deref_mut-then-is_some.ensures.value in (
-      first_looked c.args.desks.now.items desks met c.loop-quiet.quiet c.loop-quiet.invariant.lanes kept c.look.ensures.met,
-      subst HaveLanes (sym (looked last new c.turn_each-round.new.desks.len (omega (arith, c.turn_each-round.new.desks.ok.0)) again)) (met_lanes new c.look-then-is_some.ensures.met),
+    let new = c.meet_all-then-is_some.new.desks in
+    let again : map desk_kept new ≡ map desk_kept last = c.meet_all-then-is_some.ensures.kept ∙ ap (map desk_kept) c.deref_mut-then-is_some.ensures.value in (
+      first_looked c.args.desks.now.items desks met c.loop-quiet.quiet c.loop-quiet.invariant.lanes kept c.meet_all.ensures.met,
+      subst HaveLanes (sym (looked last new c.turn_each-round.new.desks.len (omega (arith, c.turn_each-round.new.desks.ok.0)) again)) (met_lanes new c.meet_all-then-is_some.ensures.met),
     )
 
 -- behind two rounds in a row that handled nothing
@@ -78,8 +78,8 @@ returns-clause-lanes c =
 pub loop-quiet-smaller-then-round-gt0 : goal.loop-quiet-smaller-then-round-gt0
 loop-quiet-smaller-then-round-gt0 c =
     let desks = c.loop-quiet.desks.items in
-    let met = c.look.new.desks in
-    let kept : map desk_kept met ≡ map desk_kept desks = c.look.ensures.kept ∙ ap (map desk_kept) c.deref_mut.ensures.value in
+    let met = c.meet_all.new.desks in
+    let kept : map desk_kept met ≡ map desk_kept desks = c.meet_all.ensures.kept ∙ ap (map desk_kept) c.deref_mut.ensures.value in
     let turns = turned c.args.budget desks met c.turn_each-round.new.desks.items c.loop-quiet.desks.len c.turn_each-round.result (omega (arith, c.loop-quiet.desks.ok.0)) kept c.turn_each-round.ensures.turns in
     let falls = room_falls c.args.budget desks met c.turn_each-round.new.desks.items c.turn_each-round.result kept turns (omega (arith, c.ranges.budget)) in
     omega (arith, falls, c.if-round-gt0.true, c.loop-quiet-test.true)
@@ -87,8 +87,8 @@ loop-quiet-smaller-then-round-gt0 c =
 pub loop-quiet-smaller : goal.loop-quiet-smaller
 loop-quiet-smaller c =
     let desks = c.loop-quiet.desks.items in
-    let met = c.look.new.desks in
-    let kept : map desk_kept met ≡ map desk_kept desks = c.look.ensures.kept ∙ ap (map desk_kept) c.deref_mut.ensures.value in
+    let met = c.meet_all.new.desks in
+    let kept : map desk_kept met ≡ map desk_kept desks = c.meet_all.ensures.kept ∙ ap (map desk_kept) c.deref_mut.ensures.value in
     let turns = turned c.args.budget desks met c.turn_each-round.new.desks.items c.loop-quiet.desks.len c.turn_each-round.result (omega (arith, c.loop-quiet.desks.ok.0)) kept c.turn_each-round.ensures.turns in
     let falls = room_falls c.args.budget desks met c.turn_each-round.new.desks.items c.turn_each-round.result kept turns (omega (arith, c.ranges.budget)) in
     omega (arith, falls, c.loop-quiet-test.true)
@@ -97,15 +97,15 @@ pub loop-quiet-preserved-then-round-gt0 : goal.loop-quiet-preserved-then-round-g
 loop-quiet-preserved-then-round-gt0 c =
     let inv = c.loop-quiet.invariant in
     let desks = c.loop-quiet.desks.items in
-    let met = c.look.new.desks in
-    let kept : map desk_kept met ≡ map desk_kept desks = c.look.ensures.kept ∙ ap (map desk_kept) c.deref_mut.ensures.value in
+    let met = c.meet_all.new.desks in
+    let kept : map desk_kept met ≡ map desk_kept desks = c.meet_all.ensures.kept ∙ ap (map desk_kept) c.deref_mut.ensures.value in
     let turns = turned c.args.budget desks met c.turn_each-round.new.desks.items c.loop-quiet.desks.len c.turn_each-round.result (omega (arith, c.loop-quiet.desks.ok.0)) kept c.turn_each-round.ensures.turns in
     record {
       node = c.turn_each-round.ensures.node;
       rounds = rounds_more c.args.budget desks met c.turn_each-round.new.desks.items c.turn_each-round.result kept turns c.args.desks.now.items c.loop-quiet.did c.both-did.result inv.on c.both-did.ensures inv.rounds;
       on = none_stopped c.both-did.result.stopped c.is_some.result c.is_some.ensures c.if-is_some.false;
       few = omega arith;
-      lanes = inr (first_looked c.args.desks.now.items desks met c.loop-quiet.quiet inv.lanes kept c.look.ensures.met);
+      lanes = inr (first_looked c.args.desks.now.items desks met c.loop-quiet.quiet inv.lanes kept c.meet_all.ensures.met);
       once = λ h. absurd (omega (arith, h));
       twice = λ h. absurd (omega (arith, h));
     }
@@ -114,9 +114,9 @@ pub loop-quiet-preserved : goal.loop-quiet-preserved
 loop-quiet-preserved c =
     let inv = c.loop-quiet.invariant in
     let desks = c.loop-quiet.desks.items in
-    let met = c.look.new.desks in
+    let met = c.meet_all.new.desks in
     let round = c.turn_each-round.result in
-    let kept : map desk_kept met ≡ map desk_kept desks = c.look.ensures.kept ∙ ap (map desk_kept) c.deref_mut.ensures.value in
+    let kept : map desk_kept met ≡ map desk_kept desks = c.meet_all.ensures.kept ∙ ap (map desk_kept) c.deref_mut.ensures.value in
     let turns = turned c.args.budget desks met c.turn_each-round.new.desks.items c.loop-quiet.desks.len round (omega (arith, c.loop-quiet.desks.ok.0)) kept c.turn_each-round.ensures.turns in
     let node = kept_desks met desks kept inv.node in
     let on : c.both-did.result.stopped ≡ None = none_stopped c.both-did.result.stopped c.is_some.result c.is_some.ensures c.if-is_some.false in
@@ -127,7 +127,7 @@ loop-quiet-preserved c =
       rounds = rounds_more c.args.budget desks met c.turn_each-round.new.desks.items round kept turns c.args.desks.now.items c.loop-quiet.did c.both-did.result inv.on c.both-did.ensures inv.rounds;
       on = on;
       few = omega (arith, c.loop-quiet-test.true);
-      lanes = inr (first_looked c.args.desks.now.items desks met c.loop-quiet.quiet inv.lanes kept c.look.ensures.met);
-      once = λ h. quiet_round c.args.budget desks met c.turn_each-round.new.desks.items round kept turns node c.look.ensures.met none round_on;
-      twice = λ h. second_quiet c.args.budget desks met c.turn_each-round.new.desks.items round kept turns c.requires.some node c.look.ensures.met (inv.once (omega (arith, h))) none round_on;
+      lanes = inr (first_looked c.args.desks.now.items desks met c.loop-quiet.quiet inv.lanes kept c.meet_all.ensures.met);
+      once = λ h. quiet_round c.args.budget desks met c.turn_each-round.new.desks.items round kept turns node c.meet_all.ensures.met none round_on;
+      twice = λ h. second_quiet c.args.budget desks met c.turn_each-round.new.desks.items round kept turns c.requires.some node c.meet_all.ensures.met (inv.once (omega (arith, h))) none round_on;
     }
