@@ -16,8 +16,5 @@ pub mod TablesKnown
 pub mod Tabling
 pub mod Outcomes
 pub mod Unrefused
-pub mod OperatedOnce
-pub mod Making
 pub mod Counting
 pub mod TablesFirst
-pub mod Advancing
