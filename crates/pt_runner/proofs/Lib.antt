@@ -18,3 +18,5 @@ pub mod Outcomes
 pub mod Unrefused
 pub mod Counting
 pub mod TablesFirst
+pub mod Advancing
+pub mod Making
