@@ -1,6 +1,7 @@
 pub mod Acting
 pub mod Making
 pub mod Numbers
+pub mod Runnable
 pub mod Starting
 pub mod Stepping
 pub mod Truth

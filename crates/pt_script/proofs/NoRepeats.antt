@@ -1,5 +1,5 @@
 -- A script that was read has no repeat left: in format 3 its repeats are written out, and before there are none.
-use Rattle.std.proofs.Common.{◌≡◌, ℕ, zero, suc, ◌+◌, ◌<◌, ◌≤◌, List, [], ◌∷◌, ◌++◌, Bool, true, false, length, map, Option, Some, None, Result, Ok, Err, refl, ap, sym, ◌∙◌, subst, arith}
+use Rattle.std.proofs.Common.{◌≡◌, ℕ, zero, suc, ◌+◌, ◌<◌, List, [], ◌∷◌, ◌++◌, Bool, true, false, length, map, Option, Some, None, Result, Ok, Err, refl, sym, subst, arith}
 use Rattle.std.specs.Prelude.{IfOk, if◌then◌else◌, nat_le, slice_get}
 use Rattle.std.specs.List.{All}
 use Rattle.std.proofs.lemmas.List.Elements.{All-nil, All-cons, All-append, All-push}
@@ -18,78 +18,91 @@ use Rattle.pt_script.specs.Steps.{◌>>=◌}
 use Rattle.pt_script.specs.Unrolling.{Reached, Further, Ended, On, Wrong, Unrolled, HasNoRepeat, HasNoRepeats, IsNoRepeat, at_again, at_branch, at_else, at_end, at_first, at_last, further, may_branch, next_round, onward, operation_before, operation_now, past_next, unrolled, unrolled_list, unrolled_plans, unrolled_processes, with_operation}
 use Rattle.pt_script.proofs.SeesScripts.{accepted_back}
 
+-- what is written out ------------------------------------------------------------------
+
+-- Each operation that is written out has this, if each one of the list has it, with whatever its tags stand for.
+module _ (P : Operation → Type 0) (os : List Operation) (now : (place : ℕ) (o : Operation) (tags : List ℕ) → slice_get os place ≡ Some o → IsNoRepeat o → P (operation_now tags o))
+    (monitor : (to tag : ℕ) → P (operation.Monitor to tag)) (ask : (to tag : ℕ) → P (operation.Alive to tag)) where
+  -- what is reached has it
+  abbrev AllBehind : Further → Type 0
+  AllBehind Ended = Unit {0}
+  AllBehind (On next) = All P next.operations
+  AllBehind (Wrong op) = Unit {0}
+
+  pushed : (r : Reached) (o : Operation) → slice_get os r.place ≡ Some o → All P r.operations → IsNoRepeat o → All P (with_operation r o).operations
+  pushed r o at h is = All-push P r.operations (operation_now r.tags o) h (now r.place o r.tags at is)
+
+  all_last : (bs : List Block) → AllBehind (at_last bs)
+  all_last [] = tt
+  all_last (b ∷ bs) = tt
+
+  all_branch : (b : Bool) (r : Reached) (p : Pattern) → slice_get os r.place ≡ Some (operation.If p) → All P r.operations → AllBehind (at_branch b r p)
+  all_branch true r p at h = pushed r (operation.If p) at h tt
+  all_branch false r p at h = tt
+
+  all_else : (bs : List Block) (r : Reached) → slice_get os r.place ≡ Some operation.Else → All P r.operations → AllBehind (at_else bs r)
+  all_else [] r at h = tt
+  all_else (Branch begun ∷ bs) r at h = pushed r operation.Else at h tt
+  all_else (Otherwise begun ∷ bs) r at h = tt
+  all_else (Loop begun left ∷ bs) r at h = tt
+
+  all_end : (bs : List Block) (r : Reached) → slice_get os r.place ≡ Some operation.End → All P r.operations → AllBehind (at_end bs r)
+  all_end [] r at h = tt
+  all_end (Branch begun ∷ bs) r at h = pushed r operation.End at h tt
+  all_end (Otherwise begun ∷ bs) r at h = pushed r operation.End at h tt
+  all_end (Loop begun left ∷ bs) r at h = tt
+
+  all_round : (begun left : ℕ) (bs : List Block) (r : Reached) → All P r.operations → All P (next_round begun left bs r).operations
+  all_round begun zero bs r h = h
+  all_round begun (suc left) bs r h = h
+
+  all_again : (bs : List Block) (r : Reached) → All P r.operations → AllBehind (at_again bs r)
+  all_again [] r h = tt
+  all_again (Branch begun ∷ bs) r h = tt
+  all_again (Otherwise begun ∷ bs) r h = tt
+  all_again (Loop begun left ∷ bs) r h = all_round begun left bs r h
+
+  all_next : (r : Reached) (o : Option Operation) → slice_get os r.place ≡ o → All P r.operations → AllBehind (past_next os r o)
+  all_next r None at h = all_last r.blocks
+  all_next r (Some (operation.If p)) at h = all_branch (may_branch (operation_before os r.place)) r p at h
+  all_next r (Some operation.Else) at h = all_else r.blocks r at h
+  all_next r (Some operation.End) at h = all_end r.blocks r at h
+  all_next r (Some (operation.Repeat times)) at h = h
+  all_next r (Some operation.Again) at h = all_again r.blocks r h
+  all_next r (Some (operation.Monitor to tag)) at h = All-push P r.operations (operation.Monitor to r.made) h (monitor to r.made)
+  all_next r (Some (operation.Alive to tag)) at h = All-push P r.operations (operation.Alive to r.made) h (ask to r.made)
+  all_next r (Some o) at h = pushed r o at h tt
+
+  all_onward : (left process : ℕ) (r : Reached) (f : Further) → All P r.operations → AllBehind f → IfOk (onward left process os r f) (λ u. All P u.operations)
+  unfolding onward
+  all_onward zero process r Ended h g = h
+  all_onward (suc left) process r Ended h g = h
+  all_onward zero process r (Wrong op) h g = tt
+  all_onward (suc left) process r (Wrong op) h g = tt
+  all_onward zero process r (On next) h g = tt
+  all_onward (suc left) process r (On next) h g = all_onward left process next (further os next) g (all_next next (slice_get os next.place) refl g)
+
+  pub all_written : (left process : ℕ) → IfOk (unrolled_list left process os) (λ u. All P u.operations)
+  all_written left process = all_onward left process at_first (further os at_first) (All-nil P) (all_next at_first (slice_get os 0) refl (All-nil P))
+
 -- format 3 -----------------------------------------------------------------------------
 
 abbrev NoRepeats : List Operation → Type 0
 NoRepeats os = All IsNoRepeat os
 
--- what is reached has no repeat either
-abbrev NoneBehind : Further → Type 0
-NoneBehind Ended = Unit {0}
-NoneBehind (On next) = NoRepeats next.operations
-NoneBehind (Wrong op) = Unit {0}
-
-pushed : (os : List Operation) (o : Operation) → NoRepeats os → IsNoRepeat o → NoRepeats (os ++ o ∷ [])
-pushed os o h is = All-push IsNoRepeat os o h is
-
-none_last : (bs : List Block) → NoneBehind (at_last bs)
-none_last [] = tt
-none_last (b ∷ bs) = tt
-
-none_branch : (b : Bool) (r : Reached) (p : Pattern) → NoRepeats r.operations → NoneBehind (at_branch b r p)
-none_branch true r p h = pushed r.operations (operation_now r.tags (operation.If p)) h tt
-none_branch false r p h = tt
-
-none_else : (bs : List Block) (r : Reached) → NoRepeats r.operations → NoneBehind (at_else bs r)
-none_else [] r h = tt
-none_else (Branch at ∷ bs) r h = pushed r.operations operation.Else h tt
-none_else (Otherwise at ∷ bs) r h = tt
-none_else (Loop at left ∷ bs) r h = tt
-
-none_end : (bs : List Block) (r : Reached) → NoRepeats r.operations → NoneBehind (at_end bs r)
-none_end [] r h = tt
-none_end (Branch at ∷ bs) r h = pushed r.operations operation.End h tt
-none_end (Otherwise at ∷ bs) r h = pushed r.operations operation.End h tt
-none_end (Loop at left ∷ bs) r h = tt
-
-none_round : (at left : ℕ) (bs : List Block) (r : Reached) → NoRepeats r.operations → NoRepeats (next_round at left bs r).operations
-none_round at zero bs r h = h
-none_round at (suc left) bs r h = h
-
-none_again : (bs : List Block) (r : Reached) → NoRepeats r.operations → NoneBehind (at_again bs r)
-none_again [] r h = tt
-none_again (Branch at ∷ bs) r h = tt
-none_again (Otherwise at ∷ bs) r h = tt
-none_again (Loop at left ∷ bs) r h = none_round at left bs r h
-
-none_next : (os : List Operation) (r : Reached) (o : Option Operation) → NoRepeats r.operations → NoneBehind (past_next os r o)
-none_next os r None h = none_last r.blocks
-none_next os r (Some (operation.If p)) h = none_branch (may_branch (operation_before os r.place)) r p h
-none_next os r (Some operation.Else) h = none_else r.blocks r h
-none_next os r (Some operation.End) h = none_end r.blocks r h
-none_next os r (Some (operation.Repeat times)) h = h
-none_next os r (Some operation.Again) h = none_again r.blocks r h
-none_next os r (Some (operation.Monitor to tag)) h = pushed r.operations (operation.Monitor to r.made) h tt
-none_next os r (Some (operation.Alive to tag)) h = pushed r.operations (operation.Alive to r.made) h tt
-none_next os r (Some o) h = pushed r.operations (operation_now r.tags o) h tt
-
-none_further : (os : List Operation) (r : Reached) → NoRepeats r.operations → NoneBehind (further os r)
-none_further os r h = none_next os r (slice_get os r.place) h
-
 abbrev NoneOut : Result Unrolled ScriptError → Type 0
 NoneOut written = IfOk written (λ u. NoRepeats u.operations)
 
-none_onward : (left process : ℕ) (os : List Operation) (r : Reached) (f : Further) → NoRepeats r.operations → NoneBehind f → NoneOut (onward left process os r f)
-unfolding onward
-none_onward zero process os r Ended h g = h
-none_onward (suc left) process os r Ended h g = h
-none_onward zero process os r (Wrong op) h g = tt
-none_onward (suc left) process os r (Wrong op) h g = tt
-none_onward zero process os r (On next) h g = tt
-none_onward (suc left) process os r (On next) h g = none_onward left process os next (further os next) g (none_further os next g)
+none_now : (tags : List ℕ) (o : Operation) → IsNoRepeat o → IsNoRepeat (operation_now tags o)
+none_now tags (operation.Receive p) h = tt
+none_now tags (operation.Check p) h = tt
+none_now tags (operation.ReceiveAfter p tries) h = tt
+none_now tags (operation.If p) h = tt
+none_now tags (operation.Demonitor tag flush) h = tt
+none_now tags o h = h
 
 none_list : (left process : ℕ) (os : List Operation) → NoneOut (unrolled_list left process os)
-none_list left process os = none_onward left process os at_first (further os at_first) (All-nil IsNoRepeat) (none_further os at_first (All-nil IsNoRepeat))
+none_list left process os = all_written IsNoRepeat os (λ place o tags at h. none_now tags o h) (λ to tag. tt) (λ to tag. tt) left process
 
 abbrev NonePlans : Result (List Plan) ScriptError → Type 0
 NonePlans written = IfOk written (λ ps. All HasNoRepeat ps)
